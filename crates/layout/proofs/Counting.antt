@@ -1,0 +1,137 @@
+-- Laws of count and sum. Assumes nothing.
+use Prim.Native.Nat.{ℕ, zero, suc, _+_, _-_, _*_, _/_, _%_, _≤_, _<_, min}
+use mathlib.Core.Path.{_≡_, refl, sym, _∙_, ap}
+use mathlib.Core.Bool.{Bool, true, false, cond, not, _&&_, and-true, and-false}
+use native.Mathlib.Nat.{add-zero, add-suc, zero-mul, suc-mul}
+use native.Mathlib.Decide.{ℕ-discrete}
+use native.Mathlib.Omega.{arith}
+use lib.Dec.{ltb, eqb}
+use lib.Arith.{digits-div, digits-mod}
+use borrow.Author.Tests.{ltb-true, ltb-false, eqb-false, eq-eqb, ne-eqb, not-true}
+use Rattle.layout.specs.Below.{count, sum}
+use Rattle.layout.proofs.Booleans.{cond-cases, and-left, and-right, and-both, clash}
+
+pub count-ext : (p q : ℕ → Bool) (n : ℕ) → ((i : ℕ) → i < n → p i ≡ q i) → count p n ≡ count q n
+unfolding count
+count-ext p q zero h = refl
+count-ext p q (suc n) h = rw (count-ext p q n (λ i l. h i (omega arith)), h n (omega arith))
+
+pub count-none : (p : ℕ → Bool) (n : ℕ) → ((i : ℕ) → i < n → p i ≡ false) → count p n ≡ 0
+unfolding count
+count-none p zero h = refl
+count-none p (suc n) h = rw (count-none p n (λ i l. h i (omega arith)), h n (omega arith))
+
+pub count-all : (p : ℕ → Bool) (n : ℕ) → ((i : ℕ) → i < n → p i ≡ true) → count p n ≡ n
+unfolding count
+count-all p zero h = refl
+count-all p (suc n) h = rw (count-all p n (λ i l. h i (omega arith)), h n (omega arith)) (omega arith)
+
+-- a test that is one of two others, which never pass together
+pub count-split : (p q r : ℕ → Bool) (n : ℕ) → ((i : ℕ) → cond (p i) 1 0 ≡ cond (q i) 1 0 + cond (r i) 1 0) → count p n ≡ count q n + count r n
+unfolding count
+count-split p q r zero h = refl
+count-split p q r (suc n) h = omega (arith, count-split p q r n h, h n)
+
+count-join : (p : ℕ → Bool) (a n : ℕ) → count p (a + n) ≡ count p a + count (λ i. p (a + i)) n
+unfolding count
+count-join p a zero = rw (add-zero a) (omega arith)
+count-join p a (suc n) = rw (add-suc a n) (omega (arith, count-join p a n))
+
+pub sum-ext : (f g : ℕ → ℕ) (n : ℕ) → ((i : ℕ) → i < n → f i ≡ g i) → sum f n ≡ sum g n
+unfolding sum
+sum-ext f g zero h = refl
+sum-ext f g (suc n) h = rw (sum-ext f g n (λ i l. h i (omega arith)), h n (omega arith))
+
+-- numbers below m·n by their two digits
+pub count-digits : (p : ℕ → ℕ → Bool) (m n : ℕ) → count (λ j. p (j / n) (j % n)) (m * n) ≡ sum (λ d. count (p d) n) m
+unfolding sum count
+count-digits p zero n = rw (zero-mul n)
+count-digits p (suc m) n =
+    rw (
+      suc-mul m n,
+      count-join (λ j. p (j / n) (j % n)) (m * n) n,
+      count-digits p m n,
+      count-ext (λ i. p ((m * n + i) / n) ((m * n + i) % n)) (p m) n (λ i h. rw (digits-div m h, digits-mod m h)),
+    )
+
+pub count-below : (d r n : ℕ) → count (λ i. ltb (d + i) r) n ≡ min n (r - d)
+unfolding count
+count-below d r zero = omega arith
+count-below d r (suc n) =
+    cond-cases (λ v. count (λ i. ltb (d + i) r) n + v ≡ min (suc n) (r - d)) (ltb (d + n) r)
+    (λ e. omega (arith, ltb-true, count-below d r n)) (λ e. omega (arith, ltb-false, count-below d r n))
+
+-- ---- counting along a one to one map
+
+-- one less passes
+count-less : (p q : ℕ → Bool) (n x : ℕ) → x < n → p x ≡ true → q x ≡ false → ((i : ℕ) → (i ≡ x → ⊥) → p i ≡ q i) → count p n ≡ suc (count q n)
+unfolding count
+count-less p q zero x h a b f = absurd (omega arith)
+count-less p q (suc n) x h a b f =
+    elim (ℕ-discrete x n) [
+      | yes e ↦
+          let an : p n ≡ true = (rw e at a) in
+          let bn : q n ≡ false = (rw e at b) in
+          rw (an, bn, count-ext p q n (λ i k. f i (λ z. omega arith))) (omega arith)
+      | no e ↦ rw (count-less p q n x (omega arith) a b f, f n (λ z. e (sym z))) (omega arith)
+    ]
+
+-- f takes the numbers below n that pass p to those below k that pass q, and g takes them back
+pub record OneToOne (p : ℕ → Bool) (n : ℕ) (q : ℕ → Bool) (k : ℕ) (f g : ℕ → ℕ) : Type 0 where
+  pub there : (x : ℕ) → x < n → p x ≡ true → (f x < k) × (q (f x) ≡ true) × (g (f x) ≡ x)
+  pub back : (j : ℕ) → j < k → q j ≡ true → (g j < n) × (p (g j) ≡ true) × (f (g j) ≡ j)
+
+abbrev without : (ℕ → Bool) → ℕ → ℕ → Bool
+without q j i = q i && not (eqb i j)
+
+-- one number more, given the law for the numbers below it
+module _ (p : ℕ → Bool) (n : ℕ) (q : ℕ → Bool) (k : ℕ) (f g : ℕ → ℕ) (o : OneToOne p (suc n) q k f g) where
+  -- it does not pass: the same map serves
+  not-counted : p n ≡ false → OneToOne p n q k f g
+  not-counted e =
+      record {
+        there = λ x h a. o .there x (omega arith) a;
+        back = λ j h a. let t = o .back j h a in (lower (g j) (t .0) (t .1), t .1, t .2);
+      }
+    where
+      lower : (x : ℕ) → x < suc n → p x ≡ true → x < n
+      lower x h a = elim (ℕ-discrete x n) [ yes z ↦ clash (rw z at a) e | no z ↦ omega (arith, z) ]
+
+  -- it passes: its image is left out
+  counted : p n ≡ true → OneToOne p n (without q (f n)) k f g
+  counted e =
+      record {
+        there = λ x h a.
+            let t = o .there x (omega arith) a in
+            (t .0, and-both (t .1) (ap not (ne-eqb (f x) (f n) (apart x h (t .2)))), t .2);
+        back = λ j h a.
+            let t = o .back j h (and-left (q j) (not (eqb j (f n))) a) in
+            (lower j (t .0) (t .2) (not-true (eqb j (f n)) (and-right (q j) (not (eqb j (f n))) a)), t .1, t .2);
+      }
+    where
+      apart : (x : ℕ) → x < n → g (f x) ≡ x → f x ≡ f n → ⊥
+      apart x h a z = let w : x ≡ n = sym a ∙ ap g z ∙ o .there n (omega arith) e .2 in omega arith
+
+      lower : (j : ℕ) → g j < suc n → f (g j) ≡ j → eqb j (f n) ≡ false → g j < n
+      lower j h a b = elim (ℕ-discrete (g j) n) [ yes z ↦ absurd (eqb-false j (f n) b (sym a ∙ ap f z)) | no z ↦ omega (arith, z) ]
+
+  one-more : ((r : ℕ → Bool) → OneToOne p n r k f g → count p n ≡ count r k) → count p n + cond (p n) 1 0 ≡ count q k
+  one-more ih = by (p n) refl
+    where
+      by : (t : Bool) → p n ≡ t → count p n + cond t 1 0 ≡ count q k
+      by false e = omega (arith, ih q (not-counted e))
+      by true e =
+          let last = o .there n (omega arith) e in
+          let less : count q k ≡ suc (count (without q (f n)) k) =
+          count-less q (without q (f n)) k (f n) (last .0) (last .1) (rw (eq-eqb (f n) (f n) refl) (and-false (q (f n))))
+          (λ i z. rw (ne-eqb i (f n) z) (sym (and-true (q i)))) in
+          omega (arith, ih (without q (f n)) (counted e))
+
+pub count-one-to-one : (p : ℕ → Bool) (n : ℕ) (q : ℕ → Bool) (k : ℕ) (f g : ℕ → ℕ) → OneToOne p n q k f g → count p n ≡ count q k
+unfolding count
+count-one-to-one p zero q k f g o = sym (count-none q k (λ j h. by j h (q j) refl))
+  where
+    by : (j : ℕ) → j < k → (t : Bool) → q j ≡ t → q j ≡ false
+    by j h true e = absurd (omega (arith, o .back j h e .0))
+    by j h false e = e
+count-one-to-one p (suc n) q k f g o = one-more p n q k f g o (λ r. count-one-to-one p n r k f g)

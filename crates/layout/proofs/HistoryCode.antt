@@ -1,0 +1,217 @@
+-- What the loops over the growths need at each turn: the array of counts read as a history. Assumes nothing.
+use Prim.Native.Nat.{ℕ, zero, suc, _+_, _-_, _*_, _/_, _%_, _≤_, _<_}
+use mathlib.Core.Path.{_≡_, refl, sym, _∙_, ap, subst}
+use mathlib.Core.Bool.{true}
+use mathlib.Core.List.{List, [], _∷_}
+use native.Mathlib.Nat.{mul-le-mul}
+use native.Mathlib.Decide.{ℕ-discrete}
+use native.Mathlib.Numerals.{add-one}
+use native.Mathlib.Omega.{arith}
+use lib.ListN.{getD, length}
+use Rattle.layout.specs.declared.GrowthDisks.{GrowthDisks}
+use Rattle.layout.specs.declared.Spot.{Spot}
+use Rattle.layout.specs.Growth.{addedIndex, spotAfter, spotBefore, blockAfter}
+use Rattle.layout.specs.History.{history, disks, earlier, oldDisks, addedDisks, newestGrowth, rising, spotOf, blockAt}
+use Rattle.layout.specs.Limits.{Limits, Grows, mostRows, mostDisks}
+use Rattle.layout.specs.Laws.{Within}
+use Rattle.layout.proofs.Histories.{rising-up, rising-earlier, rising-some}
+use Rattle.layout.proofs.OneRow.{old-back}
+use Rattle.layout.proofs.OneGrowth.{block-after-added, block-after-old}
+use Rattle.layout.proofs.Bijection.{bijection}
+use Rattle.layout.proofs.GrowthCode.{old-blocks-most}
+
+history-length : (t : ℕ) (l : List ℕ) → length (history t l) ≡ suc t
+unfolding history
+history-length zero l = refl
+history-length (suc t) l = ap suc (history-length t l)
+
+pub history-disks : (t : ℕ) (l : List ℕ) → disks (history t l) ≡ getD l t 0
+unfolding history disks
+history-disks zero l = refl
+history-disks (suc t) l = refl
+
+-- the first count of a history, and the first two of one with a growth
+history-one : (t : ℕ) (l : List ℕ) → history t l ≡ getD l t 0 ∷ earlier (history t l)
+unfolding history earlier
+history-one zero l = refl
+history-one (suc t) l = refl
+
+history-two : (j : ℕ) (l : List ℕ) → history (suc j) l ≡ getD l (suc j) 0 ∷ getD l j 0 ∷ earlier (history j l)
+unfolding history
+history-two j l = ap (λ (h : List ℕ). getD l (suc j) 0 ∷ h) (history-one j l)
+
+pub growths-most : (s t : ℕ) (l : List ℕ) → Limits s (history t l) → t ≤ 7
+growths-most s t l a = omega (arith, a .growths-most, history-length t l)
+
+-- ---- one growth back, from suc j growths to j
+
+module _ (s j : ℕ) (l : List ℕ) (a : Limits s (history (suc j) l)) where
+  pub rise-two : rising (getD l (suc j) 0 ∷ getD l j 0 ∷ earlier (history j l)) ≡ true
+  rise-two = subst (λ (h : List ℕ). rising h ≡ true) (history-two j l) (a .rise)
+
+  pub count-up : getD l j 0 < getD l (suc j) 0
+  count-up = rising-up _ _ _ rise-two
+
+  rise-one : rising (getD l j 0 ∷ earlier (history j l)) ≡ true
+  rise-one = rising-earlier _ _ _ rise-two
+
+  count-most : getD l (suc j) 0 ≤ 16
+  count-most = omega (arith, history-disks (suc j) l, a .disks-most)
+
+  pub grows : Grows (getD l j 0) (getD l (suc j) 0 - getD l j 0)
+  grows =
+      record {
+        old = rising-some _ _ rise-one;
+        added = omega (arith, count-up);
+        most = omega (arith, count-up, count-most);
+      }
+
+  one-earlier : Limits s (history j l)
+  one-earlier =
+      record {
+        rise = subst (λ (h : List ℕ). rising h ≡ true) (sym (history-one j l)) rise-one;
+        disks-most = omega (arith, history-disks j l, count-up, count-most);
+        growths-most = omega (arith, a .growths-most, history-length j l, history-length (suc j) l);
+        rows-least = a .rows-least;
+        rows-most = a .rows-most;
+      }
+
+pub limits-at : (s t k : ℕ) (l : List ℕ) → Limits s (history t l) → k ≤ t → Limits s (history k l)
+limits-at s zero k l a h = let e : 0 ≡ k = omega arith in subst (λ (i : ℕ). Limits s (history i l)) e a
+limits-at s (suc t) k l a h =
+    elim (ℕ-discrete k (suc t)) [
+      | yes e ↦ subst (λ (i : ℕ). Limits s (history i l)) (sym e) a
+      | no e ↦ limits-at s t k l (one-earlier s t l a) (omega (arith, e))
+    ]
+
+-- ---- the loop from format to now, at its turn k
+
+module _ (s t k : ℕ) (l : List ℕ) (a : Limits s (history t l)) where
+  pub first-count : 0 < getD l 0 0
+  first-count = rising-some _ _ (subst (λ (h : List ℕ). rising h ≡ true) (history-one 0 l) (limits-at s t 0 l a (omega arith) .rise))
+
+  next-limits : k < t → Limits s (history (suc k) l)
+  next-limits h = limits-at s t (suc k) l a h
+
+  pub turn-up : k < t → getD l k 0 < getD l (k + 1) 0
+  turn-up h = rw add-one (count-up s k l (next-limits h))
+
+  pub turn-grows : k < t → Grows (getD l k 0) (getD l (k + 1) 0 - getD l k 0)
+  turn-grows h = rw add-one (grows s k l (next-limits h))
+
+  pub turn-disk : (x : ℕ) (p : Spot) → k ≤ t → p ≡ spotOf s (history k l) x → x < getD l k 0 * s → p .disk < getD l k 0
+  turn-disk x p h e g =
+      let b = bijection s (history k l) (limits-at s t k l a h .rise) in
+      let w : x < disks (history k l) * s = rw (history-disks k l) g in
+      rw e (omega (arith, history-disks k l, b .spot-within x w .disk))
+
+pub spot-first : (s : ℕ) (l : List ℕ) (x : ℕ) → _≡_ {A = Spot} (record { disk = x % getD l 0 0; row = record { 0 = x / getD l 0 0 } }) (spotOf s (history 0 l) x)
+unfolding history spotOf
+spot-first s l x = refl
+
+spot-suc : (s k : ℕ) (l : List ℕ) (x : ℕ)
+    → spotOf s (history (suc k) l) x ≡ spotAfter (getD l k 0) (getD l (suc k) 0 - getD l k 0) s x (spotOf s (history k l) x)
+unfolding history spotOf
+spot-suc s zero l x = refl
+spot-suc s (suc k) l x = refl
+
+pub spot-next : (s k : ℕ) (l : List ℕ) (x : ℕ) (p q : Spot) → p ≡ spotOf s (history k l) x
+    → q ≡ spotAfter (getD l k 0) (getD l (k + 1) 0 - getD l k 0) s x p → q ≡ spotOf s (history (k + 1) l) x
+spot-next s k l x p q e f = rw (add-one k) (rw (e, add-one k) at f ∙ sym (spot-suc s k l x))
+
+-- ---- the loop back from now to format, at its turn k = j + 1
+
+block-suc : (s j : ℕ) (l : List ℕ) (p : Spot)
+    → blockAt s (history (suc j) l) p
+    ≡ blockAfter (getD l j 0) (getD l (suc j) 0 - getD l j 0) s p (blockAt s (history j l) (spotBefore (getD l j 0) (getD l (suc j) 0 - getD l j 0) p))
+unfolding history blockAt
+block-suc s zero l p = refl
+block-suc s (suc j) l p = refl
+
+-- the growth of a turn, with spot p and its row b
+pub record BackTurn (s j k : ℕ) (l : List ℕ) (p : Spot) (b : ℕ) : Type 0 where
+  pub up : getD l j 0 < getD l k 0
+  pub grows : Grows (getD l j 0) (getD l k 0 - getD l j 0)
+  pub disk : p .disk < getD l j 0 + (getD l k 0 - getD l j 0)
+  pub old-most : getD l j 0 * s ≤ 16_000_000
+  pub added-most : b * (getD l k 0 - getD l j 0) ≤ 16_000_000
+
+module _ (s t j k : ℕ) (l : List ℕ) (a : Limits s (history t l)) (e : k ≡ suc j) (h : k ≤ t) where
+  here : Limits s (history (suc j) l)
+  here = limits-at s t (suc j) l a (omega arith)
+
+  pub back-up : getD l j 0 < getD l k 0
+  back-up = rw e (count-up s j l here)
+
+  pub back-grows : Grows (getD l j 0) (getD l k 0 - getD l j 0)
+  back-grows = rw e (grows s j l here)
+
+  -- what the code of a turn needs so that nothing wraps
+  pub back-turn : (p : Spot) (b : ℕ) → Within s (history k l) p → p .row .0 ≡ b → BackTurn s j k l p b
+  back-turn p b w f =
+      let g = back-grows in
+      let hb : b ≤ mostRows = omega (arith, w .row, a .rows-most) in
+      let hn : getD l k 0 - getD l j 0 ≤ mostDisks = omega (arith, g .most) in
+      record {
+        up = back-up;
+        grows = g;
+        disk = omega (arith, w .disk, history-disks k l, back-up);
+        old-most = old-blocks-most _ _ s g (a .rows-most);
+        added-most = mul-le-mul hb hn;
+      }
+
+  block-now : (p : Spot) → blockAt s (history k l) p
+      ≡ blockAfter (getD l j 0) (getD l k 0 - getD l j 0) s p (blockAt s (history j l) (spotBefore (getD l j 0) (getD l k 0 - getD l j 0) p))
+  block-now p = rw e (block-suc s j l p)
+
+  -- an added block of this growth
+  pub back-added : (p : Spot) (i b : ℕ) → p .row .0 ≡ b → i ≡ addedIndex (getD l j 0) (getD l k 0 - getD l j 0) (p .disk) b → i < getD l k 0 - getD l j 0
+      → getD l j 0 * s + b * (getD l k 0 - getD l j 0) + i ≡ blockAt s (history k l) p
+  back-added p i b g f u =
+      rw (f, ← g) (sym (block-now p ∙ block-after-added (getD l j 0) (getD l k 0 - getD l j 0) s p _ (rw (g, ← f) u)))
+
+  -- an older one: the way back goes on from its spot before this growth
+  pub back-older : (p q : Spot) (i b : ℕ) → p .row .0 ≡ b → i ≡ addedIndex (getD l j 0) (getD l k 0 - getD l j 0) (p .disk) b → getD l k 0 - getD l j 0 ≤ i
+      → Within s (history k l) p → q ≡ spotBefore (getD l j 0) (getD l k 0 - getD l j 0) p
+      → Within s (history j l) q × (q .row .0 ≡ b) × (blockAt s (history j l) q ≡ blockAt s (history k l) p)
+  unfolding spotBefore
+  back-older p q i b g f u w v =
+      let n : getD l k 0 - getD l j 0 ≤ addedIndex (getD l j 0) (getD l k 0 - getD l j 0) (p .disk) (p .row .0) = (rw (g, ← f) u) in
+      let d : p .disk < getD l j 0 + (getD l k 0 - getD l j 0) = omega (arith, w .disk, history-disks k l, back-up) in
+      let o = old-back (getD l j 0) (getD l k 0 - getD l j 0) (p .row .0) (back-grows .old) (back-grows .added) (p .disk) d n in
+      rw v (
+        record { disk = rw (history-disks j l) (o .0); row = w .row },
+        g,
+        sym (block-now p ∙ block-after-old (getD l j 0) (getD l k 0 - getD l j 0) s p _ n),
+      )
+
+-- at format
+pub first-most : (s t : ℕ) (l : List ℕ) (b : ℕ) → Limits s (history t l) → b < s → b * getD l 0 0 ≤ 16_000_000
+first-most s t l b a h =
+    let hb : b ≤ mostRows = omega (arith, a .rows-most) in
+    let hd : getD l 0 0 ≤ mostDisks = omega (arith, history-disks 0 l, limits-at s t 0 l a (omega arith) .disks-most) in
+    mul-le-mul hb hd
+
+pub turn-disk-most : (s t k : ℕ) (l : List ℕ) → Limits s (history t l) → (p : Spot) → k ≤ t → Within s (history k l) p → p .disk < mostDisks
+turn-disk-most s t k l a p h w = omega (arith, w .disk, limits-at s t k l a h .disks-most)
+
+pub block-first : (s k : ℕ) (l : List ℕ) (p : Spot) (b : ℕ) → k ≤ 0 → p .row .0 ≡ b → b * getD l 0 0 + p .disk ≡ blockAt s (history k l) p
+unfolding history blockAt
+block-first s zero l p b h e = rw e
+block-first s (suc k) l p b h e = omega arith
+
+-- ---- the newest growth, to k = j + 1 growths
+
+pub newest-is : (j k : ℕ) (l : List ℕ) → k ≡ suc j
+    → _≡_ {A = GrowthDisks} (record { old = getD l j 0; added = getD l k 0 - getD l j 0 }) (newestGrowth (history k l))
+unfolding newestGrowth oldDisks addedDisks earlier disks
+newest-is j k l e = rw (e, history-two j l)
+
+pub newest-up : (j k : ℕ) (l : List ℕ) → k ≡ suc j → rising (history k l) ≡ true → getD l j 0 < getD l k 0
+newest-up j k l e r = rw e (rising-up _ _ _ (subst (λ (h : List ℕ). rising h ≡ true) (history-two j l) (rw e at r)))
+
+-- there is one where there was a growth
+pub newest-old : (s t : ℕ) (l : List ℕ) → 0 < t → Limits s (history t l) → 0 < oldDisks (history t l)
+unfolding oldDisks earlier disks
+newest-old s zero l h a = absurd (omega arith)
+newest-old s (suc j) l h a = rw (history-two j l) (grows s j l a .old)

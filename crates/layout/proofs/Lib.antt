@@ -1,0 +1,17 @@
+pub mod Booleans
+pub mod Remainder
+pub mod OneRow
+pub mod Histories
+pub mod OneGrowth
+pub mod Bijection
+pub mod NewestGrowth
+pub mod LiveSpots
+pub mod Counting
+pub mod MarkSpots
+pub mod MarkBlocks
+pub mod MoveCounts
+pub mod Theorems
+pub mod HistoryCode
+pub mod BelowCode
+pub mod GrowthCode
+pub mod WindowsCode

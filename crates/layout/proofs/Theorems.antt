@@ -1,0 +1,74 @@
+-- The theorems of the layout, each under the claim of `specs/Laws.antt` or `specs/Cases.antt` that it proves. Assumes nothing.
+use Prim.Native.Nat.{ℕ, _+_, _-_, _*_, _/_, _%_, _≤_, _<_, min}
+use mathlib.Core.Path.{_≡_, refl}
+use mathlib.Core.Bool.{Bool, true}
+use mathlib.Core.List.{List, [], _∷_}
+use native.Mathlib.Omega.{arith}
+use Rattle.layout.specs.Below.{count}
+use Rattle.layout.specs.Growth.{minusMod, moves, partOf, newDisk, diskAfter, movesFrom, oldBlockSpot, addedDisk, addedSpot, spotAfter, changeOf, addedIndex, oldDisk, diskBefore, spotBefore, blockAfter}
+use Rattle.layout.specs.History.{disks, earlier, oldDisks, addedDisks, rising, spotOf, blockAt}
+use Rattle.layout.specs.Windows.{windows, windowOfRow, oldSpot, moving, windowOf, movingIn, markedBlocks, uncopied, callsLeft, callsLeftByMarks}
+use Rattle.layout.specs.Limits.{Limits}
+use Rattle.layout.specs.Laws.{RemainderOf, Bijection, Moving, LiveSpots, Marks, MarksFit, Counts}
+use Rattle.layout.specs.Cases.{TableHolds, worked}
+use Rattle.layout.proofs.Histories.{rising-up}
+use Rattle.layout.proofs.Remainder.{remainder}
+use Rattle.layout.proofs.Bijection.{bijection}
+use Rattle.layout.proofs.NewestGrowth.{moving-law}
+use Rattle.layout.proofs.LiveSpots.{live-law}
+use Rattle.layout.proofs.MarkBlocks.{marks-law}
+use Rattle.layout.proofs.MoveCounts.{counts-law, calls-left}
+use Rattle.layout.proofs.WindowsCode.{marks-most}
+
+-- the remainder of b-(n-1) is the true one, also for b < n-1
+pub remainder-true : (m n b : ℕ) → 0 < n → RemainderOf b (n - 1) (m + n) (minusMod b (n - 1) (m + n))
+remainder-true m n b h = remainder (m + n) b (n - 1) (omega arith)
+
+-- every spot is within disks and rows, and spot and block are inverse to each other
+pub spots-and-blocks : (s : ℕ) (h : List ℕ) → rising h ≡ true → Bijection s h
+spots-and-blocks = bijection
+
+-- the newest growth of a history that has one
+has-growth : (P : List ℕ → Type 0) → ((c m : ℕ) (h : List ℕ) → rising (c ∷ m ∷ h) ≡ true → P (c ∷ m ∷ h))
+    → (h : List ℕ) → rising h ≡ true → 0 < oldDisks h → P h
+unfolding oldDisks earlier disks
+has-growth P f [] r g = absurd (omega arith)
+has-growth P f (c ∷ []) r g = absurd (omega arith)
+has-growth P f (c ∷ m ∷ h) r g = f c m h r
+
+module _ (s : ℕ) (h : List ℕ) (r : rising h ≡ true) (g : 0 < oldDisks h) where
+  pub some-added : 0 < addedDisks h
+  unfolding addedDisks oldDisks earlier disks
+  some-added = has-growth (λ k. 0 < addedDisks k) (λ c m k q. omega (arith, rising-up c m k q)) h r g
+
+  pub disks-sum : oldDisks h + addedDisks h ≡ disks h
+  unfolding addedDisks oldDisks earlier disks
+  disks-sum = has-growth (λ k. oldDisks k + addedDisks k ≡ disks k) (λ c m k q. omega (arith, rising-up c m k q)) h r g
+
+  pub moving-blocks : Moving s h
+  moving-blocks = has-growth (Moving s) (moving-law s) h r g
+
+  pub live-spots : (moved : ℕ → Bool) → LiveSpots s h moved
+  live-spots moved = has-growth (λ k. LiveSpots s k moved) (λ c m k q. live-law s c m k q moved) h r g
+
+  pub marks-and-blocks : Marks s h
+  marks-and-blocks = has-growth (Marks s) (marks-law s) h r g
+
+  pub move-counts : Counts s h
+  move-counts = has-growth (Counts s) (counts-law s) h r g
+
+  pub calls-by-marks : (w : ℕ) (marks : List Bool)
+      → callsLeft s h w (markedBlocks s h w marks) ≡ callsLeftByMarks (oldDisks h) (addedDisks h) s w marks
+  unfolding addedDisks oldDisks earlier disks
+  calls-by-marks w marks =
+      has-growth (λ k. callsLeft s k w (markedBlocks s k w marks) ≡ callsLeftByMarks (oldDisks k) (addedDisks k) s w marks)
+      (λ c m k q. calls-left s c m k q w marks) h r g
+
+-- within the limits a window has at most 64 marks
+pub marks-fit : (s : ℕ) (h : List ℕ) → Limits s h → 0 < oldDisks h → MarksFit h
+marks-fit s h a g = marks-most (oldDisks h) (addedDisks h) (omega (arith, disks-sum s h (a .rise) g, a .disks-most))
+
+-- L1 to L12
+pub layout-cases : TableHolds
+unfolding worked spotOf blockAt changeOf callsLeft uncopied count moving movingIn windowOf windowOfRow windows oldSpot oldDisks addedDisks earlier disks spotAfter spotBefore blockAfter oldBlockSpot addedSpot diskAfter newDisk moves movesFrom partOf addedDisk minusMod diskBefore oldDisk addedIndex
+layout-cases = refl

@@ -1,0 +1,92 @@
+-- `spot_of` meets its contract. The loop's invariant: p is the spot after k growths. Assumes nothing.
+use Prim.Native.Nat.{ℕ, _-_, _≤_}
+use mathlib.Core.Path.{_≡_}
+use native.Mathlib.Omega.{arith}
+use borrow.Author.Needs.{needs}
+use Rattle.layout.specs.History.{history, spotOf}
+use Rattle.layout.proofs.HistoryCode.{growths-most, first-count, turn-up, turn-grows, turn-disk, spot-first, spot-next}
+use Rattle.layout.proofs.history.spot_of.Statement.{statement}
+use Rattle.layout.proofs.history.spot_of.Tie as tie
+
+abbrev Inv-loop : tie.InvT-loop
+Inv-loop t s x counts n0 p₀ k₀ p k = (k ≤ t) × (t ≤ 7) × (p ≡ spotOf s (history k counts) (x .0))
+
+abbrev μ-loop : tie.MeasureT-loop
+μ-loop t s x counts n0 p₀ k₀ p k = t - k
+
+array-read-n0 : tie.Need-array-read-n0 Inv-loop μ-loop
+array-read-n0 c = search needs
+
+rem-t13 : tie.Need-rem-t13 Inv-loop μ-loop
+rem-t13 c = first-count _ _ 0 (c .before .args .t1) (c .before .pre .0)
+
+div-t14 : tie.Need-div-t14 Inv-loop μ-loop
+div-t14 c = first-count _ _ 0 (c .before .before .args .t1) (c .before .before .pre .0)
+
+loop-holds : tie.Need-loop-holds Inv-loop μ-loop
+loop-holds c = (omega arith, growths-most _ _ (c .before .before .args .t1) (c .before .before .pre .0), spot-first _ _ _)
+
+mul-m : tie.Need-mul-m Inv-loop μ-loop
+mul-m c = search needs
+
+array-read-m : tie.Need-array-read-m Inv-loop μ-loop
+array-read-m c = search needs
+
+add-n : tie.Need-add-n Inv-loop μ-loop
+add-n c = search needs
+
+mul-n : tie.Need-mul-n Inv-loop μ-loop
+mul-n c = search needs
+
+array-read-n : tie.Need-array-read-n Inv-loop μ-loop
+array-read-n c = search needs
+
+sub-n : tie.Need-sub-n Inv-loop μ-loop
+sub-n c =
+    let start = c .before .before .before .before in
+    omega (arith, turn-up _ _ (c .before .loop .k) (start .args .t1) (start .pre .0) (c .loop-test .taken))
+
+spot-after-requires : tie.Need-spot-after-requires Inv-loop μ-loop
+spot-after-requires c κs =
+    let start = c .before .before .before .before in (
+      turn-grows _ _ _ (start .args .t1) (start .pre .0) (c .loop-test .taken),
+      (start .pre .0 .rows-most, turn-disk _ _ _ (start .args .t1) (start .pre .0) _ _ (omega arith) (c .before .loop .inv .2)),
+    )
+
+add-k : tie.Need-add-k Inv-loop μ-loop
+add-k c = search needs
+
+loop-less : tie.Need-loop-less Inv-loop μ-loop
+loop-less c = search needs
+
+loop-again : tie.Need-loop-again Inv-loop μ-loop
+loop-again c =
+    let start = c .before .before .before .before .before in
+    (omega arith, c .before .before .loop .inv .1, spot-next _ _ (start .args .t1) _ _ _ (c .before .before .loop .inv .2) (c .spot-after .ensures))
+
+returns : tie.Need-returns Inv-loop μ-loop
+returns c =
+    let e : c .before .loop .k ≡ c .before .before .before .before .args .t = omega arith in
+    rw e at (c .before .loop .inv .2)
+
+pub spot-of-spec : {M : Type 1} → statement M
+spot-of-spec =
+    tie.close
+    (tie.spec
+    Inv-loop
+    μ-loop
+    array-read-n0
+    rem-t13
+    div-t14
+    loop-holds
+    mul-m
+    array-read-m
+    add-n
+    mul-n
+    array-read-n
+    sub-n
+    spot-after-requires
+    add-k
+    loop-less
+    loop-again
+    returns)

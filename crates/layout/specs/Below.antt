@@ -1,0 +1,15 @@
+-- Numbers below a bound: how many pass a test, whether all do, and a sum over them. Assumes nothing.
+use Prim.Native.Nat.{ℕ, zero, suc, _+_}
+use mathlib.Core.Bool.{Bool, true, cond, _&&_}
+
+unfoldable pub count : (ℕ → Bool) → ℕ → ℕ
+count p zero = 0
+count p (suc n) = count p n + cond (p n) 1 0
+
+unfoldable pub every : (ℕ → Bool) → ℕ → Bool
+every p zero = true
+every p (suc n) = p n && every p n
+
+unfoldable pub sum : (ℕ → ℕ) → ℕ → ℕ
+sum f zero = 0
+sum f (suc n) = sum f n + f n

@@ -1,0 +1,54 @@
+-- Document 01, "Words and limits" and "Layout after t growths": the whole history of growths.
+-- A history is the list of disk counts N[t] .. N[0], newest first; s is the number of rows on each disk. Blocks are numbers here;
+-- rows are a type of their own. Assumes nothing.
+use Prim.Native.Nat.{ℕ, zero, suc, _+_, _-_, _*_, _/_, _%_}
+use mathlib.Core.Bool.{Bool, false, _&&_}
+use mathlib.Core.List.{List, [], _∷_}
+use lib.Dec.{leb, ltb}
+use lib.ListN.{getD}
+use Rattle.layout.specs.declared.GrowthDisks.{GrowthDisks}
+use Rattle.layout.specs.declared.Spot.{Spot}
+use Rattle.layout.specs.Growth.{spotAfter, spotBefore, blockAfter}
+
+-- N[t] to N[0] of an array of counts
+unfoldable pub history : ℕ → List ℕ → List ℕ
+history zero counts = getD counts 0 0 ∷ []
+history (suc t) counts = getD counts (suc t) 0 ∷ history t counts
+
+-- N[t], the disks now
+unfoldable pub disks : List ℕ → ℕ
+disks [] = 0
+disks (c ∷ h) = c
+
+-- the history before the newest growth
+unfoldable pub earlier : List ℕ → List ℕ
+earlier [] = []
+earlier (c ∷ h) = h
+
+-- "In a growth m = N[t-1], n = N[t] - m", of the newest growth.
+unfoldable pub oldDisks : List ℕ → ℕ
+oldDisks h = disks (earlier h)
+
+unfoldable pub addedDisks : List ℕ → ℕ
+addedDisks h = disks h - oldDisks h
+
+unfoldable pub newestGrowth : List ℕ → GrowthDisks
+newestGrowth h = record { old = oldDisks h; added = addedDisks h }
+
+-- "disk counts, strictly rising", at least 1
+unfoldable pub rising : List ℕ → Bool
+rising [] = false
+rising (c ∷ []) = leb 1 c
+rising (c ∷ m ∷ h) = ltb m c && rising (m ∷ h)
+
+-- The spot of block x. "t = 0: block x is at d = x mod N[0], b = x / N[0], rounded down."
+unfoldable pub spotOf : ℕ → List ℕ → ℕ → Spot
+spotOf s [] x = record { disk = 0; row = record { 0 = 0 } }
+spotOf s (c ∷ []) x = record { disk = x % c; row = record { 0 = x / c } }
+spotOf s (c ∷ m ∷ h) x = spotAfter m (c - m) s x (spotOf s (m ∷ h) x)
+
+-- The block of a spot: the way back through the growths.
+unfoldable pub blockAt : ℕ → List ℕ → Spot → ℕ
+blockAt s [] p = 0
+blockAt s (c ∷ []) p = p .row .0 * c + p .disk
+blockAt s (c ∷ m ∷ h) p = blockAfter m (c - m) s p (blockAt s (m ∷ h) (spotBefore m (c - m) p))

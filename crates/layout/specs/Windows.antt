@@ -1,0 +1,90 @@
+-- Document 01: the windows of a growth, the marks of their moving blocks, and the advance calls left. Assumes nothing.
+use Prim.Native.Nat.{ℕ, zero, suc, _+_, _-_, _*_, _/_, _%_, min}
+use mathlib.Core.Bool.{Bool, true, false, cond, not, _&&_}
+use mathlib.Core.List.{List}
+use lib.Dec.{ltb, eqb}
+use lib.ListN.{getD}
+use Rattle.layout.specs.declared.Row.{Row}
+use Rattle.layout.specs.declared.Spot.{Spot}
+use Rattle.layout.specs.Below.{count, sum}
+use Rattle.layout.specs.Growth.{rowInWindow, movesFrom}
+use Rattle.layout.specs.History.{earlier, oldDisks, addedDisks, spotOf, blockAt}
+
+-- ---- a growth from m disks by n
+
+-- "R is the number of windows, s/(m+n) rounded up."
+unfoldable pub windows : ℕ → ℕ → ℕ → ℕ
+windows m n s = (s + (m + n - 1)) / (m + n)
+
+-- "window k has rows k·(m+n) up to, not including, (k+1)·(m+n)": the window of a row
+unfoldable pub windowOfRow : ℕ → ℕ → Row → ℕ
+windowOfRow m n b = b .0 / (m + n)
+
+-- "A moving block of window w has mark d0·n + (b1-d0)", p being its old spot.
+unfoldable pub markOfSpot : ℕ → ℕ → Spot → ℕ
+markOfSpot m n p = p .disk * n + (rowInWindow m n (p .row) - p .disk)
+
+-- the old spot of mark j of window w
+unfoldable pub spotOfMark : ℕ → ℕ → ℕ → ℕ → Spot
+spotOfMark m n w j = record { disk = j / n; row = record { 0 = w * (m + n) + (j / n + j % n) } }
+
+-- "moving blocks of window w whose rows exist": does the row of mark j of window w exist
+unfoldable pub rowExists : ℕ → ℕ → ℕ → ℕ → ℕ → Bool
+rowExists m n s w j = ltb (spotOfMark m n w j .row .0) s
+
+-- ---- the newest growth of a history: blocks
+
+-- the spot before the newest growth, "its spot after t-1 growths"
+unfoldable pub oldSpot : ℕ → List ℕ → ℕ → Spot
+oldSpot s h x = spotOf s (earlier h) x
+
+-- does block x move in the newest growth
+unfoldable pub moving : ℕ → List ℕ → ℕ → Bool
+moving s h x = ltb x (oldDisks h * s) && movesFrom (oldDisks h) (addedDisks h) (oldSpot s h x)
+
+unfoldable pub windowOf : ℕ → List ℕ → ℕ → ℕ
+windowOf s h x = windowOfRow (oldDisks h) (addedDisks h) (oldSpot s h x .row)
+
+-- a moving block of window w
+unfoldable pub movingIn : ℕ → List ℕ → ℕ → ℕ → Bool
+movingIn s h w x = moving s h x && eqb (windowOf s h x) w
+
+-- the mark of a block, and the block of mark j of window w
+unfoldable pub markOf : ℕ → List ℕ → ℕ → ℕ
+markOf s h x = markOfSpot (oldDisks h) (addedDisks h) (oldSpot s h x)
+
+unfoldable pub blockOfMark : ℕ → List ℕ → ℕ → ℕ → ℕ
+blockOfMark s h w j = blockAt s (earlier h) (spotOfMark (oldDisks h) (addedDisks h) w j)
+
+-- a set of marks of window w, read as a set of blocks
+unfoldable pub markedBlocks : ℕ → List ℕ → ℕ → List Bool → ℕ → Bool
+markedBlocks s h w marks x = movingIn s h w x && getD marks (markOf s h x) false
+
+-- the moving blocks of window w
+unfoldable pub movesOfWindow : ℕ → List ℕ → ℕ → ℕ
+movesOfWindow s h w = count (movingIn s h w) (oldDisks h * s)
+
+-- "U counts moving blocks of window w without a copied mark and all moving blocks of later windows."
+unfoldable pub uncopied : ℕ → List ℕ → ℕ → (ℕ → Bool) → ℕ
+uncopied s h w copied =
+    count (λ x. movingIn s h w x && not (copied x)) (oldDisks h * s)
+    + count (λ x. moving s h x && ltb w (windowOf s h x)) (oldDisks h * s)
+
+-- "the advance calls left, U + R - w"
+unfoldable pub callsLeft : ℕ → List ℕ → ℕ → (ℕ → Bool) → ℕ
+callsLeft s h w copied = uncopied s h w copied + windows (oldDisks h) (addedDisks h) s - w
+
+-- ---- closed forms
+
+-- a window cut off to r rows: over the old disks d below r, the lesser of n and r-d
+unfoldable pub cutMoves : ℕ → ℕ → ℕ → ℕ
+cutMoves m n r = sum (λ d. min n (r - d)) (min m r)
+
+-- the moves of all windows after w: m·n for each whole one, and those of a last one that is cut off
+unfoldable pub laterMoves : ℕ → ℕ → ℕ → ℕ → ℕ
+laterMoves m n s w = cond (ltb w (s / (m + n))) ((s / (m + n) - suc w) * (m * n) + cutMoves m n (s % (m + n))) 0
+
+-- U + R - w of a set of marks of window w
+unfoldable pub callsLeftByMarks : ℕ → ℕ → ℕ → ℕ → List Bool → ℕ
+callsLeftByMarks m n s w marks =
+    count (λ j. rowExists m n s w j && not (getD marks j false)) (m * n) + laterMoves m n s w + windows m n s - w

@@ -1,0 +1,69 @@
+// The whole history: counts[0] to counts[t].
+ghost use mathlib.Core.Path.{_≡_};
+ghost use mathlib.Core.Bool.{true};
+ghost use Prim.Native.Nat.{_*_, _<_, _≤_};
+ghost use Rattle.layout.specs.Limits.{Limits, mostGrowths};
+ghost use Rattle.layout.specs.Laws.{Within};
+ghost use Rattle.layout.specs.History.{history, disks, rising, newestGrowth, spotOf, blockAt};
+use super::Block;
+use super::GrowthDisks;
+use super::Row;
+use super::Spot;
+use super::growth::added_index;
+use super::growth::spot_after;
+use super::growth::spot_before;
+
+// The spot of block x after t growths.
+pub fn spot_of(counts: [usize; 8], t: usize, s: usize, x: Block) -> Spot
+    requires { ⌜ Limits s (history t counts) ⌝ }
+    requires { ⌜ x .0 < disks (history t counts) * s ⌝ }
+    ensures { λ r. ⌜ r ≡ spotOf s (history t counts) (x .0) ⌝ }
+{
+    let n0 = counts[0];
+    let mut p = Spot {
+        disk: x.0 % n0,
+        row: Row(x.0 / n0),
+    };
+    let mut k = 0;
+    while k < t {
+        let m = counts[k];
+        let n = counts[k + 1] - m;
+        p = spot_after(m, n, s, x.0, p);
+        k += 1;
+    }
+    p
+}
+
+// The block that has spot p after t growths.
+pub fn block_at(counts: [usize; 8], t: usize, s: usize, p: Spot) -> Block
+    requires { ⌜ Limits s (history t counts) ⌝ }
+    requires { ⌜ Within s (history t counts) p ⌝ }
+    ensures { λ r. ⌜ r .0 ≡ blockAt s (history t counts) p ⌝ }
+{
+    let row = p.row;
+    let b = row.0;
+    let mut q = p;
+    let mut k = t;
+    while 0 < k {
+        let m = counts[k - 1];
+        let n = counts[k] - m;
+        let i = added_index(m, n, q.disk, b);
+        if i < n {
+            return Block(m * s + b * n + i);
+        }
+        q = spot_before(m, n, q);
+        k -= 1;
+    }
+    let n0 = counts[0];
+    Block(b * n0 + q.disk)
+}
+
+// m and n of the newest growth.
+pub fn newest_growth(counts: [usize; 8], t: usize) -> GrowthDisks
+    requires { ⌜ (0 < t) × (t ≤ mostGrowths) × (rising (history t counts) ≡ true) ⌝ }
+    ensures { λ r. ⌜ r ≡ newestGrowth (history t counts) ⌝ }
+{
+    let old = counts[t - 1];
+    let added = counts[t] - old;
+    GrowthDisks { old, added }
+}

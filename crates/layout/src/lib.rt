@@ -1,0 +1,60 @@
+// Where every block of the growing striped volume lives: document 01, "Layout after t growths", and
+// the windows and marks of a growth. Knows numbers only.
+//
+// The functions here serve the crates above and are not offered to others: their `requires` are the
+// limits of a sound volume.
+mod growth;
+mod history;
+mod windows;
+
+pub use growth::added_disk;
+pub use growth::added_index;
+pub use growth::change_of;
+pub use growth::disk_after;
+pub use growth::moves_from;
+pub use growth::new_disk;
+pub use growth::old_disk;
+pub use growth::part_of;
+pub use growth::spot_after;
+pub use growth::spot_before;
+pub use history::block_at;
+pub use history::newest_growth;
+pub use history::spot_of;
+pub use windows::calls_left;
+pub use windows::mark_of_spot;
+pub use windows::moves_of_window;
+pub use windows::row_exists;
+pub use windows::spot_of_mark;
+pub use windows::window_count;
+
+// Document 01's block: an address in the volume.
+pub struct Block(pub usize);
+
+// Document 01's row: a position on one disk.
+pub struct Row(pub usize);
+
+// Document 01's spot (d, b).
+pub struct Spot {
+    pub disk: usize,
+    pub row: Row,
+}
+
+// Document 01's m and n of a growth: the old disks, and the disks added.
+pub struct GrowthDisks {
+    pub old: usize,
+    pub added: usize,
+}
+
+// By which rule a moving block got its new disk.
+pub enum Part {
+    Head,
+    Body,
+    Tail,
+}
+
+// What one growth does with a block.
+pub enum Change {
+    Moved(Part),
+    Added,
+    Stays,
+}
