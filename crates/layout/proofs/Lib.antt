@@ -15,3 +15,4 @@ pub mod HistoryCode
 pub mod BelowCode
 pub mod GrowthCode
 pub mod WindowsCode
+pub mod NewestCode
