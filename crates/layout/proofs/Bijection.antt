@@ -8,14 +8,14 @@ use native.Mathlib.Omega.{arith}
 use lib.Arith.{digits-lt, digits-div, digits-mod}
 use Rattle.layout.specs.declared.Spot.{Spot}
 use Rattle.layout.specs.Growth.{spotBefore}
-use Rattle.layout.specs.History.{disks, rising, spotOf, blockAt}
-use Rattle.layout.specs.Laws.{Within, Bijection}
+use Rattle.layout.specs.History.{Within, diskCount, rising, spotOf, blockAt}
+use Rattle.layout.specs.Laws.{Bijection}
 use Rattle.layout.proofs.Histories.{not-rising, rising-up, rising-earlier, rising-some}
 use Rattle.layout.proofs.OneGrowth.{spot-leads, block-leads}
 
 -- at format
 first : (s c : ℕ) → 0 < c → Bijection s (c ∷ [])
-unfolding disks spotOf blockAt
+unfolding diskCount spotOf blockAt
 first s c hc =
     record {
       spot-within = λ x h. record { disk = mod-lt x hc; row = div-lt-iff-lt-mul hc .1 (omega arith) };
@@ -31,7 +31,7 @@ module _ (s c m : ℕ) (h : List ℕ) (hm : 0 < m) (up : m < c) (B : Bijection s
 
   there : (x : ℕ) → x < c * s
       → let r = spotOf s (c ∷ m ∷ h) x in (r .disk < c) × (r .row .0 < s) × (blockAt s (c ∷ m ∷ h) r ≡ x)
-  unfolding spotOf blockAt disks
+  unfolding spotOf blockAt diskCount
   there x l =
       let g =
       spot-leads m (c - m) s hm (omega arith) x (spotOf s (m ∷ h) x) (blockAt s (m ∷ h)) (rw whole l)
@@ -41,7 +41,7 @@ module _ (s c m : ℕ) (h : List ℕ) (hm : 0 < m) (up : m < c) (B : Bijection s
 
   back : (p : Spot) → p .disk < c → p .row .0 < s
       → let x = blockAt s (c ∷ m ∷ h) p in (x < c * s) × (spotOf s (c ∷ m ∷ h) x ≡ p)
-  unfolding spotOf blockAt disks spotBefore
+  unfolding spotOf blockAt diskCount spotBefore
   back p hd hb =
       let g =
       block-leads m (c - m) s hm (omega arith) p (blockAt s (m ∷ h) (spotBefore m (c - m) p)) (spotOf s (m ∷ h)) (omega arith) hb
@@ -52,7 +52,7 @@ module _ (s c m : ℕ) (h : List ℕ) (hm : 0 < m) (up : m < c) (B : Bijection s
       (subst (λ (k : ℕ). blockAt s (c ∷ m ∷ h) p < k * s) whole (g .0), g .1)
 
   next : Bijection s (c ∷ m ∷ h)
-  unfolding disks
+  unfolding diskCount
   next =
       record {
         spot-within = λ x l. let t = there x l in record { disk = t .0; row = t .1 };
@@ -69,5 +69,5 @@ bijection s (c ∷ m ∷ h) e =
     next s c m h (rising-some m h r) (rising-up c m h e) (bijection s (m ∷ h) r)
 
 -- two blocks with one spot are one
-pub spot-injective : (s : ℕ) (h : List ℕ) → Bijection s h → (x y : ℕ) → x < disks h * s → y < disks h * s → spotOf s h x ≡ spotOf s h y → x ≡ y
+pub spot-injective : (s : ℕ) (h : List ℕ) → Bijection s h → (x y : ℕ) → x < diskCount h * s → y < diskCount h * s → spotOf s h x ≡ spotOf s h y → x ≡ y
 spot-injective s h B x y hx hy e = sym (B .block-of-spot x hx) ∙ ap (blockAt s h) e ∙ B .block-of-spot y hy

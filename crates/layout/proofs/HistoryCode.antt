@@ -11,9 +11,8 @@ use lib.ListN.{getD, length}
 use Rattle.layout.specs.declared.GrowthDisks.{GrowthDisks}
 use Rattle.layout.specs.declared.Spot.{Spot}
 use Rattle.layout.specs.Growth.{addedIndex, spotAfter, spotBefore, blockAfter}
-use Rattle.layout.specs.History.{history, disks, earlier, oldDisks, addedDisks, newestGrowth, rising, spotOf, blockAt}
+use Rattle.layout.specs.History.{Within, history, diskCount, earlier, oldCount, addedCount, newestGrowth, rising, spotOf, blockAt}
 use Rattle.layout.specs.Limits.{Limits, Grows, mostRows, mostDisks}
-use Rattle.layout.specs.Laws.{Within}
 use Rattle.layout.proofs.Histories.{rising-up, rising-earlier, rising-some}
 use Rattle.layout.proofs.OneRow.{old-back}
 use Rattle.layout.proofs.OneGrowth.{block-after-added, block-after-old}
@@ -25,8 +24,8 @@ unfolding history
 history-length zero l = refl
 history-length (suc t) l = ap suc (history-length t l)
 
-pub history-disks : (t : ℕ) (l : List ℕ) → disks (history t l) ≡ getD l t 0
-unfolding history disks
+pub history-disks : (t : ℕ) (l : List ℕ) → diskCount (history t l) ≡ getD l t 0
+unfolding history diskCount
 history-disks zero l = refl
 history-disks (suc t) l = refl
 
@@ -102,7 +101,7 @@ module _ (s t k : ℕ) (l : List ℕ) (a : Limits s (history t l)) where
   pub turn-disk : (x : ℕ) (p : Spot) → k ≤ t → p ≡ spotOf s (history k l) x → x < getD l k 0 * s → p .disk < getD l k 0
   turn-disk x p h e g =
       let b = bijection s (history k l) (limits-at s t k l a h .rise) in
-      let w : x < disks (history k l) * s = rw (history-disks k l) g in
+      let w : x < diskCount (history k l) * s = rw (history-disks k l) g in
       rw e (omega (arith, history-disks k l, b .spot-within x w .disk))
 
 pub spot-first : (s : ℕ) (l : List ℕ) (x : ℕ) → _≡_ {A = Spot} (record { disk = x % getD l 0 0; row = record { 0 = x / getD l 0 0 } }) (spotOf s (history 0 l) x)
@@ -204,14 +203,14 @@ block-first s (suc k) l p b h e = omega arith
 
 pub newest-is : (j k : ℕ) (l : List ℕ) → k ≡ suc j
     → _≡_ {A = GrowthDisks} (record { old = getD l j 0; added = getD l k 0 - getD l j 0 }) (newestGrowth (history k l))
-unfolding newestGrowth oldDisks addedDisks earlier disks
+unfolding newestGrowth oldCount addedCount earlier diskCount
 newest-is j k l e = rw (e, history-two j l)
 
 pub newest-up : (j k : ℕ) (l : List ℕ) → k ≡ suc j → rising (history k l) ≡ true → getD l j 0 < getD l k 0
 newest-up j k l e r = rw e (rising-up _ _ _ (subst (λ (h : List ℕ). rising h ≡ true) (history-two j l) (rw e at r)))
 
 -- there is one where there was a growth
-pub newest-old : (s t : ℕ) (l : List ℕ) → 0 < t → Limits s (history t l) → 0 < oldDisks (history t l)
-unfolding oldDisks earlier disks
+pub newest-old : (s t : ℕ) (l : List ℕ) → 0 < t → Limits s (history t l) → 0 < oldCount (history t l)
+unfolding oldCount earlier diskCount
 newest-old s zero l h a = absurd (omega arith)
 newest-old s (suc j) l h a = rw (history-two j l) (grows s j l a .old)

@@ -8,10 +8,10 @@ use native.Mathlib.Omega.{arith}
 use lib.Dec.{ltb}
 use borrow.Author.Tests.{ltb-true, ltb-false, lt-ltb, le-ltb}
 use Rattle.layout.specs.declared.Spot.{Spot}
-use Rattle.layout.specs.History.{disks, earlier, oldDisks, rising, spotOf, blockAt}
+use Rattle.layout.specs.History.{Within, diskCount, earlier, oldCount, rising, spotOf, blockAt}
 use Rattle.layout.specs.Windows.{oldSpot, moving}
 use Rattle.layout.specs.Live.{atNewSpot, liveSpot, liveBlock}
-use Rattle.layout.specs.Laws.{Within, Bijection, Moving, LiveSpots}
+use Rattle.layout.specs.Laws.{Bijection, Moving, LiveSpots}
 use Rattle.layout.proofs.Booleans.{and-left, and-right, cond-cases, clash}
 use Rattle.layout.proofs.Bijection.{spot-injective}
 use Rattle.layout.proofs.NewestGrowth.{up, old-bijection, new-bijection, old-within, still-there, moving-old, moving-law}
@@ -24,19 +24,19 @@ module _ (s c m : ℕ) (h : List ℕ) (r : rising (c ∷ m ∷ h) ≡ true) wher
   old x = spotOf s (m ∷ h) x
 
   to-added : (x : ℕ) → moving s (c ∷ m ∷ h) x ≡ true → m ≤ new x .disk
-  unfolding oldDisks earlier disks
+  unfolding oldCount earlier diskCount
   to-added x e = moving-law s c m h r .to-added-disk x e .0
 
   on-old : (x : ℕ) → x < m * s → old x .disk < m
-  unfolding disks
+  unfolding diskCount
   on-old x k = old-within s c m h r x k .disk
 
   old-injective : (x y : ℕ) → x < m * s → y < m * s → old x ≡ old y → x ≡ y
-  unfolding disks
+  unfolding diskCount
   old-injective = spot-injective s (m ∷ h) (old-bijection s c m h r)
 
   new-injective : (x y : ℕ) → x < c * s → y < c * s → new x ≡ new y → x ≡ y
-  unfolding disks
+  unfolding diskCount
   new-injective = spot-injective s (c ∷ m ∷ h) (new-bijection s c m h r)
 
   -- a new spot of a moving block is no block's old spot
@@ -70,7 +70,7 @@ module _ (s c m : ℕ) (h : List ℕ) (r : rising (c ∷ m ∷ h) ≡ true) wher
     live-old x e = rw e
 
     within : (x : ℕ) → x < m * s → Within s (c ∷ m ∷ h) (live x)
-    unfolding disks
+    unfolding diskCount
     within x k = by (there x) refl
       where
         by : (t : Bool) → there x ≡ t → Within s (c ∷ m ∷ h) (live x)
@@ -100,16 +100,16 @@ module _ (s c m : ℕ) (h : List ℕ) (r : rising (c ∷ m ∷ h) ≡ true) wher
     -- the way back, on an old and on an added disk
     block-on-old : (p : Spot) → p .disk < m
         → liveBlock s (c ∷ m ∷ h) moved p ≡ cond (there (blockAt s (m ∷ h) p)) none (some (blockAt s (m ∷ h) p))
-    unfolding liveBlock oldDisks earlier disks
+    unfolding liveBlock oldCount earlier diskCount
     block-on-old p k = rw (lt-ltb (p .disk) m k)
 
     block-on-added : (p : Spot) → m ≤ p .disk
         → liveBlock s (c ∷ m ∷ h) moved p ≡ cond (there (blockAt s (c ∷ m ∷ h) p)) (some (blockAt s (c ∷ m ∷ h) p)) none
-    unfolding liveBlock oldDisks earlier disks
+    unfolding liveBlock oldCount earlier diskCount
     block-on-added p k = rw (le-ltb (p .disk) m k)
 
     block-of-live : (x : ℕ) → x < m * s → liveBlock s (c ∷ m ∷ h) moved (live x) ≡ some x
-    unfolding disks
+    unfolding diskCount
     block-of-live x k = by (there x) refl
       where
         by : (t : Bool) → there x ≡ t → liveBlock s (c ∷ m ∷ h) moved (live x) ≡ some x
@@ -125,7 +125,7 @@ module _ (s c m : ℕ) (h : List ℕ) (r : rising (c ∷ m ∷ h) ≡ true) wher
       Lives y = (y < m * s) × (live y ≡ p)
 
       from-old : p .disk < m → cond (there (blockAt s (m ∷ h) p)) none (some (blockAt s (m ∷ h) p)) ≡ some x → Lives x
-      unfolding disks Lives
+      unfolding diskCount Lives
       from-old k = by (there y) refl
         where
           o : Within s (m ∷ h) p
@@ -141,7 +141,7 @@ module _ (s c m : ℕ) (h : List ℕ) (r : rising (c ∷ m ∷ h) ≡ true) wher
               subst Lives i (old-bijection s c m h r .block-within p o, live-old y e ∙ old-bijection s c m h r .spot-of-block p o)
 
       from-added : m ≤ p .disk → cond (there (blockAt s (c ∷ m ∷ h) p)) (some (blockAt s (c ∷ m ∷ h) p)) none ≡ some x → Lives x
-      unfolding disks Lives
+      unfolding diskCount Lives
       from-added k = by (there y) refl
         where
           y : ℕ
@@ -162,7 +162,7 @@ module _ (s c m : ℕ) (h : List ℕ) (r : rising (c ∷ m ∷ h) ≡ true) wher
           by false e = let k = ltb-false (p .disk) m e in from-added k (sym (block-on-added p k) ∙ f)
 
     pub live-law : LiveSpots s (c ∷ m ∷ h) moved
-    unfolding oldDisks earlier disks
+    unfolding oldCount earlier diskCount
     live-law =
         record {
           within = within;

@@ -8,9 +8,9 @@ use lib.Dec.{ltb}
 use borrow.Author.Tests.{ltb-true, lt-ltb}
 use Rattle.layout.specs.declared.Spot.{Spot}
 use Rattle.layout.specs.Growth.{movesFrom}
-use Rattle.layout.specs.History.{disks, earlier, oldDisks, addedDisks, rising, spotOf, blockAt}
+use Rattle.layout.specs.History.{Within, diskCount, earlier, oldCount, addedCount, rising, spotOf, blockAt}
 use Rattle.layout.specs.Windows.{windows, windowOfRow, markOfSpot, spotOfMark, rowExists, oldSpot, moving, windowOf, markOf, blockOfMark}
-use Rattle.layout.specs.Laws.{Within, Bijection, Marks}
+use Rattle.layout.specs.Laws.{Bijection, Marks}
 use Rattle.layout.proofs.NewestGrowth.{up, old-some, old-bijection, old-within, moving-old, moving-moves, moves-moving}
 use Rattle.layout.proofs.MarkSpots.{mark-below, spot-of-mark, mark-spot-disk, mark-spot-window, mark-spot-moves, mark-of-spot, row-window, window-row, first-mark}
 
@@ -28,20 +28,20 @@ module _ (s c m : ℕ) (h : List ℕ) (r : rising (c ∷ m ∷ h) ≡ true) wher
   added-pos = omega (arith, up s c m h r)
 
   on-old : (x : ℕ) → moving s (c ∷ m ∷ h) x ≡ true → old x .disk < m
-  unfolding disks
+  unfolding diskCount
   on-old x e = old-within s c m h r x (moving-old s c m h r x e) .disk
 
   -- the definitions, read for this history
   window-is : (x : ℕ) → windowOf s (c ∷ m ∷ h) x ≡ windowOfRow m n (old x .row)
-  unfolding windowOf oldDisks addedDisks oldSpot earlier disks
+  unfolding windowOf oldCount addedCount oldSpot earlier diskCount
   window-is x = refl
 
   mark-is : (x : ℕ) → markOf s (c ∷ m ∷ h) x ≡ markOfSpot m n (old x)
-  unfolding markOf oldDisks addedDisks oldSpot earlier disks
+  unfolding markOf oldCount addedCount oldSpot earlier diskCount
   mark-is x = refl
 
   block-is : (w j : ℕ) → blockOfMark s (c ∷ m ∷ h) w j ≡ blockAt s (m ∷ h) (spotOfMark m n w j)
-  unfolding blockOfMark oldDisks addedDisks earlier disks
+  unfolding blockOfMark oldCount addedCount earlier diskCount
   block-is w j = refl
 
   -- from a moving block to its mark
@@ -58,7 +58,7 @@ module _ (s c m : ℕ) (h : List ℕ) (r : rising (c ∷ m ∷ h) ≡ true) wher
     row-there = rw spot-is (lt-ltb _ s (old-within s c m h r x (moving-old s c m h r x e) .row))
 
     leads-back : blockOfMark s (c ∷ m ∷ h) (windowOf s (c ∷ m ∷ h) x) (markOf s (c ∷ m ∷ h) x) ≡ x
-    unfolding disks
+    unfolding diskCount
     leads-back =
         block-is _ _ ∙ ap (blockAt s (m ∷ h)) spot-is ∙ old-bijection s c m h r .block-of-spot x (moving-old s c m h r x e)
 
@@ -70,14 +70,14 @@ module _ (s c m : ℕ) (h : List ℕ) (r : rising (c ∷ m ∷ h) ≡ true) wher
   -- from a mark to its block
   module _ (w j : ℕ) (hj : j < m * n) (e : rowExists m n s w j ≡ true) where
     within : Within s (m ∷ h) (spotOfMark m n w j)
-    unfolding disks rowExists
+    unfolding diskCount rowExists
     within = record { disk = mark-spot-disk m n old-pos added-pos w j hj; row = ltb-true _ s e }
 
     block : ℕ
     block = blockAt s (m ∷ h) (spotOfMark m n w j)
 
     block-old : block < m * s
-    unfolding disks block
+    unfolding diskCount block
     block-old = old-bijection s c m h r .block-within _ within
 
     old-is : old block ≡ spotOfMark m n w j
@@ -107,7 +107,7 @@ module _ (s c m : ℕ) (h : List ℕ) (r : rising (c ∷ m ∷ h) ≡ true) wher
       (blockOfMark s (c ∷ m ∷ h) w 0, t .0, t .1)
 
   pub marks-law : Marks s (c ∷ m ∷ h)
-  unfolding oldDisks addedDisks earlier disks
+  unfolding oldCount addedCount earlier diskCount
   marks-law =
       record {
         mark-within = below;

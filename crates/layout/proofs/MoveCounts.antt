@@ -10,7 +10,7 @@ use lib.Dec.{ltb, eqb}
 use lib.ListN.{getD}
 use borrow.Author.Tests.{ltb-true, ltb-false, lt-ltb, le-ltb, eqb-true, eq-eqb, ne-eqb}
 use Rattle.layout.specs.Below.{count, sum}
-use Rattle.layout.specs.History.{disks, earlier, oldDisks, addedDisks, rising}
+use Rattle.layout.specs.History.{diskCount, earlier, oldCount, addedCount, rising}
 use Rattle.layout.specs.Windows.{windows, spotOfMark, rowExists, oldSpot, moving, windowOfRow, windowOf, movingIn, markOf, blockOfMark, markedBlocks, movesOfWindow, uncopied, callsLeft, cutMoves, laterMoves, callsLeftByMarks}
 use Rattle.layout.specs.Laws.{Marks, Counts}
 use Rattle.layout.proofs.Booleans.{and-left, and-right, and-both, same-order}
@@ -80,7 +80,7 @@ module _ (s c m : ℕ) (h : List ℕ) (r : rising (c ∷ m ∷ h) ≡ true) wher
   -- moving blocks of window w that pass q, and their marks
   one-to-one : (w : ℕ) (q : ℕ → Bool) → OneToOne (λ x. movingIn s H w x && q x) (m * s)
       (λ j. rowExists m n s w j && q (blockOfMark s H w j)) (m * n) (markOf s H) (blockOfMark s H w)
-  unfolding oldDisks addedDisks earlier disks
+  unfolding oldCount addedCount earlier diskCount
   one-to-one w q =
       record {
         there = λ x l e.
@@ -103,7 +103,7 @@ module _ (s c m : ℕ) (h : List ℕ) (r : rising (c ∷ m ∷ h) ≡ true) wher
   by-marks w q = count-one-to-one _ (m * s) _ (m * n) (markOf s H) (blockOfMark s H w) (one-to-one w q)
 
   moves-by-marks : (w : ℕ) → movesOfWindow s H w ≡ count (rowExists m n s w) (m * n)
-  unfolding movesOfWindow oldDisks earlier disks
+  unfolding movesOfWindow oldCount earlier diskCount
   moves-by-marks w =
       count-ext _ _ (m * s) (λ x l. sym (and-true (movingIn s H w x)))
       ∙ by-marks w (λ x. true)
@@ -127,12 +127,12 @@ module _ (s c m : ℕ) (h : List ℕ) (r : rising (c ∷ m ∷ h) ≡ true) wher
   later w x = moving s H x && ltb w (windowOf s H x)
 
   later-next : (w : ℕ) → count (later w) (m * s) ≡ movesOfWindow s H (suc w) + count (later (suc w)) (m * s)
-  unfolding movesOfWindow movingIn oldDisks earlier disks
+  unfolding movesOfWindow movingIn oldCount earlier diskCount
   later-next w =
       count-split (later w) (movingIn s H (suc w)) (later (suc w)) (m * s) (λ x. next-or-later (moving s H x) w (windowOf s H x))
 
   last-window : (x : ℕ) → moving s H x ≡ true → windowOf s H x ≤ s / k
-  unfolding windowOf windowOfRow oldDisks addedDisks oldSpot earlier disks
+  unfolding windowOf windowOfRow oldCount addedCount oldSpot earlier diskCount
   last-window x e =
       let b = old-within s c m h r x (moving-old s c m h r x e) .row in
       let l : s < suc (s / k) * k = (let d = lt-div-mul-add {a = s} hk in omega (arith, suc-mul (s / k) k)) in
@@ -170,22 +170,22 @@ module _ (s c m : ℕ) (h : List ℕ) (r : rising (c ∷ m ∷ h) ≡ true) wher
 
   closed : (w : ℕ) (copied : ℕ → Bool) → uncopied s H w copied
       ≡ count (λ j. rowExists m n s w j && not (copied (blockOfMark s H w j))) (m * n) + laterMoves m n s w
-  unfolding uncopied oldDisks earlier disks
+  unfolding uncopied oldCount earlier diskCount
   closed w copied = rw (by-marks w (λ x. not (copied x)), later-is w)
 
   pub counts-law : Counts s (c ∷ m ∷ h)
-  unfolding oldDisks addedDisks earlier disks
+  unfolding oldCount addedCount earlier diskCount
   counts-law = record { whole-window = whole; cut-window = cut; closed-form = closed }
 
   -- the calls left, where the copied blocks of window w are those with a mark
   marked-is : (w j : ℕ) (marks : List Bool) → j < m * n → rowExists m n s w j ≡ true → markedBlocks s H w marks (blockOfMark s H w j) ≡ getD marks j false
-  unfolding markedBlocks oldDisks addedDisks earlier disks
+  unfolding markedBlocks oldCount addedCount earlier diskCount
   marked-is w j marks hj e =
       let t = laws .mark-moves w j hj e in
       rw (moving-in w (blockOfMark s H w j) (t .0) (t .1), t .2)
 
   pub calls-left : (w : ℕ) (marks : List Bool) → callsLeft s H w (markedBlocks s H w marks) ≡ callsLeftByMarks m n s w marks
-  unfolding callsLeft callsLeftByMarks oldDisks addedDisks earlier disks
+  unfolding callsLeft callsLeftByMarks oldCount addedCount earlier diskCount
   calls-left w marks =
       rw (closed w (markedBlocks s H w marks), count-ext _ (λ j. rowExists m n s w j && not (getD marks j false)) (m * n) (λ j hj. by j hj (rowExists m n s w j) refl))
     where

@@ -5,7 +5,7 @@ use mathlib.Core.Bool.{Bool, true}
 use mathlib.Core.List.{List}
 use native.Mathlib.Omega.{arith}
 use Rattle.layout.specs.declared.GrowthDisks.{GrowthDisks}
-use Rattle.layout.specs.History.{history, rising, oldDisks, addedDisks, newestGrowth}
+use Rattle.layout.specs.History.{history, rising, oldCount, addedCount, newestGrowth}
 use Rattle.layout.specs.Limits.{Limits, Grows, mostGrowths}
 use Rattle.layout.specs.Windows.{windows, markedBlocks, movesOfWindow, callsLeft, cutMoves, callsLeftByMarks}
 use Rattle.layout.proofs.MarkSpots.{window-row}
@@ -16,12 +16,12 @@ use Rattle.layout.proofs.Theorems.{some-added, disks-sum, move-counts, 
 pub newest-asks : (s t : ℕ) (l : List ℕ) → 0 < t → Limits s (history t l) → (0 < t) × (t ≤ mostGrowths) × (rising (history t l) ≡ true)
 newest-asks s t l h a = (h, growths-most s t l a, a .rise)
 
-module _ (s : ℕ) (h : List ℕ) (a : Limits s h) (o : 0 < oldDisks h) (g : GrowthDisks) (e : g ≡ newestGrowth h) where
-  pub old-is : g .old ≡ oldDisks h
+module _ (s : ℕ) (h : List ℕ) (a : Limits s h) (o : 0 < oldCount h) (g : GrowthDisks) (e : g ≡ newestGrowth h) where
+  pub old-is : g .old ≡ oldCount h
   unfolding newestGrowth
   old-is = ap (λ (k : GrowthDisks). k .old) e
 
-  pub added-is : g .added ≡ addedDisks h
+  pub added-is : g .added ≡ addedCount h
   unfolding newestGrowth
   added-is = ap (λ (k : GrowthDisks). k .added) e
 
@@ -30,10 +30,10 @@ module _ (s : ℕ) (h : List ℕ) (a : Limits s h) (o : 0 < oldDisks h) (g : Gro
       rw (old-is, added-is)
       (record { old = o; added = some-added s h (a .rise) o; most = omega (arith, disks-sum s h (a .rise) o, a .disks-most) })
 
-  pub window-within : (w : ℕ) → w < windows (oldDisks h) (addedDisks h) s → w < windows (g .old) (g .added) s
+  pub window-within : (w : ℕ) → w < windows (oldCount h) (addedCount h) s → w < windows (g .old) (g .added) s
   window-within w k = rw (old-is, added-is) k
 
-  pub window-starts : (w : ℕ) → w < windows (oldDisks h) (addedDisks h) s → w * (g .old + g .added) < s
+  pub window-starts : (w : ℕ) → w < windows (oldCount h) (addedCount h) s → w * (g .old + g .added) < s
   window-starts w k = window-row (g .old) (g .added) (newest-grows .old) (newest-grows .added) s w (window-within w k)
 
   -- the moves of a window, whole or cut off

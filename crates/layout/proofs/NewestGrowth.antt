@@ -9,9 +9,9 @@ use lib.Dec.{ltb}
 use borrow.Author.Tests.{ltb-true, lt-ltb}
 use Rattle.layout.specs.declared.Spot.{Spot}
 use Rattle.layout.specs.Growth.{movesFrom, oldBlockSpot}
-use Rattle.layout.specs.History.{disks, earlier, oldDisks, addedDisks, rising, spotOf}
+use Rattle.layout.specs.History.{Within, diskCount, earlier, oldCount, addedCount, rising, spotOf}
 use Rattle.layout.specs.Windows.{oldSpot, moving}
-use Rattle.layout.specs.Laws.{Within, Bijection, Moving}
+use Rattle.layout.specs.Laws.{Bijection, Moving}
 use Rattle.layout.proofs.Booleans.{and-left, and-right, and-both}
 use Rattle.layout.proofs.Histories.{rising-up, rising-earlier, rising-some}
 use Rattle.layout.proofs.OneRow.{goes, stays}
@@ -33,22 +33,22 @@ module _ (s c m : ℕ) (h : List ℕ) (r : rising (c ∷ m ∷ h) ≡ true) wher
 
   -- an old block has its spot before and after the growth
   pub old-within : (x : ℕ) → x < m * s → Within s (m ∷ h) (spotOf s (m ∷ h) x)
-  unfolding disks
+  unfolding diskCount
   old-within x k = old-bijection .spot-within x k
 
   pub still-there : (x : ℕ) → x < m * s → x < c * s
   still-there x k = omega (arith, mul-le-mul-right s up)
 
   pub moving-old : (x : ℕ) → moving s (c ∷ m ∷ h) x ≡ true → x < m * s
-  unfolding moving oldDisks earlier disks
+  unfolding moving oldCount earlier diskCount
   moving-old x e = ltb-true x (m * s) (and-left (ltb x (m * s)) _ e)
 
   pub moving-moves : (x : ℕ) → moving s (c ∷ m ∷ h) x ≡ true → movesFrom m (c - m) (spotOf s (m ∷ h) x) ≡ true
-  unfolding moving oldDisks addedDisks oldSpot earlier disks
+  unfolding moving oldCount addedCount oldSpot earlier diskCount
   moving-moves x e = and-right (ltb x (m * s)) _ e
 
   pub moves-moving : (x : ℕ) → x < m * s → movesFrom m (c - m) (spotOf s (m ∷ h) x) ≡ true → moving s (c ∷ m ∷ h) x ≡ true
-  unfolding moving oldDisks addedDisks oldSpot earlier disks
+  unfolding moving oldCount addedCount oldSpot earlier diskCount
   moves-moving x k e = and-both (lt-ltb x (m * s) k) e
 
   old-block : (x : ℕ) → x < m * s → spotOf s (c ∷ m ∷ h) x ≡ oldBlockSpot m (c - m) (spotOf s (m ∷ h) x)
@@ -60,7 +60,7 @@ module _ (s c m : ℕ) (h : List ℕ) (r : rising (c ∷ m ∷ h) ≡ true) wher
   same-row x k = ap (λ (p : Spot). p .row) (old-block x k)
 
   to-added-disk : (x : ℕ) → moving s (c ∷ m ∷ h) x ≡ true → (m ≤ spotOf s (c ∷ m ∷ h) x .disk) × (spotOf s (c ∷ m ∷ h) x .disk < c)
-  unfolding oldBlockSpot movesFrom disks
+  unfolding oldBlockSpot movesFrom diskCount
   to-added-disk x e =
       let k = moving-old x e in (
         rw (old-block x k)
@@ -69,7 +69,7 @@ module _ (s c m : ℕ) (h : List ℕ) (r : rising (c ∷ m ∷ h) ≡ true) wher
       )
 
   still : (x : ℕ) → x < m * s → moving s (c ∷ m ∷ h) x ≡ false → spotOf s (c ∷ m ∷ h) x ≡ spotOf s (m ∷ h) x
-  unfolding oldBlockSpot movesFrom moving oldDisks addedDisks oldSpot earlier disks
+  unfolding oldBlockSpot movesFrom moving oldCount addedCount oldSpot earlier diskCount
   still x k e =
       let f : movesFrom m (c - m) (spotOf s (m ∷ h) x) ≡ false = (rw (lt-ltb x (m * s) k) at e) in
       old-block x k
@@ -77,5 +77,5 @@ module _ (s c m : ℕ) (h : List ℕ) (r : rising (c ∷ m ∷ h) ≡ true) wher
       (stays m (c - m) (spotOf s (m ∷ h) x .row .0) old-some (omega (arith, up)) (spotOf s (m ∷ h) x .disk) f)
 
   pub moving-law : Moving s (c ∷ m ∷ h)
-  unfolding oldDisks oldSpot earlier disks
+  unfolding oldCount oldSpot earlier diskCount
   moving-law = record { same-row = same-row; to-added-disk = to-added-disk; stays = still }

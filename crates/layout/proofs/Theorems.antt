@@ -6,7 +6,7 @@ use mathlib.Core.List.{List, [], _∷_}
 use native.Mathlib.Omega.{arith}
 use Rattle.layout.specs.Below.{count}
 use Rattle.layout.specs.Growth.{minusMod, moves, partOf, newDisk, diskAfter, movesFrom, oldBlockSpot, addedDisk, addedSpot, spotAfter, changeOf, addedIndex, oldDisk, diskBefore, spotBefore, blockAfter}
-use Rattle.layout.specs.History.{disks, earlier, oldDisks, addedDisks, rising, spotOf, blockAt}
+use Rattle.layout.specs.History.{diskCount, earlier, oldCount, addedCount, rising, spotOf, blockAt}
 use Rattle.layout.specs.Windows.{windows, windowOfRow, oldSpot, moving, windowOf, movingIn, markedBlocks, uncopied, callsLeft, callsLeftByMarks}
 use Rattle.layout.specs.Limits.{Limits}
 use Rattle.layout.specs.Laws.{RemainderOf, Bijection, Moving, LiveSpots, Marks, MarksFit, Counts}
@@ -30,20 +30,20 @@ spots-and-blocks = bijection
 
 -- the newest growth of a history that has one
 has-growth : (P : List ℕ → Type 0) → ((c m : ℕ) (h : List ℕ) → rising (c ∷ m ∷ h) ≡ true → P (c ∷ m ∷ h))
-    → (h : List ℕ) → rising h ≡ true → 0 < oldDisks h → P h
-unfolding oldDisks earlier disks
+    → (h : List ℕ) → rising h ≡ true → 0 < oldCount h → P h
+unfolding oldCount earlier diskCount
 has-growth P f [] r g = absurd (omega arith)
 has-growth P f (c ∷ []) r g = absurd (omega arith)
 has-growth P f (c ∷ m ∷ h) r g = f c m h r
 
-module _ (s : ℕ) (h : List ℕ) (r : rising h ≡ true) (g : 0 < oldDisks h) where
-  pub some-added : 0 < addedDisks h
-  unfolding addedDisks oldDisks earlier disks
-  some-added = has-growth (λ k. 0 < addedDisks k) (λ c m k q. omega (arith, rising-up c m k q)) h r g
+module _ (s : ℕ) (h : List ℕ) (r : rising h ≡ true) (g : 0 < oldCount h) where
+  pub some-added : 0 < addedCount h
+  unfolding addedCount oldCount earlier diskCount
+  some-added = has-growth (λ k. 0 < addedCount k) (λ c m k q. omega (arith, rising-up c m k q)) h r g
 
-  pub disks-sum : oldDisks h + addedDisks h ≡ disks h
-  unfolding addedDisks oldDisks earlier disks
-  disks-sum = has-growth (λ k. oldDisks k + addedDisks k ≡ disks k) (λ c m k q. omega (arith, rising-up c m k q)) h r g
+  pub disks-sum : oldCount h + addedCount h ≡ diskCount h
+  unfolding addedCount oldCount earlier diskCount
+  disks-sum = has-growth (λ k. oldCount k + addedCount k ≡ diskCount k) (λ c m k q. omega (arith, rising-up c m k q)) h r g
 
   pub moving-blocks : Moving s h
   moving-blocks = has-growth (Moving s) (moving-law s) h r g
@@ -58,17 +58,17 @@ module _ (s : ℕ) (h : List ℕ) (r : rising h ≡ true) (g : 0 < oldDisks h) w
   move-counts = has-growth (Counts s) (counts-law s) h r g
 
   pub calls-by-marks : (w : ℕ) (marks : List Bool)
-      → callsLeft s h w (markedBlocks s h w marks) ≡ callsLeftByMarks (oldDisks h) (addedDisks h) s w marks
-  unfolding addedDisks oldDisks earlier disks
+      → callsLeft s h w (markedBlocks s h w marks) ≡ callsLeftByMarks (oldCount h) (addedCount h) s w marks
+  unfolding addedCount oldCount earlier diskCount
   calls-by-marks w marks =
-      has-growth (λ k. callsLeft s k w (markedBlocks s k w marks) ≡ callsLeftByMarks (oldDisks k) (addedDisks k) s w marks)
+      has-growth (λ k. callsLeft s k w (markedBlocks s k w marks) ≡ callsLeftByMarks (oldCount k) (addedCount k) s w marks)
       (λ c m k q. calls-left s c m k q w marks) h r g
 
 -- within the limits a window has at most 64 marks
-pub marks-fit : (s : ℕ) (h : List ℕ) → Limits s h → 0 < oldDisks h → MarksFit h
-marks-fit s h a g = marks-most (oldDisks h) (addedDisks h) (omega (arith, disks-sum s h (a .rise) g, a .disks-most))
+pub marks-fit : (s : ℕ) (h : List ℕ) → Limits s h → 0 < oldCount h → MarksFit h
+marks-fit s h a g = marks-most (oldCount h) (addedCount h) (omega (arith, disks-sum s h (a .rise) g, a .disks-most))
 
 -- L1 to L12
 pub layout-cases : TableHolds
-unfolding worked spotOf blockAt changeOf callsLeft uncopied count moving movingIn windowOf windowOfRow windows oldSpot oldDisks addedDisks earlier disks spotAfter spotBefore blockAfter oldBlockSpot addedSpot diskAfter newDisk moves movesFrom partOf addedDisk minusMod diskBefore oldDisk addedIndex
+unfolding worked spotOf blockAt changeOf callsLeft uncopied count moving movingIn windowOf windowOfRow windows oldSpot oldCount addedCount earlier diskCount spotAfter spotBefore blockAfter oldBlockSpot addedSpot diskAfter newDisk moves movesFrom partOf addedDisk minusMod diskBefore oldDisk addedIndex
 layout-cases = refl

@@ -8,7 +8,7 @@ use Rattle.layout.specs.declared.Part.the-variants.{Head, Body, Tail}
 use Rattle.layout.specs.declared.Change.{Change}
 use Rattle.layout.specs.declared.Change.the-variants.{Moved, Added, Stays}
 use Rattle.layout.specs.Growth.{changeOf}
-use Rattle.layout.specs.History.{oldDisks, addedDisks, spotOf, blockAt}
+use Rattle.layout.specs.History.{oldCount, addedCount, spotOf, blockAt}
 use Rattle.layout.specs.Windows.{oldSpot, callsLeft}
 
 -- Block: of a history with s rows, block x is at spot p, where the newest growth put or left it as told.
@@ -39,7 +39,7 @@ table =
 
 -- a case with its answers worked out from the definitions: the spot of x, the block of p, what the growth did with x, the calls
 unfoldable pub worked : Case → Case
-worked (Block h s x p c) = Block h s (blockAt s h p) (spotOf s h x) (changeOf (oldDisks h) (addedDisks h) s x (oldSpot s h x))
+worked (Block h s x p c) = Block h s (blockAt s h p) (spotOf s h x) (changeOf (oldCount h) (addedCount h) s x (oldSpot s h x))
 worked (Calls h s k) = Calls h s (callsLeft s h 0 (λ x. false))
 
 -- the table is right: worked out, it is the same table

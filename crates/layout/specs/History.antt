@@ -1,7 +1,7 @@
 -- Document 01, "Words and limits" and "Layout after t growths": the whole history of growths.
 -- A history is the list of disk counts N[t] .. N[0], newest first; s is the number of rows on each disk. Blocks are numbers here;
 -- rows are a type of their own. Assumes nothing.
-use Prim.Native.Nat.{ℕ, zero, suc, _+_, _-_, _*_, _/_, _%_}
+use Prim.Native.Nat.{ℕ, zero, suc, _+_, _-_, _*_, _/_, _%_, _<_}
 use mathlib.Core.Bool.{Bool, false, _&&_}
 use mathlib.Core.List.{List, [], _∷_}
 use lib.Dec.{leb, ltb}
@@ -16,9 +16,9 @@ history zero counts = getD counts 0 0 ∷ []
 history (suc t) counts = getD counts (suc t) 0 ∷ history t counts
 
 -- N[t], the disks now
-unfoldable pub disks : List ℕ → ℕ
-disks [] = 0
-disks (c ∷ h) = c
+unfoldable pub diskCount : List ℕ → ℕ
+diskCount [] = 0
+diskCount (c ∷ h) = c
 
 -- the history before the newest growth
 unfoldable pub earlier : List ℕ → List ℕ
@@ -26,20 +26,25 @@ earlier [] = []
 earlier (c ∷ h) = h
 
 -- "In a growth m = N[t-1], n = N[t] - m", of the newest growth.
-unfoldable pub oldDisks : List ℕ → ℕ
-oldDisks h = disks (earlier h)
+unfoldable pub oldCount : List ℕ → ℕ
+oldCount h = diskCount (earlier h)
 
-unfoldable pub addedDisks : List ℕ → ℕ
-addedDisks h = disks h - oldDisks h
+unfoldable pub addedCount : List ℕ → ℕ
+addedCount h = diskCount h - oldCount h
 
 unfoldable pub newestGrowth : List ℕ → GrowthDisks
-newestGrowth h = record { old = oldDisks h; added = addedDisks h }
+newestGrowth h = record { old = oldCount h; added = addedCount h }
 
 -- "disk counts, strictly rising", at least 1
 unfoldable pub rising : List ℕ → Bool
 rising [] = false
 rising (c ∷ []) = leb 1 c
 rising (c ∷ m ∷ h) = ltb m c && rising (m ∷ h)
+
+-- p is a spot of the volume: on one of its disks, in one of its rows
+pub record Within (s : ℕ) (h : List ℕ) (p : Spot) : Type 0 where
+  pub disk : p .disk < diskCount h
+  pub row : p .row .0 < s
 
 -- The spot of block x. "t = 0: block x is at d = x mod N[0], b = x / N[0], rounded down."
 unfoldable pub spotOf : ℕ → List ℕ → ℕ → Spot

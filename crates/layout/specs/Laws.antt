@@ -8,7 +8,7 @@ use mathlib.Core.Option.{Option, some}
 use Rattle.layout.specs.declared.Spot.{Spot}
 use Rattle.layout.specs.Below.{count}
 use Rattle.layout.specs.Growth.{minusMod}
-use Rattle.layout.specs.History.{disks, oldDisks, addedDisks, spotOf, blockAt}
+use Rattle.layout.specs.History.{diskCount, oldCount, addedCount, Within, spotOf, blockAt}
 use Rattle.layout.specs.Windows.{windows, rowExists, oldSpot, moving, windowOf, markOf, blockOfMark, movesOfWindow, uncopied, cutMoves, laterMoves}
 use Rattle.layout.specs.Live.{liveSpot, liveBlock}
 
@@ -18,55 +18,50 @@ pub record RemainderOf (a c k r : ℕ) : Type 0 where
   pub same : (r + c) % k ≡ a % k
   pub only : (z : ℕ) → z < k → (z + c) % k ≡ a % k → z ≡ r
 
--- p is a spot of the volume
-pub record Within (s : ℕ) (h : List ℕ) (p : Spot) : Type 0 where
-  pub disk : p .disk < disks h
-  pub row : p .row .0 < s
-
 -- spot and block are inverse to each other: a bijection from the blocks onto disks × rows
 pub record Bijection (s : ℕ) (h : List ℕ) : Type 0 where
-  pub spot-within : (x : ℕ) → x < disks h * s → Within s h (spotOf s h x)
-  pub block-of-spot : (x : ℕ) → x < disks h * s → blockAt s h (spotOf s h x) ≡ x
-  pub block-within : (p : Spot) → Within s h p → blockAt s h p < disks h * s
+  pub spot-within : (x : ℕ) → x < diskCount h * s → Within s h (spotOf s h x)
+  pub block-of-spot : (x : ℕ) → x < diskCount h * s → blockAt s h (spotOf s h x) ≡ x
+  pub block-within : (p : Spot) → Within s h p → blockAt s h p < diskCount h * s
   pub spot-of-block : (p : Spot) → Within s h p → spotOf s h (blockAt s h p) ≡ p
 
 -- what the newest growth does with the old blocks
 pub record Moving (s : ℕ) (h : List ℕ) : Type 0 where
-  pub same-row : (x : ℕ) → x < oldDisks h * s → spotOf s h x .row ≡ oldSpot s h x .row
-  pub to-added-disk : (x : ℕ) → moving s h x ≡ true → (oldDisks h ≤ spotOf s h x .disk) × (spotOf s h x .disk < disks h)
-  pub stays : (x : ℕ) → x < oldDisks h * s → moving s h x ≡ false → spotOf s h x ≡ oldSpot s h x
+  pub same-row : (x : ℕ) → x < oldCount h * s → spotOf s h x .row ≡ oldSpot s h x .row
+  pub to-added-disk : (x : ℕ) → moving s h x ≡ true → (oldCount h ≤ spotOf s h x .disk) × (spotOf s h x .disk < diskCount h)
+  pub stays : (x : ℕ) → x < oldCount h * s → moving s h x ≡ false → spotOf s h x ≡ oldSpot s h x
 
 -- while the newest growth runs, whichever blocks have been moved
 pub record LiveSpots (s : ℕ) (h : List ℕ) (moved : ℕ → Bool) : Type 0 where
-  pub within : (x : ℕ) → x < oldDisks h * s → Within s h (liveSpot s h moved x)
-  pub distinct : (x y : ℕ) → x < oldDisks h * s → y < oldDisks h * s → liveSpot s h moved x ≡ liveSpot s h moved y → x ≡ y
+  pub within : (x : ℕ) → x < oldCount h * s → Within s h (liveSpot s h moved x)
+  pub distinct : (x y : ℕ) → x < oldCount h * s → y < oldCount h * s → liveSpot s h moved x ≡ liveSpot s h moved y → x ≡ y
   -- the spot that a copy of x is stored to is no open block's live spot
-  pub target-free : (x y : ℕ) → moving s h x ≡ true → moved x ≡ false → y < oldDisks h * s → liveSpot s h moved y ≡ spotOf s h x → ⊥
+  pub target-free : (x y : ℕ) → moving s h x ≡ true → moved x ≡ false → y < oldCount h * s → liveSpot s h moved y ≡ spotOf s h x → ⊥
   -- liveBlock is the inverse of liveSpot
-  pub block-of-live : (x : ℕ) → x < oldDisks h * s → liveBlock s h moved (liveSpot s h moved x) ≡ some x
+  pub block-of-live : (x : ℕ) → x < oldCount h * s → liveBlock s h moved (liveSpot s h moved x) ≡ some x
   pub live-of-block : (p : Spot) (x : ℕ) → Within s h p → liveBlock s h moved p ≡ some x
-      → (x < oldDisks h * s) × (liveSpot s h moved x ≡ p)
+      → (x < oldCount h * s) × (liveSpot s h moved x ≡ p)
 
 -- marks and moving blocks of a window are one to one
 pub record Marks (s : ℕ) (h : List ℕ) : Type 0 where
-  pub mark-within : (x : ℕ) → moving s h x ≡ true → markOf s h x < oldDisks h * addedDisks h
-  pub mark-row : (x : ℕ) → moving s h x ≡ true → rowExists (oldDisks h) (addedDisks h) s (windowOf s h x) (markOf s h x) ≡ true
+  pub mark-within : (x : ℕ) → moving s h x ≡ true → markOf s h x < oldCount h * addedCount h
+  pub mark-row : (x : ℕ) → moving s h x ≡ true → rowExists (oldCount h) (addedCount h) s (windowOf s h x) (markOf s h x) ≡ true
   pub block-of-mark : (x : ℕ) → moving s h x ≡ true → blockOfMark s h (windowOf s h x) (markOf s h x) ≡ x
-  pub mark-moves : (w j : ℕ) → j < oldDisks h * addedDisks h → rowExists (oldDisks h) (addedDisks h) s w j ≡ true
+  pub mark-moves : (w j : ℕ) → j < oldCount h * addedCount h → rowExists (oldCount h) (addedCount h) s w j ≡ true
       → (moving s h (blockOfMark s h w j) ≡ true) × (windowOf s h (blockOfMark s h w j) ≡ w) × (markOf s h (blockOfMark s h w j) ≡ j)
-  pub in-windows : (x : ℕ) → moving s h x ≡ true → windowOf s h x < windows (oldDisks h) (addedDisks h) s
+  pub in-windows : (x : ℕ) → moving s h x ≡ true → windowOf s h x < windows (oldCount h) (addedCount h) s
   -- every window has a moving block
-  pub some-block : (w : ℕ) → w < windows (oldDisks h) (addedDisks h) s → (x : ℕ) × (moving s h x ≡ true) × (windowOf s h x ≡ w)
+  pub some-block : (w : ℕ) → w < windows (oldCount h) (addedCount h) s → (x : ℕ) × (moving s h x ≡ true) × (windowOf s h x ≡ w)
 
 -- within the limit of 16 disks a window has at most 64 marks
 abbrev pub MarksFit : List ℕ → Type 0
-MarksFit h = oldDisks h * addedDisks h ≤ 64
+MarksFit h = oldCount h * addedCount h ≤ 64
 
 -- how many blocks move
 pub record Counts (s : ℕ) (h : List ℕ) : Type 0 where
-  pub whole-window : (w : ℕ) → suc w * (oldDisks h + addedDisks h) ≤ s → movesOfWindow s h w ≡ oldDisks h * addedDisks h
-  pub cut-window : (w r : ℕ) → s ≡ w * (oldDisks h + addedDisks h) + r → movesOfWindow s h w ≡ cutMoves (oldDisks h) (addedDisks h) r
+  pub whole-window : (w : ℕ) → suc w * (oldCount h + addedCount h) ≤ s → movesOfWindow s h w ≡ oldCount h * addedCount h
+  pub cut-window : (w r : ℕ) → s ≡ w * (oldCount h + addedCount h) + r → movesOfWindow s h w ≡ cutMoves (oldCount h) (addedCount h) r
   -- U without a loop over windows
   pub closed-form : (w : ℕ) (copied : ℕ → Bool) → uncopied s h w copied
-      ≡ count (λ j. rowExists (oldDisks h) (addedDisks h) s w j && not (copied (blockOfMark s h w j))) (oldDisks h * addedDisks h)
-      + laterMoves (oldDisks h) (addedDisks h) s w
+      ≡ count (λ j. rowExists (oldCount h) (addedCount h) s w j && not (copied (blockOfMark s h w j))) (oldCount h * addedCount h)
+      + laterMoves (oldCount h) (addedCount h) s w

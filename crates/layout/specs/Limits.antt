@@ -5,7 +5,7 @@ use mathlib.Core.Path.{_≡_}
 use mathlib.Core.Bool.{true}
 use mathlib.Core.List.{List}
 use lib.ListN.{length}
-use Rattle.layout.specs.History.{disks, rising}
+use Rattle.layout.specs.History.{diskCount, rising}
 
 -- "disk counts, strictly rising, 1 to 16"
 abbrev pub mostDisks : ℕ
@@ -22,7 +22,7 @@ mostRows = 1_000_000
 -- a history and its rows within the limits
 pub record Limits (s : ℕ) (h : List ℕ) : Type 0 where
   pub rise : rising h ≡ true
-  pub disks-most : disks h ≤ mostDisks
+  pub disks-most : diskCount h ≤ mostDisks
   pub growths-most : length h ≤ suc mostGrowths
   pub rows-least : 0 < s
   pub rows-most : s ≤ mostRows

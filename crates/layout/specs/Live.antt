@@ -5,7 +5,7 @@ use mathlib.Core.List.{List}
 use mathlib.Core.Option.{Option, none, some}
 use lib.Dec.{ltb}
 use Rattle.layout.specs.declared.Spot.{Spot}
-use Rattle.layout.specs.History.{earlier, oldDisks, spotOf, blockAt}
+use Rattle.layout.specs.History.{earlier, oldCount, spotOf, blockAt}
 use Rattle.layout.specs.Windows.{oldSpot, moving}
 
 -- does block x have its new spot
@@ -19,6 +19,6 @@ liveSpot s h moved x = cond (atNewSpot s h moved x) (spotOf s h x) (oldSpot s h 
 -- "only blocks x < m·s are open": the one that lives at p, or none
 unfoldable pub liveBlock : ℕ → List ℕ → (ℕ → Bool) → Spot → Option ℕ
 liveBlock s h moved p =
-    cond (ltb (p .disk) (oldDisks h))
+    cond (ltb (p .disk) (oldCount h))
     (cond (atNewSpot s h moved (blockAt s (earlier h) p)) none (some (blockAt s (earlier h) p)))
     (cond (atNewSpot s h moved (blockAt s h p)) (some (blockAt s h p)) none)

@@ -8,7 +8,7 @@ use Rattle.layout.specs.declared.Row.{Row}
 use Rattle.layout.specs.declared.Spot.{Spot}
 use Rattle.layout.specs.Below.{count, sum}
 use Rattle.layout.specs.Growth.{rowInWindow, movesFrom}
-use Rattle.layout.specs.History.{earlier, oldDisks, addedDisks, spotOf, blockAt}
+use Rattle.layout.specs.History.{earlier, oldCount, addedCount, spotOf, blockAt}
 
 -- ---- a growth from m disks by n
 
@@ -40,10 +40,10 @@ oldSpot s h x = spotOf s (earlier h) x
 
 -- does block x move in the newest growth
 unfoldable pub moving : ℕ → List ℕ → ℕ → Bool
-moving s h x = ltb x (oldDisks h * s) && movesFrom (oldDisks h) (addedDisks h) (oldSpot s h x)
+moving s h x = ltb x (oldCount h * s) && movesFrom (oldCount h) (addedCount h) (oldSpot s h x)
 
 unfoldable pub windowOf : ℕ → List ℕ → ℕ → ℕ
-windowOf s h x = windowOfRow (oldDisks h) (addedDisks h) (oldSpot s h x .row)
+windowOf s h x = windowOfRow (oldCount h) (addedCount h) (oldSpot s h x .row)
 
 -- a moving block of window w
 unfoldable pub movingIn : ℕ → List ℕ → ℕ → ℕ → Bool
@@ -51,10 +51,10 @@ movingIn s h w x = moving s h x && eqb (windowOf s h x) w
 
 -- the mark of a block, and the block of mark j of window w
 unfoldable pub markOf : ℕ → List ℕ → ℕ → ℕ
-markOf s h x = markOfSpot (oldDisks h) (addedDisks h) (oldSpot s h x)
+markOf s h x = markOfSpot (oldCount h) (addedCount h) (oldSpot s h x)
 
 unfoldable pub blockOfMark : ℕ → List ℕ → ℕ → ℕ → ℕ
-blockOfMark s h w j = blockAt s (earlier h) (spotOfMark (oldDisks h) (addedDisks h) w j)
+blockOfMark s h w j = blockAt s (earlier h) (spotOfMark (oldCount h) (addedCount h) w j)
 
 -- a set of marks of window w, read as a set of blocks
 unfoldable pub markedBlocks : ℕ → List ℕ → ℕ → List Bool → ℕ → Bool
@@ -62,17 +62,17 @@ markedBlocks s h w marks x = movingIn s h w x && getD marks (markOf s h x) false
 
 -- the moving blocks of window w
 unfoldable pub movesOfWindow : ℕ → List ℕ → ℕ → ℕ
-movesOfWindow s h w = count (movingIn s h w) (oldDisks h * s)
+movesOfWindow s h w = count (movingIn s h w) (oldCount h * s)
 
 -- "U counts moving blocks of window w without a copied mark and all moving blocks of later windows."
 unfoldable pub uncopied : ℕ → List ℕ → ℕ → (ℕ → Bool) → ℕ
 uncopied s h w copied =
-    count (λ x. movingIn s h w x && not (copied x)) (oldDisks h * s)
-    + count (λ x. moving s h x && ltb w (windowOf s h x)) (oldDisks h * s)
+    count (λ x. movingIn s h w x && not (copied x)) (oldCount h * s)
+    + count (λ x. moving s h x && ltb w (windowOf s h x)) (oldCount h * s)
 
 -- "the advance calls left, U + R - w"
 unfoldable pub callsLeft : ℕ → List ℕ → ℕ → (ℕ → Bool) → ℕ
-callsLeft s h w copied = uncopied s h w copied + windows (oldDisks h) (addedDisks h) s - w
+callsLeft s h w copied = uncopied s h w copied + windows (oldCount h) (addedCount h) s - w
 
 -- ---- closed forms
 

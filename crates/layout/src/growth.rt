@@ -2,33 +2,34 @@
 ghost use mathlib.Core.Path.{_≡_};
 ghost use Prim.Native.Nat.{_+_, _*_, _%_, _<_, _≤_};
 ghost use Rattle.layout.specs.Limits.{Grows, mostRows};
-ghost use Rattle.layout.specs.Growth.{partOf, newDisk, diskAfter, movesFrom, addedDisk, spotAfter, changeOf, addedIndex, oldDisk, spotBefore};
+ghost use Rattle.layout.specs.Growth.{firstFit, partOf, newDisk, diskAfter, movesFrom, addedDisk, spotAfter, changeOf, addedIndex, oldDisk, spotBefore};
 use super::Change;
 use super::Part;
 use super::Row;
 use super::Spot;
 
-// The part of a moving block at row b1 of its window: the first rule that fits.
+// Head before tail before body.
+fn first_fit(head: bool, tail: bool) -> Part
+    ensures { λ r. ⌜ r ≡ firstFit head tail ⌝ }
+{
+    if head {
+        return Part::Head;
+    }
+    if tail {
+        return Part::Tail;
+    }
+    Part::Body
+}
+
+// The part of a moving block at row b1 of its window.
 pub fn part_of(m: usize, n: usize, b1: usize) -> Part
     requires { ⌜ Grows m n ⌝ }
     ensures { λ r. ⌜ r ≡ partOf m n b1 ⌝ }
 {
     if n <= m {
-        if b1 <= n - 1 {
-            return Part::Head;
-        }
-        if m - 1 <= b1 {
-            return Part::Tail;
-        }
-        return Part::Body;
+        return first_fit(b1 <= n - 1, m - 1 <= b1);
     }
-    if b1 <= m - 1 {
-        return Part::Head;
-    }
-    if n - 1 <= b1 {
-        return Part::Tail;
-    }
-    Part::Body
+    first_fit(b1 <= m - 1, n - 1 <= b1)
 }
 
 // The new disk of a moving block.
@@ -142,10 +143,10 @@ pub fn old_disk(m: usize, n: usize, d: usize, b1: usize) -> usize
     match part_of(m, n, b1) {
         Part::Head => d - m,
         Part::Tail => d - n,
-        Part::Body => if n <= m {
-            b1 - (m + n - 1 - d)
-        } else {
+        Part::Body => if m < n {
             d - (b1 + 1)
+        } else {
+            b1 - (m + n - 1 - d)
         },
     }
 }

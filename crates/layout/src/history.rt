@@ -3,8 +3,7 @@ ghost use mathlib.Core.Path.{_≡_};
 ghost use mathlib.Core.Bool.{true};
 ghost use Prim.Native.Nat.{_*_, _<_, _≤_};
 ghost use Rattle.layout.specs.Limits.{Limits, mostGrowths};
-ghost use Rattle.layout.specs.Laws.{Within};
-ghost use Rattle.layout.specs.History.{history, disks, rising, newestGrowth, spotOf, blockAt};
+ghost use Rattle.layout.specs.History.{Within, history, diskCount, rising, newestGrowth, spotOf, blockAt};
 use super::Block;
 use super::GrowthDisks;
 use super::Row;
@@ -16,7 +15,7 @@ use super::growth::spot_before;
 // The spot of block x after t growths.
 pub fn spot_of(counts: [usize; 8], t: usize, s: usize, x: Block) -> Spot
     requires { ⌜ Limits s (history t counts) ⌝ }
-    requires { ⌜ x .0 < disks (history t counts) * s ⌝ }
+    requires { ⌜ x .0 < diskCount (history t counts) * s ⌝ }
     ensures { λ r. ⌜ r ≡ spotOf s (history t counts) (x .0) ⌝ }
 {
     let n0 = counts[0];

@@ -7,16 +7,11 @@ mod growth;
 mod history;
 mod windows;
 
-pub use growth::added_disk;
-pub use growth::added_index;
 pub use growth::change_of;
-pub use growth::disk_after;
 pub use growth::moves_from;
 pub use growth::new_disk;
 pub use growth::old_disk;
 pub use growth::part_of;
-pub use growth::spot_after;
-pub use growth::spot_before;
 pub use history::block_at;
 pub use history::newest_growth;
 pub use history::spot_of;

@@ -6,7 +6,7 @@ ghost use lib.ListN.{getD};
 ghost use Rattle.layout.specs.Below.{count};
 ghost use Rattle.layout.specs.Limits.{Limits, Grows, mostRows};
 ghost use Rattle.layout.specs.Growth.{movesFrom};
-ghost use Rattle.layout.specs.History.{history, oldDisks, addedDisks};
+ghost use Rattle.layout.specs.History.{history, oldCount, addedCount};
 ghost use Rattle.layout.specs.Windows.{windows, markOfSpot, spotOfMark, rowExists, cutMoves, laterMoves, movesOfWindow, markedBlocks, callsLeft, callsLeftByMarks};
 use super::Row;
 use super::Spot;
@@ -79,7 +79,7 @@ fn cut_moves(m: usize, n: usize, r: usize) -> usize
 // The moving blocks of window w of the newest growth.
 pub fn moves_of_window(counts: [usize; 8], t: usize, s: usize, w: usize) -> usize
     requires { ⌜ Limits s (history t counts) ⌝ }
-    requires { ⌜ (0 < t) × (w < windows (oldDisks (history t counts)) (addedDisks (history t counts)) s) ⌝ }
+    requires { ⌜ (0 < t) × (w < windows (oldCount (history t counts)) (addedCount (history t counts)) s) ⌝ }
     ensures { λ r. ⌜ r ≡ movesOfWindow s (history t counts) w ⌝ }
 {
     let g = newest_growth(counts, t);
@@ -140,7 +140,7 @@ fn calls_left_by_marks(m: usize, n: usize, s: usize, w: usize, marks: [bool; 64]
 // U + R - w of the newest growth, where window w's copied blocks are those with a mark.
 pub fn calls_left(counts: [usize; 8], t: usize, s: usize, w: usize, copied: [bool; 64]) -> usize
     requires { ⌜ Limits s (history t counts) ⌝ }
-    requires { ⌜ (0 < t) × (w < windows (oldDisks (history t counts)) (addedDisks (history t counts)) s) ⌝ }
+    requires { ⌜ (0 < t) × (w < windows (oldCount (history t counts)) (addedCount (history t counts)) s) ⌝ }
     ensures { λ r. ⌜ r ≡ callsLeft s (history t counts) w (markedBlocks s (history t counts) w copied) ⌝ }
 {
     let g = newest_growth(counts, t);

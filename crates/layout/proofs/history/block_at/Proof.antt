@@ -4,8 +4,7 @@ use mathlib.Core.Path.{_≡_, refl, _∙_}
 use native.Mathlib.Omega.{arith}
 use borrow.Author.Needs.{needs}
 use lib.ListN.{getD}
-use Rattle.layout.specs.Laws.{Within}
-use Rattle.layout.specs.History.{history, blockAt}
+use Rattle.layout.specs.History.{Within, history, blockAt}
 use Rattle.layout.proofs.HistoryCode.{growths-most, BackTurn, back-turn, back-added, back-older, first-most, turn-disk-most, block-first}
 use Rattle.layout.proofs.history.block_at.Statement.{statement}
 use Rattle.layout.proofs.history.block_at.Tie as tie
