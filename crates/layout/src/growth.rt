@@ -162,6 +162,6 @@ pub fn spot_before(m: usize, n: usize, p: Spot) -> Spot
         return p;
     }
     let row = p.row;
-    let disk = old_disk(m, n, d, row.0 % (m + n));
-    Spot { disk, row }
+    let old = old_disk(m, n, d, row.0 % (m + n));
+    Spot { disk: old, row }
 }

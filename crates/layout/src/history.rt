@@ -19,15 +19,16 @@ pub fn spot_of(counts: [usize; 8], t: usize, s: usize, x: Block) -> Spot
     ensures { λ r. ⌜ r ≡ spotOf s (history t counts) (x .0) ⌝ }
 {
     let n0 = counts[0];
+    let number = x.0;
     let mut p = Spot {
-        disk: x.0 % n0,
-        row: Row(x.0 / n0),
+        disk: number % n0,
+        row: Row(number / n0),
     };
     let mut k = 0;
     while k < t {
         let m = counts[k];
         let n = counts[k + 1] - m;
-        p = spot_after(m, n, s, x.0, p);
+        p = spot_after(m, n, s, number, p);
         k += 1;
     }
     p

@@ -9,22 +9,22 @@ use Rattle.layout.proofs.history.spot_of.Statement.{statement}
 use Rattle.layout.proofs.history.spot_of.Tie as tie
 
 abbrev Inv-loop : tie.InvT-loop
-Inv-loop t s x counts n0 p₀ k₀ p k = (k ≤ t) × (t ≤ 7) × (p ≡ spotOf s (history k counts) (x .0))
+Inv-loop t s counts n0 number p₀ k₀ p k = (k ≤ t) × (t ≤ 7) × (p ≡ spotOf s (history k counts) number)
 
 abbrev μ-loop : tie.MeasureT-loop
-μ-loop t s x counts n0 p₀ k₀ p k = t - k
+μ-loop t s counts n0 number p₀ k₀ p k = t - k
 
 array-read-n0 : tie.Need-array-read-n0 Inv-loop μ-loop
 array-read-n0 c = search needs
 
-rem-t13 : tie.Need-rem-t13 Inv-loop μ-loop
-rem-t13 c = first-count _ _ 0 (c .before .args .t1) (c .before .pre .0)
+rem-t14 : tie.Need-rem-t14 Inv-loop μ-loop
+rem-t14 c = first-count _ _ 0 (c .args .t1) (c .pre .0)
 
-div-t14 : tie.Need-div-t14 Inv-loop μ-loop
-div-t14 c = first-count _ _ 0 (c .before .before .args .t1) (c .before .before .pre .0)
+div-t15 : tie.Need-div-t15 Inv-loop μ-loop
+div-t15 c = first-count _ _ 0 (c .args .t1) (c .pre .0)
 
 loop-holds : tie.Need-loop-holds Inv-loop μ-loop
-loop-holds c = (omega arith, growths-most _ _ (c .before .before .args .t1) (c .before .before .pre .0), spot-first _ _ _)
+loop-holds c = (omega arith, growths-most _ _ (c .args .t1) (c .pre .0), spot-first _ _ _)
 
 mul-m : tie.Need-mul-m Inv-loop μ-loop
 mul-m c = search needs
@@ -43,12 +43,12 @@ array-read-n c = search needs
 
 sub-n : tie.Need-sub-n Inv-loop μ-loop
 sub-n c =
-    let start = c .before .before .before .before in
+    let start = c .before .before in
     omega (arith, turn-up _ _ (c .before .loop .k) (start .args .t1) (start .pre .0) (c .loop-test .taken))
 
 spot-after-requires : tie.Need-spot-after-requires Inv-loop μ-loop
 spot-after-requires c κs =
-    let start = c .before .before .before .before in (
+    let start = c .before .before in (
       turn-grows _ _ _ (start .args .t1) (start .pre .0) (c .loop-test .taken),
       (start .pre .0 .rows-most, turn-disk _ _ _ (start .args .t1) (start .pre .0) _ _ (omega arith) (c .before .loop .inv .2)),
     )
@@ -61,12 +61,12 @@ loop-less c = search needs
 
 loop-again : tie.Need-loop-again Inv-loop μ-loop
 loop-again c =
-    let start = c .before .before .before .before .before in
+    let start = c .before .before .before in
     (omega arith, c .before .before .loop .inv .1, spot-next _ _ (start .args .t1) _ _ _ (c .before .before .loop .inv .2) (c .spot-after .ensures))
 
 returns : tie.Need-returns Inv-loop μ-loop
 returns c =
-    let e : c .before .loop .k ≡ c .before .before .before .before .args .t = omega arith in
+    let e : c .before .loop .k ≡ c .before .before .args .t = omega arith in
     rw e at (c .before .loop .inv .2)
 
 pub spot-of-spec : {M : Type 1} → statement M
@@ -76,8 +76,8 @@ spot-of-spec =
     Inv-loop
     μ-loop
     array-read-n0
-    rem-t13
-    div-t14
+    rem-t14
+    div-t15
     loop-holds
     mul-m
     array-read-m
