@@ -12,7 +12,6 @@ pub mod MarkBlocks
 pub mod MoveCounts
 pub mod Theorems
 pub mod HistoryCode
-pub mod BelowCode
 pub mod GrowthCode
 pub mod WindowsCode
 pub mod NewestCode

@@ -1,9 +1,9 @@
 -- A growth from m disks to c under way, whichever blocks have been moved. Assumes nothing.
-use Prim.Native.Nat.{ℕ, _+_, _-_, _*_, _≤_, _<_}
+use Prim.Native.Nat.{ℕ, _-_, _*_, _≤_, _<_}
 use mathlib.Core.Path.{_≡_, refl, sym, _∙_, ap, subst}
-use mathlib.Core.Bool.{Bool, true, false, cond, _&&_}
-use mathlib.Core.List.{List, [], _∷_}
-use mathlib.Core.Option.{Option, none, some}
+use mathlib.Core.Bool.{Bool, true, false, cond}
+use mathlib.Core.List.{List, _∷_}
+use mathlib.Core.Option.{none, some}
 use native.Mathlib.Omega.{arith}
 use lib.Dec.{ltb}
 use borrow.Author.Tests.{ltb-true, ltb-false, lt-ltb, le-ltb}
@@ -11,8 +11,8 @@ use Rattle.layout.specs.declared.Spot.{Spot}
 use Rattle.layout.specs.History.{Within, diskCount, earlier, oldCount, rising, spotOf, blockAt}
 use Rattle.layout.specs.Windows.{oldSpot, moving}
 use Rattle.layout.specs.Live.{atNewSpot, liveSpot, liveBlock}
-use Rattle.layout.specs.Laws.{Bijection, Moving, LiveSpots}
-use Rattle.layout.proofs.Booleans.{and-left, and-right, cond-cases, clash}
+use Rattle.layout.specs.Laws.{LiveSpots}
+use Rattle.layout.proofs.Booleans.{and-left, and-right, clash}
 use Rattle.layout.proofs.Bijection.{spot-injective}
 use Rattle.layout.proofs.NewestGrowth.{up, old-bijection, new-bijection, old-within, still-there, moving-old, moving-law}
 

@@ -1,16 +1,14 @@
 -- Marks and moving blocks of the windows of the newest growth, from m disks to c, are one to one. Assumes nothing.
-use Prim.Native.Nat.{ℕ, _+_, _-_, _*_, _/_, _%_, _≤_, _<_}
-use mathlib.Core.Path.{_≡_, refl, sym, _∙_, ap, subst}
-use mathlib.Core.Bool.{Bool, true, false}
-use mathlib.Core.List.{List, [], _∷_}
+use Prim.Native.Nat.{ℕ, _-_, _*_, _<_}
+use mathlib.Core.Path.{_≡_, refl, _∙_, ap}
+use mathlib.Core.Bool.{true}
+use mathlib.Core.List.{List, _∷_}
 use native.Mathlib.Omega.{arith}
-use lib.Dec.{ltb}
 use borrow.Author.Tests.{ltb-true, lt-ltb}
 use Rattle.layout.specs.declared.Spot.{Spot}
-use Rattle.layout.specs.Growth.{movesFrom}
 use Rattle.layout.specs.History.{Within, diskCount, earlier, oldCount, addedCount, rising, spotOf, blockAt}
 use Rattle.layout.specs.Windows.{windows, windowOfRow, markOfSpot, spotOfMark, rowExists, oldSpot, moving, windowOf, markOf, blockOfMark}
-use Rattle.layout.specs.Laws.{Bijection, Marks}
+use Rattle.layout.specs.Laws.{Marks}
 use Rattle.layout.proofs.NewestGrowth.{up, old-some, old-bijection, old-within, moving-old, moving-moves, moves-moving}
 use Rattle.layout.proofs.MarkSpots.{mark-below, spot-of-mark, mark-spot-disk, mark-spot-window, mark-spot-moves, mark-of-spot, row-window, window-row, first-mark}
 

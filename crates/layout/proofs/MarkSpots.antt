@@ -1,7 +1,7 @@
 -- Marks and old spots of moving blocks, in the growth from m disks by n. For all m and n above 0. Assumes nothing.
-use Prim.Native.Nat.{ℕ, zero, suc, _+_, _-_, _*_, _/_, _%_, _≤_, _<_}
-use mathlib.Core.Path.{_≡_, refl, sym, _∙_, ap, subst}
-use mathlib.Core.Bool.{Bool, true, false}
+use Prim.Native.Nat.{ℕ, suc, _+_, _-_, _*_, _/_, _%_, _≤_, _<_}
+use mathlib.Core.Path.{_≡_, _∙_, ap}
+use mathlib.Core.Bool.{true}
 use native.Mathlib.Nat.{mod-lt, div-add-mod', div-lt-iff-lt-mul, lt-div-mul-add, le-div-iff-mul-le, suc-mul, mul-pos, zero-div, zero-mod}
 use native.Mathlib.Omega.{arith}
 use lib.Arith.{digits-lt, digits-div, digits-mod}

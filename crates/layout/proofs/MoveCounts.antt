@@ -2,7 +2,7 @@
 use Prim.Native.Nat.{ℕ, zero, suc, _+_, _-_, _*_, _/_, _%_, _≤_, _<_, min}
 use mathlib.Core.Path.{_≡_, refl, sym, _∙_, ap}
 use mathlib.Core.Bool.{Bool, true, false, cond, not, _&&_, and-true}
-use mathlib.Core.List.{List, [], _∷_}
+use mathlib.Core.List.{List, _∷_}
 use native.Mathlib.Nat.{add-zero, div-add-mod', div-lt-iff-lt-mul, lt-div-mul-add, mul-le-mul-right, suc-mul}
 use native.Mathlib.Decide.{decLt, ℕ-discrete}
 use native.Mathlib.Omega.{arith}
@@ -11,7 +11,7 @@ use lib.ListN.{getD}
 use borrow.Author.Tests.{ltb-true, ltb-false, lt-ltb, le-ltb, eqb-true, eq-eqb, ne-eqb}
 use Rattle.layout.specs.Below.{count, sum}
 use Rattle.layout.specs.History.{diskCount, earlier, oldCount, addedCount, rising}
-use Rattle.layout.specs.Windows.{windows, spotOfMark, rowExists, oldSpot, moving, windowOfRow, windowOf, movingIn, markOf, blockOfMark, markedBlocks, movesOfWindow, uncopied, callsLeft, cutMoves, laterMoves, callsLeftByMarks}
+use Rattle.layout.specs.Windows.{spotOfMark, rowExists, oldSpot, moving, windowOfRow, windowOf, movingIn, markOf, blockOfMark, markedBlocks, movesOfWindow, uncopied, callsLeft, cutMoves, laterMoves, callsLeftByMarks}
 use Rattle.layout.specs.Laws.{Marks, Counts}
 use Rattle.layout.proofs.Booleans.{and-left, and-right, and-both, same-order}
 use Rattle.layout.proofs.Counting.{count-ext, count-none, count-all, count-split, sum-ext, count-digits, count-below, OneToOne, count-one-to-one}

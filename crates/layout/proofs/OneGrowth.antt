@@ -1,13 +1,13 @@
 -- One growth: the way there and the way back, over any layout before it. Assumes nothing.
 use Prim.Native.Nat.{ℕ, _+_, _-_, _*_, _/_, _%_, _≤_, _<_}
-use mathlib.Core.Path.{_≡_, refl, sym, _∙_, ap}
+use mathlib.Core.Path.{_≡_, _∙_, ap}
 use native.Mathlib.Nat.{mod-lt, div-lt-iff-lt-mul, div-add-mod'}
 use native.Mathlib.Omega.{arith}
 use lib.Dec.{ltb}
 use lib.Arith.{digits-lt, digits-div, digits-mod}
 use borrow.Author.Tests.{ltb-true, ltb-false, lt-ltb, le-ltb}
 use Rattle.layout.specs.declared.Spot.{Spot}
-use Rattle.layout.specs.Growth.{diskAfter, addedDisk, addedIndex, diskBefore, oldBlockSpot, addedSpot, spotAfter, spotBefore, blockAfter}
+use Rattle.layout.specs.Growth.{addedDisk, addedIndex, oldBlockSpot, addedSpot, spotAfter, spotBefore, blockAfter}
 use Rattle.layout.proofs.Booleans.{cond-cases}
 use Rattle.layout.proofs.OneRow.{old-there, old-back, added-there, added-back}
 

@@ -10,7 +10,7 @@ use Rattle.layout.specs.Below.{every}
 use Rattle.layout.specs.Limits.{Grows, mostRows}
 use Rattle.layout.specs.Windows.{windows, cutMoves, laterMoves}
 use Rattle.layout.proofs.Booleans.{cond-cases}
-use Rattle.layout.proofs.BelowCode.{every-use, sum-most}
+use Rattle.layout.proofs.Counting.{every-use, sum-most}
 
 -- a window has at most 64 marks: one computed test of all m and n with m+n at most 16
 products : every (λ m. every (λ n. leb (m * n) 64) (17 - m)) 17 ≡ true

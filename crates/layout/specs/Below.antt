@@ -2,14 +2,14 @@
 use Prim.Native.Nat.{ℕ, zero, suc, _+_}
 use mathlib.Core.Bool.{Bool, true, cond, _&&_}
 
-unfoldable pub count : (ℕ → Bool) → ℕ → ℕ
+unfoldable pub count : (p : ℕ → Bool) (n : ℕ) → ℕ
 count p zero = 0
 count p (suc n) = count p n + cond (p n) 1 0
 
-unfoldable pub every : (ℕ → Bool) → ℕ → Bool
+unfoldable pub every : (p : ℕ → Bool) (n : ℕ) → Bool
 every p zero = true
 every p (suc n) = p n && every p n
 
-unfoldable pub sum : (ℕ → ℕ) → ℕ → ℕ
+unfoldable pub sum : (f : ℕ → ℕ) (n : ℕ) → ℕ
 sum f zero = 0
 sum f (suc n) = sum f n + f n

@@ -4,10 +4,9 @@ use Prim.Native.Nat.{ℕ, suc, _+_, _-_, _*_, _%_, _≤_, _<_}
 use mathlib.Core.Path.{_≡_}
 use mathlib.Core.Bool.{Bool, true, false, not, _&&_}
 use mathlib.Core.List.{List}
-use mathlib.Core.Option.{Option, some}
+use mathlib.Core.Option.{some}
 use Rattle.layout.specs.declared.Spot.{Spot}
 use Rattle.layout.specs.Below.{count}
-use Rattle.layout.specs.Growth.{minusMod}
 use Rattle.layout.specs.History.{diskCount, oldCount, addedCount, Within, spotOf, blockAt}
 use Rattle.layout.specs.Windows.{windows, rowExists, oldSpot, moving, windowOf, markOf, blockOfMark, movesOfWindow, uncopied, cutMoves, laterMoves}
 use Rattle.layout.specs.Live.{liveSpot, liveBlock}

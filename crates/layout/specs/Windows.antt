@@ -1,6 +1,6 @@
 -- Document 01: the windows of a growth, the marks of their moving blocks, and the advance calls left. Assumes nothing.
-use Prim.Native.Nat.{ℕ, zero, suc, _+_, _-_, _*_, _/_, _%_, min}
-use mathlib.Core.Bool.{Bool, true, false, cond, not, _&&_}
+use Prim.Native.Nat.{ℕ, suc, _+_, _-_, _*_, _/_, _%_, min}
+use mathlib.Core.Bool.{Bool, false, cond, not, _&&_}
 use mathlib.Core.List.{List}
 use lib.Dec.{ltb, eqb}
 use lib.ListN.{getD}
@@ -13,78 +13,79 @@ use Rattle.layout.specs.History.{earlier, oldCount, addedCount, spotOf, 
 -- ---- a growth from m disks by n
 
 -- "R is the number of windows, s/(m+n) rounded up."
-unfoldable pub windows : ℕ → ℕ → ℕ → ℕ
+unfoldable pub windows : (m n s : ℕ) → ℕ
 windows m n s = (s + (m + n - 1)) / (m + n)
 
 -- "window k has rows k·(m+n) up to, not including, (k+1)·(m+n)": the window of a row
-unfoldable pub windowOfRow : ℕ → ℕ → Row → ℕ
+unfoldable pub windowOfRow : (m n : ℕ) (b : Row) → ℕ
 windowOfRow m n b = b .0 / (m + n)
 
 -- "A moving block of window w has mark d0·n + (b1-d0)", p being its old spot.
-unfoldable pub markOfSpot : ℕ → ℕ → Spot → ℕ
+unfoldable pub markOfSpot : (m n : ℕ) (p : Spot) → ℕ
 markOfSpot m n p = p .disk * n + (rowInWindow m n (p .row) - p .disk)
 
 -- the old spot of mark j of window w
-unfoldable pub spotOfMark : ℕ → ℕ → ℕ → ℕ → Spot
+unfoldable pub spotOfMark : (m n w j : ℕ) → Spot
 spotOfMark m n w j = record { disk = j / n; row = record { 0 = w * (m + n) + (j / n + j % n) } }
 
 -- "moving blocks of window w whose rows exist": does the row of mark j of window w exist
-unfoldable pub rowExists : ℕ → ℕ → ℕ → ℕ → ℕ → Bool
+unfoldable pub rowExists : (m n s w j : ℕ) → Bool
 rowExists m n s w j = ltb (spotOfMark m n w j .row .0) s
 
 -- ---- the newest growth of a history: blocks
 
 -- the spot before the newest growth, "its spot after t-1 growths"
-unfoldable pub oldSpot : ℕ → List ℕ → ℕ → Spot
+unfoldable pub oldSpot : (s : ℕ) (h : List ℕ) (x : ℕ) → Spot
 oldSpot s h x = spotOf s (earlier h) x
 
 -- does block x move in the newest growth
-unfoldable pub moving : ℕ → List ℕ → ℕ → Bool
+unfoldable pub moving : (s : ℕ) (h : List ℕ) (x : ℕ) → Bool
 moving s h x = ltb x (oldCount h * s) && movesFrom (oldCount h) (addedCount h) (oldSpot s h x)
 
-unfoldable pub windowOf : ℕ → List ℕ → ℕ → ℕ
+-- the window of block x
+unfoldable pub windowOf : (s : ℕ) (h : List ℕ) (x : ℕ) → ℕ
 windowOf s h x = windowOfRow (oldCount h) (addedCount h) (oldSpot s h x .row)
 
 -- a moving block of window w
-unfoldable pub movingIn : ℕ → List ℕ → ℕ → ℕ → Bool
+unfoldable pub movingIn : (s : ℕ) (h : List ℕ) (w x : ℕ) → Bool
 movingIn s h w x = moving s h x && eqb (windowOf s h x) w
 
 -- the mark of a block, and the block of mark j of window w
-unfoldable pub markOf : ℕ → List ℕ → ℕ → ℕ
+unfoldable pub markOf : (s : ℕ) (h : List ℕ) (x : ℕ) → ℕ
 markOf s h x = markOfSpot (oldCount h) (addedCount h) (oldSpot s h x)
 
-unfoldable pub blockOfMark : ℕ → List ℕ → ℕ → ℕ → ℕ
+unfoldable pub blockOfMark : (s : ℕ) (h : List ℕ) (w j : ℕ) → ℕ
 blockOfMark s h w j = blockAt s (earlier h) (spotOfMark (oldCount h) (addedCount h) w j)
 
 -- a set of marks of window w, read as a set of blocks
-unfoldable pub markedBlocks : ℕ → List ℕ → ℕ → List Bool → ℕ → Bool
+unfoldable pub markedBlocks : (s : ℕ) (h : List ℕ) (w : ℕ) (marks : List Bool) (x : ℕ) → Bool
 markedBlocks s h w marks x = movingIn s h w x && getD marks (markOf s h x) false
 
 -- the moving blocks of window w
-unfoldable pub movesOfWindow : ℕ → List ℕ → ℕ → ℕ
+unfoldable pub movesOfWindow : (s : ℕ) (h : List ℕ) (w : ℕ) → ℕ
 movesOfWindow s h w = count (movingIn s h w) (oldCount h * s)
 
 -- "U counts moving blocks of window w without a copied mark and all moving blocks of later windows."
-unfoldable pub uncopied : ℕ → List ℕ → ℕ → (ℕ → Bool) → ℕ
+unfoldable pub uncopied : (s : ℕ) (h : List ℕ) (w : ℕ) (copied : ℕ → Bool) → ℕ
 uncopied s h w copied =
     count (λ x. movingIn s h w x && not (copied x)) (oldCount h * s)
     + count (λ x. moving s h x && ltb w (windowOf s h x)) (oldCount h * s)
 
 -- "the advance calls left, U + R - w"
-unfoldable pub callsLeft : ℕ → List ℕ → ℕ → (ℕ → Bool) → ℕ
+unfoldable pub callsLeft : (s : ℕ) (h : List ℕ) (w : ℕ) (copied : ℕ → Bool) → ℕ
 callsLeft s h w copied = uncopied s h w copied + windows (oldCount h) (addedCount h) s - w
 
 -- ---- closed forms
 
 -- a window cut off to r rows: over the old disks d below r, the lesser of n and r-d
-unfoldable pub cutMoves : ℕ → ℕ → ℕ → ℕ
+unfoldable pub cutMoves : (m n r : ℕ) → ℕ
 cutMoves m n r = sum (λ d. min n (r - d)) (min m r)
 
 -- the moves of all windows after w: m·n for each whole one, and those of a last one that is cut off
-unfoldable pub laterMoves : ℕ → ℕ → ℕ → ℕ → ℕ
+unfoldable pub laterMoves : (m n s w : ℕ) → ℕ
 laterMoves m n s w = cond (ltb w (s / (m + n))) ((s / (m + n) - suc w) * (m * n) + cutMoves m n (s % (m + n))) 0
 
 -- U + R - w of a set of marks of window w
-unfoldable pub callsLeftByMarks : ℕ → ℕ → ℕ → ℕ → List Bool → ℕ
+unfoldable pub callsLeftByMarks : (m n s w : ℕ) (marks : List Bool) → ℕ
 callsLeftByMarks m n s w marks =
     count (λ j. rowExists m n s w j && not (getD marks j false)) (m * n) + laterMoves m n s w + windows m n s - w

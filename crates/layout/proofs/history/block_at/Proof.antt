@@ -1,9 +1,8 @@
 -- `block_at` meets its contract. The loop's invariant: the block at q after k growths is the one that is asked for. Assumes nothing.
-use Prim.Native.Nat.{ℕ, _+_, _*_, _-_, _≤_, _<_}
+use Prim.Native.Nat.{_-_, _≤_}
 use mathlib.Core.Path.{_≡_, refl, _∙_}
 use native.Mathlib.Omega.{arith}
 use borrow.Author.Needs.{needs}
-use lib.ListN.{getD}
 use Rattle.layout.specs.History.{Within, history, blockAt}
 use Rattle.layout.proofs.HistoryCode.{growths-most, BackTurn, back-turn, back-added, back-older, first-most, turn-disk-most, block-first}
 use Rattle.layout.proofs.history.block_at.Statement.{statement}

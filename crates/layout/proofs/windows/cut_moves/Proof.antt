@@ -5,7 +5,7 @@ use mathlib.Core.Logic.{⊎-elim}
 use native.Mathlib.Omega.{arith}
 use Rattle.layout.specs.Below.{sum}
 use Rattle.layout.specs.Windows.{cutMoves}
-use Rattle.layout.proofs.BelowCode.{sum-next}
+use Rattle.layout.proofs.Counting.{sum-next}
 use Rattle.layout.proofs.windows.cut_moves.Statement.{statement}
 use Rattle.layout.proofs.windows.cut_moves.Tie as tie
 

@@ -1,6 +1,6 @@
 -- `moves_of_window` meets its contract. Assumes nothing.
-use Prim.Native.Nat.{ℕ, suc, _+_, _*_, _<_, _≤_}
-use mathlib.Core.Path.{_≡_, _∙_}
+use Prim.Native.Nat.{_+_, _*_, _<_}
+use mathlib.Core.Path.{_∙_}
 use native.Mathlib.Nat.{suc-mul}
 use native.Mathlib.Omega.{arith}
 use Rattle.layout.specs.Limits.{Grows}
