@@ -19,7 +19,7 @@ use Rattle.layout.proofs.OneGrowth.{block-after-added, block-after-old}
 use Rattle.layout.proofs.Bijection.{bijection}
 use Rattle.layout.proofs.GrowthCode.{old-blocks-most}
 
-history-length : (t : ℕ) (l : List ℕ) → length (history t l) ≡ suc t
+pub history-length : (t : ℕ) (l : List ℕ) → length (history t l) ≡ suc t
 unfolding history
 history-length zero l = refl
 history-length (suc t) l = ap suc (history-length t l)

@@ -1,0 +1,113 @@
+-- What the run-time tests of the cases show, and what the layout's code then asks. Assumes nothing.
+use Prim.Native.Nat.{ℕ, zero, suc, _+_, _*_, _≤_, _<_}
+use mathlib.Core.Path.{_≡_}
+use mathlib.Core.Bool.{true, false, false≢true}
+use mathlib.Core.List.{List, [], _∷_}
+use native.Mathlib.Nat.{mul-le-mul}
+use native.Mathlib.Numerals.{add-one}
+use native.Mathlib.Omega.{arith}
+use lib.ListN.{getD}
+use borrow.Author.Tests.{lt-ltb, le-leb}
+use Rattle.layout.specs.declared.GrowthDisks.{GrowthDisks}
+use Rattle.layout.specs.declared.Spot.{Spot}
+use Rattle.layout.specs.Growth.{movesFrom}
+use Rattle.layout.specs.History.{Within, history, diskCount, earlier, oldCount, addedCount, rising, newestGrowth, spotOf}
+use Rattle.layout.specs.Limits.{Limits, Grows, mostRows, mostDisks}
+use Rattle.layout.specs.Windows.{windows, spotOfMark}
+use Rattle.layout.proofs.Booleans.{and-both}
+use Rattle.layout.proofs.Histories.{not-rising, rising-some}
+use Rattle.layout.proofs.HistoryCode.{history-length, history-disks, limits-at, newest-old}
+use Rattle.layout.proofs.MarkSpots.{mark-spot-disk, mark-spot-moves}
+use Rattle.layout.proofs.NewestCode.{old-is, added-is, newest-grows}
+use Rattle.layout.proofs.Theorems.{spots-and-blocks}
+
+-- a test that fails shows nothing
+pub failed : {X : Type 0} → false ≡ true → X
+failed e = absurd (false≢true e)
+
+-- ---- the limits
+
+pub rising-first : (l : List ℕ) → 0 < getD l 0 0 → rising (history 0 l) ≡ true
+unfolding history rising
+rising-first l h = le-leb 1 (getD l 0 0) h
+
+rising-suc : (k : ℕ) (l : List ℕ) → rising (history k l) ≡ true → getD l k 0 < getD l (suc k) 0 → rising (history (suc k) l) ≡ true
+unfolding history rising
+rising-suc zero l r h = and-both (lt-ltb (getD l 0 0) (getD l 1 0) h) r
+rising-suc (suc k) l r h = and-both (lt-ltb (getD l (suc k) 0) (getD l (suc (suc k)) 0) h) r
+
+-- one count more
+pub rising-more : (k : ℕ) (l : List ℕ) → rising (history k l) ≡ true → getD l k 0 < getD l (k + 1) 0 → rising (history (k + 1) l) ≡ true
+rising-more k l r h = rw (add-one k) (rising-suc k l r (rw (add-one k) at h))
+
+-- after the last turn, k = t
+pub limits-made : (s t k : ℕ) (l : List ℕ) → 0 < s → s ≤ mostRows → t ≤ 7 → k ≤ t → t ≤ k → rising (history k l) ≡ true → getD l t 0 ≤ 16
+    → Limits s (history t l)
+limits-made s t k l least most g up down r d =
+    let e : k ≡ t = omega arith in
+    record {
+      rise = rw e at r;
+      disks-most = omega (arith, history-disks t l);
+      growths-most = omega (arith, history-length t l);
+      rows-least = least;
+      rows-most = most;
+    }
+
+-- ---- blocks and spots
+
+-- the number of blocks, as the code has it, does not wrap
+pub blocks-most : (s t : ℕ) (l : List ℕ) → Limits s (history t l) → getD l t 0 * s ≤ 16_000_000
+blocks-most s t l a = let d : getD l t 0 ≤ mostDisks = omega (arith, history-disks t l, a .disks-most) in mul-le-mul d (a .rows-most)
+
+pub blocks-are : (s t : ℕ) (l : List ℕ) → getD l t 0 * s ≤ diskCount (history t l) * s
+blocks-are s t l = rw (history-disks t l) (omega arith)
+
+disks-some : (h : List ℕ) → rising h ≡ true → 0 < diskCount h
+unfolding diskCount
+disks-some [] r = absurd (not-rising r)
+disks-some (c ∷ h) r = rising-some c h r
+
+-- the first spot is one of the volume, and so is the spot of a block
+pub first-within : (s : ℕ) (h : List ℕ) → Limits s h → Within s h (record { disk = 0; row = record { 0 = 0 } })
+first-within s h a = record { disk = disks-some h (a .rise); row = a .rows-least }
+
+pub spot-within : (s : ℕ) (h : List ℕ) (x : ℕ) (p : Spot) → Limits s h → x < diskCount h * s → p ≡ spotOf s h x → Within s h p
+spot-within s h x p a k e = rw e (spots-and-blocks s h (a .rise) .spot-within x k)
+
+-- ---- the newest growth g
+
+old-disks : (j t : ℕ) (l : List ℕ) → t ≡ suc j → oldCount (history t l) ≡ diskCount (history j l)
+unfolding oldCount earlier history
+old-disks j t l e = rw e
+
+module _ (s t : ℕ) (l : List ℕ) (h : 0 < t) (a : Limits s (history t l)) (g : GrowthDisks) (is : g ≡ newestGrowth (history t l)) where
+  some-old : 0 < oldCount (history t l)
+  some-old = newest-old s t l h a
+
+  pub growth-within : Grows (g .old) (g .added)
+  growth-within = newest-grows s (history t l) a some-old g is
+
+  -- what asking for the change of block x takes, where p is its spot before
+  pub change-asks : (j x : ℕ) (p : Spot) → t ≡ suc j → (Limits s (history j l) → Within s (history j l) p)
+      → Grows (g .old) (g .added) × ((s ≤ mostRows) × (x < g .old * s → p .disk < g .old))
+  change-asks j x p e f = (
+    growth-within,
+    (
+      a .rows-most,
+      λ k. omega (arith, f (limits-at s t j l a (omega arith)) .disk, old-is s (history t l) a some-old g is, old-disks j t l e),
+    ),
+  )
+
+  -- r is the number of windows
+  pub windows-are : (r : ℕ) → r ≡ windows (g .old) (g .added) s → r ≤ windows (oldCount (history t l)) (addedCount (history t l)) s
+  windows-are r k =
+      let o = old-is s (history t l) a some-old g is in
+      let n = added-is s (history t l) a some-old g is in
+      omega (arith, rw (o, n) at k)
+
+-- ---- marks
+
+-- what asking for the mark of spot p takes, where p has mark j
+pub mark-asks : (m n w j : ℕ) (p : Spot) → Grows m n → j < m * n → p ≡ spotOfMark m n w j → Grows m n × ((p .disk < m) × (movesFrom m n p ≡ true))
+mark-asks m n w j p g h e =
+    (g, rw e (mark-spot-disk m n (g .old) (g .added) w j h, mark-spot-moves m n (g .old) (g .added) w j h))

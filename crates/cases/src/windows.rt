@@ -1,0 +1,89 @@
+// Windows and marks of the newest growth, asked of the layout behind run-time tests, so that no caller needs a `requires`.
+ghost use mathlib.Core.Path.{_≡_};
+ghost use mathlib.Core.Bool.{true};
+ghost use Prim.Native.Nat.{_*_, _<_, _≤_};
+ghost use Rattle.layout.specs.History.{history, oldCount, addedCount};
+ghost use Rattle.layout.specs.Limits.{Limits, Grows, mostRows};
+ghost use Rattle.layout.specs.Windows.{windows};
+use super::blocks::within;
+use layout::GrowthDisks;
+
+// The windows of the newest growth; 0 outside the limits and where there was no growth.
+pub fn growth_windows(counts: [usize; 8], t: usize, s: usize) -> usize
+    ensures { λ r. ⌜ (0 < r → (0 < t) × Limits s (history t counts)) ⌝ }
+    ensures { λ r. ⌜ r ≤ windows (oldCount (history t counts)) (addedCount (history t counts)) s ⌝ }
+{
+    if t == 0 {
+        return 0;
+    }
+    if !within(counts, t, s) {
+        return 0;
+    }
+    let g = layout::newest_growth(counts, t);
+    layout::window_count(g.old, g.added, s)
+}
+
+// Its old and its added disks; 0 and 0 if it has no window.
+pub fn growth_disks(counts: [usize; 8], t: usize, s: usize) -> GrowthDisks {
+    if growth_windows(counts, t, s) == 0 {
+        return GrowthDisks { old: 0, added: 0 };
+    }
+    layout::newest_growth(counts, t)
+}
+
+// The moves of its window w; 0 if there is no such window.
+pub fn window_moves(counts: [usize; 8], t: usize, s: usize, w: usize) -> usize {
+    if growth_windows(counts, t, s) <= w {
+        return 0;
+    }
+    layout::moves_of_window(counts, t, s, w)
+}
+
+// The advance calls left when it begins; 0 if it has no window.
+pub fn growth_calls(counts: [usize; 8], t: usize, s: usize) -> usize {
+    if growth_windows(counts, t, s) == 0 {
+        return 0;
+    }
+    layout::calls_left(counts, t, s, 0, [false; 64])
+}
+
+// Is the growth from m disks by n within the limits.
+fn grows(m: usize, n: usize) -> bool
+    ensures { λ r. ⌜ (r ≡ true → Grows m n) ⌝ }
+{
+    if m < 1 {
+        return false;
+    }
+    if n < 1 {
+        return false;
+    }
+    if 16 < m {
+        return false;
+    }
+    n <= 16 - m
+}
+
+// Is j a mark of window w whose row exists.
+pub fn mark_exists(m: usize, n: usize, s: usize, w: usize, j: usize) -> bool
+    ensures { λ r. ⌜ (r ≡ true → Grows m n × (w ≤ mostRows) × (j < m * n)) ⌝ }
+{
+    if !grows(m, n) {
+        return false;
+    }
+    if 1_000_000 < w {
+        return false;
+    }
+    if m * n <= j {
+        return false;
+    }
+    layout::row_exists(m, n, s, w, j)
+}
+
+// Is j such a mark, and also the mark of the spot of mark j.
+pub fn mark_agrees(m: usize, n: usize, s: usize, w: usize, j: usize) -> bool {
+    if !mark_exists(m, n, s, w, j) {
+        return false;
+    }
+    let p = layout::spot_of_mark(m, n, w, j);
+    layout::mark_of_spot(m, n, p) == j
+}
