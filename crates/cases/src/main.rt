@@ -151,19 +151,6 @@ fn largest_volume() {
     grown_marks(b"last window", 8, 16, 1_000_000, 62_499);
 }
 
-fn outside() {
-    text(b"8. Outside the limits, and no such block, growth or window\n");
-    show_block(b"no disk", two(0, 5), 0, 5, 0);
-    grown_block(b"17 disks", 3, 17, 5, 0);
-    grown_block(b"counts that do not rise", 5, 5, 5, 0);
-    grown_volume(b"no row", 3, 5, 0);
-    grown_calls(b"1000001 rows", 3, 5, 1_000_001);
-    show_marks(b"8 growths", [1, 2, 3, 4, 5, 6, 7, 8], 8, 5, 0);
-    grown_block(b"past the last block", 3, 5, 5, 25);
-    show_calls(b"calls at format", two(3, 5), 0, 5);
-    grown_marks(b"past the last window", 3, 5, 5, 1);
-}
-
 fn main() {
     document_blocks();
     document_more();
@@ -174,5 +161,4 @@ fn main() {
     cut_windows();
     seven_growths();
     largest_volume();
-    outside();
 }

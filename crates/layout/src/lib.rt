@@ -9,8 +9,6 @@ mod windows;
 
 pub use growth::change_of;
 pub use growth::moves_from;
-pub use growth::new_disk;
-pub use growth::old_disk;
 pub use growth::part_of;
 pub use history::block_at;
 pub use history::newest_growth;
