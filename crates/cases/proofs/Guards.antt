@@ -12,7 +12,7 @@ use Rattle.layout.specs.declared.GrowthDisks.{GrowthDisks}
 use Rattle.layout.specs.declared.Spot.{Spot}
 use Rattle.layout.specs.Growth.{movesFrom}
 use Rattle.layout.specs.History.{Within, history, diskCount, earlier, oldCount, addedCount, rising, newestGrowth, spotOf}
-use Rattle.layout.specs.Limits.{Limits, Grows, mostRows, mostDisks}
+use Rattle.layout.specs.Limits.{Limits, Grows, mostDisks, mostGrowths, mostRows}
 use Rattle.layout.specs.Windows.{windows, spotOfMark}
 use Rattle.layout.proofs.Booleans.{and-both}
 use Rattle.layout.proofs.Histories.{not-rising, rising-some}
@@ -41,7 +41,7 @@ pub rising-more : (k : ℕ) (l : List ℕ) → rising (history k l) ≡ true →
 rising-more k l r h = rw (add-one k) (rising-suc k l r (rw (add-one k) at h))
 
 -- after the last turn, k = t
-pub limits-made : (s t k : ℕ) (l : List ℕ) → 0 < s → s ≤ mostRows → t ≤ 7 → k ≤ t → t ≤ k → rising (history k l) ≡ true → getD l t 0 ≤ 16
+pub limits-made : (s t k : ℕ) (l : List ℕ) → 0 < s → s ≤ mostRows → t ≤ mostGrowths → k ≤ t → t ≤ k → rising (history k l) ≡ true → getD l t 0 ≤ mostDisks
     → Limits s (history t l)
 limits-made s t k l least most g up down r d =
     let e : k ≡ t = omega arith in

@@ -30,10 +30,8 @@ fn show_kind(k: Kind) {
     }
 }
 
-// The start of a case's line: its name, and its history. False, and no history, outside the limits.
-fn show_case(name: &[u8], counts: [usize; 8], t: usize, s: usize) -> bool {
-    text(name);
-    text(b": ");
+// The start of a case's line: its history. False outside the limits.
+fn show_case(counts: [usize; 8], t: usize, s: usize) -> bool {
     if !within(counts, t, s) {
         text(b"outside the limits\n");
         return false;
@@ -43,8 +41,8 @@ fn show_case(name: &[u8], counts: [usize; 8], t: usize, s: usize) -> bool {
 }
 
 // Block x: its spot, what put it there, and the block that is found there.
-pub fn show_block(name: &[u8], counts: [usize; 8], t: usize, s: usize, x: usize) {
-    if !show_case(name, counts, t, s) {
+pub fn show_block(counts: [usize; 8], t: usize, s: usize, x: usize) {
+    if !show_case(counts, t, s) {
         return;
     }
     labelled(b", block", x);
@@ -63,8 +61,8 @@ pub fn show_block(name: &[u8], counts: [usize; 8], t: usize, s: usize, x: usize)
 }
 
 // The newest growth: its windows, the moves of the first and of the last, and its advance calls.
-pub fn show_calls(name: &[u8], counts: [usize; 8], t: usize, s: usize) {
-    if !show_case(name, counts, t, s) {
+pub fn show_calls(counts: [usize; 8], t: usize, s: usize) {
+    if !show_case(counts, t, s) {
         return;
     }
     let windows = growth_windows(counts, t, s);
@@ -96,8 +94,8 @@ fn show_kinds(counts: [usize; 8], t: usize, s: usize) {
 }
 
 // Every block: how many are found again at their spots, and how many of each kind there are.
-pub fn show_volume(name: &[u8], counts: [usize; 8], t: usize, s: usize) {
-    if !show_case(name, counts, t, s) {
+pub fn show_volume(counts: [usize; 8], t: usize, s: usize) {
+    if !show_case(counts, t, s) {
         return;
     }
     labelled(b": blocks", block_count(counts, t, s));
@@ -107,8 +105,8 @@ pub fn show_volume(name: &[u8], counts: [usize; 8], t: usize, s: usize) {
 }
 
 // Window w of the newest growth: its moves, its marks whose rows exist, and those of them that their spots lead back to.
-pub fn show_marks(name: &[u8], counts: [usize; 8], t: usize, s: usize, w: usize) {
-    if !show_case(name, counts, t, s) {
+pub fn show_marks(counts: [usize; 8], t: usize, s: usize, w: usize) {
+    if !show_case(counts, t, s) {
         return;
     }
     labelled(b", window", w);

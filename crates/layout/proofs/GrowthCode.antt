@@ -6,7 +6,7 @@ use native.Mathlib.Omega.{arith}
 use Rattle.layout.specs.declared.Part.{Part}
 use Rattle.layout.specs.declared.Part.the-variants.{Head, Body, Tail}
 use Rattle.layout.specs.Growth.{partOf}
-use Rattle.layout.specs.Limits.{Grows, mostRows}
+use Rattle.layout.specs.Limits.{Grows, mostDisks, mostRows}
 use Rattle.layout.proofs.OneRow.{rule-cases}
 
 -- a row past the head's is at least n-1, so that the way back takes no more off a disk than there is
@@ -22,4 +22,4 @@ past-head m n b1 p is hm hn =
 
 -- there are few enough old blocks that m·s does not wrap
 pub old-blocks-most : (m n s : ℕ) → Grows m n → s ≤ mostRows → m * s ≤ 16_000_000
-old-blocks-most m n s g h = let l : m ≤ 16 = omega (arith, g .most) in mul-le-mul l h
+old-blocks-most m n s g h = let l : m ≤ mostDisks = omega (arith, g .most) in mul-le-mul l h

@@ -12,7 +12,7 @@ use Rattle.layout.specs.declared.GrowthDisks.{GrowthDisks}
 use Rattle.layout.specs.declared.Spot.{Spot}
 use Rattle.layout.specs.Growth.{addedIndex, spotAfter, spotBefore, blockAfter}
 use Rattle.layout.specs.History.{Within, history, diskCount, earlier, oldCount, addedCount, newestGrowth, rising, spotOf, blockAt}
-use Rattle.layout.specs.Limits.{Limits, Grows, mostRows, mostDisks}
+use Rattle.layout.specs.Limits.{Limits, Grows, mostDisks, mostGrowths, mostRows}
 use Rattle.layout.proofs.Histories.{rising-up, rising-earlier, rising-some}
 use Rattle.layout.proofs.OneRow.{old-back}
 use Rattle.layout.proofs.OneGrowth.{block-after-added, block-after-old}
@@ -39,7 +39,7 @@ history-two : (j : ℕ) (l : List ℕ) → history (suc j) l ≡ getD l (suc j) 
 unfolding history
 history-two j l = ap (λ (h : List ℕ). getD l (suc j) 0 ∷ h) (history-one j l)
 
-pub growths-most : (s t : ℕ) (l : List ℕ) → Limits s (history t l) → t ≤ 7
+pub growths-most : (s t : ℕ) (l : List ℕ) → Limits s (history t l) → t ≤ mostGrowths
 growths-most s t l a = omega (arith, a .growths-most, history-length t l)
 
 -- ---- one growth back, from suc j growths to j
@@ -54,7 +54,7 @@ module _ (s j : ℕ) (l : List ℕ) (a : Limits s (history (suc j) l)) where
   rise-one : rising (getD l j 0 ∷ earlier (history j l)) ≡ true
   rise-one = rising-earlier _ _ _ rise-two
 
-  count-most : getD l (suc j) 0 ≤ 16
+  count-most : getD l (suc j) 0 ≤ mostDisks
   count-most = omega (arith, history-disks (suc j) l, a .disks-most)
 
   pub grows : Grows (getD l j 0) (getD l (suc j) 0 - getD l j 0)

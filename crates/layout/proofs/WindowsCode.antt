@@ -7,20 +7,21 @@ use native.Mathlib.Omega.{arith}
 use lib.Dec.{leb, ltb}
 use borrow.Author.Tests.{leb-true}
 use Rattle.layout.specs.Below.{every}
-use Rattle.layout.specs.Limits.{Grows, mostRows}
+use Rattle.layout.specs.Limits.{Grows, mostDisks, mostRows}
 use Rattle.layout.specs.Windows.{windows, cutMoves, laterMoves}
 use Rattle.layout.proofs.Booleans.{cond-cases}
 use Rattle.layout.proofs.Counting.{every-use, sum-most}
 
--- a window has at most 64 marks: one computed test of all m and n with m+n at most 16
-products : every (λ m. every (λ n. leb (m * n) 64) (17 - m)) 17 ≡ true
+-- a window has at most 64 marks: one computed test of all m and n with m+n at most that of the limits
+products : every (λ m. every (λ n. leb (m * n) 64) (suc mostDisks - m)) (suc mostDisks) ≡ true
 unfolding every
 products = refl
 
-pub marks-most : (m n : ℕ) → m + n ≤ 16 → m * n ≤ 64
+pub marks-most : (m n : ℕ) → m + n ≤ mostDisks → m * n ≤ 64
 marks-most m n h =
     leb-true (m * n) 64
-    (every-use (λ k. leb (m * k) 64) (17 - m) (every-use (λ j. every (λ k. leb (j * k) 64) (17 - j)) 17 products m (omega arith)) n (omega arith))
+    (every-use (λ k. leb (m * k) 64) (suc mostDisks - m)
+    (every-use (λ j. every (λ k. leb (j * k) 64) (suc mostDisks - j)) (suc mostDisks) products m (omega arith)) n (omega arith))
 
 -- there are no more windows than rows
 pub windows-most : (m n s : ℕ) → 0 < n → windows m n s ≤ s
@@ -35,12 +36,12 @@ module _ (m n : ℕ) (g : Grows m n) where
   pub cut-most : (r : ℕ) → cutMoves m n r ≤ 256
   unfolding cutMoves
   cut-most r =
-      let k : min m r ≤ 16 = omega (arith, g .most) in
-      omega (arith, sum-most (λ d. min n (r - d)) (min m r) 16 (λ d. omega (arith, g .most)))
+      let k : min m r ≤ mostDisks = omega (arith, g .most) in
+      omega (arith, sum-most (λ d. min n (r - d)) (min m r) mostDisks (λ d. omega (arith, g .most)))
 
   pub whole-most : (s w : ℕ) → s ≤ mostRows → (s / (m + n) - w) * (m * n) ≤ 64_000_000
   whole-most s w h =
-      let k : s / (m + n) - w ≤ 1_000_000 = omega (arith, div-le-self s (m + n)) in
+      let k : s / (m + n) - w ≤ mostRows = omega (arith, div-le-self s (m + n)) in
       mul-le-mul k (marks-most m n (g .most))
 
   pub later-most : (s w : ℕ) → s ≤ mostRows → laterMoves m n s w ≤ 64_000_256

@@ -38,7 +38,7 @@ pub struct GrowthDisks {
     pub added: usize,
 }
 
-// By which rule a moving block got its new disk.
+// Document 01's head, body and tail: by which rule a moving block gets its new disk.
 pub enum Part {
     Head,
     Body,

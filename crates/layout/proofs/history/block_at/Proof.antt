@@ -3,6 +3,7 @@ use Prim.Native.Nat.{_-_, _≤_}
 use mathlib.Core.Path.{_≡_, refl, _∙_}
 use native.Mathlib.Omega.{arith}
 use borrow.Author.Needs.{needs}
+use Rattle.layout.specs.Limits.{mostGrowths}
 use Rattle.layout.specs.History.{Within, history, blockAt}
 use Rattle.layout.proofs.HistoryCode.{growths-most, BackTurn, back-turn, back-added, back-older, first-most, turn-disk-most, block-first}
 use Rattle.layout.proofs.history.block_at.Statement.{statement}
@@ -10,7 +11,7 @@ use Rattle.layout.proofs.history.block_at.Tie as tie
 
 abbrev Inv-loop : tie.InvT-loop
 Inv-loop t s counts b q₀ k₀ q k =
-    (k ≤ t) × (t ≤ 7) × Within s (history k counts) q × (q .row .0 ≡ b) × (blockAt s (history k counts) q ≡ blockAt s (history t counts) q₀)
+    (k ≤ t) × (t ≤ mostGrowths) × Within s (history k counts) q × (q .row .0 ≡ b) × (blockAt s (history k counts) q ≡ blockAt s (history t counts) q₀)
 
 abbrev μ-loop : tie.MeasureT-loop
 μ-loop t s counts b q₀ k₀ q k = k

@@ -3,13 +3,14 @@ use Prim.Native.Nat.{_-_, _≤_}
 use mathlib.Core.Path.{_≡_}
 use native.Mathlib.Omega.{arith}
 use borrow.Author.Needs.{needs}
+use Rattle.layout.specs.Limits.{mostGrowths}
 use Rattle.layout.specs.History.{history, spotOf}
 use Rattle.layout.proofs.HistoryCode.{growths-most, first-count, turn-up, turn-grows, turn-disk, spot-first, spot-next}
 use Rattle.layout.proofs.history.spot_of.Statement.{statement}
 use Rattle.layout.proofs.history.spot_of.Tie as tie
 
 abbrev Inv-loop : tie.InvT-loop
-Inv-loop t s counts n0 number p₀ k₀ p k = (k ≤ t) × (t ≤ 7) × (p ≡ spotOf s (history k counts) number)
+Inv-loop t s counts n0 number p₀ k₀ p k = (k ≤ t) × (t ≤ mostGrowths) × (p ≡ spotOf s (history k counts) number)
 
 abbrev μ-loop : tie.MeasureT-loop
 μ-loop t s counts n0 number p₀ k₀ p k = t - k

@@ -6,6 +6,7 @@ use borrow.Author.Needs.{needs}
 use Rattle.layout.specs.Growth.{movesFrom}
 use Rattle.layout.specs.Windows.{markOfSpot}
 use Rattle.layout.proofs.OneRow.{moves-rows}
+use Rattle.layout.specs.Limits.{mostDisks}
 use Rattle.layout.proofs.windows.mark_of_spot.Statement.{statement}
 use Rattle.layout.proofs.windows.mark_of_spot.Tie as tie
 
@@ -17,8 +18,8 @@ rem-b1 c = search needs
 
 most : (c : tie.Start) → c .args .p .disk * c .args .n ≤ 256
 most c =
-    let d : c .args .p .disk ≤ 16 = omega arith in
-    let n : c .args .n ≤ 16 = omega arith in
+    let d : c .args .p .disk ≤ mostDisks = omega arith in
+    let n : c .args .n ≤ mostDisks = omega arith in
     mul-le-mul d n
 
 mul-result : tie.Need-mul-result
