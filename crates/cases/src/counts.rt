@@ -1,10 +1,9 @@
-// How many blocks and marks pass a test.
+// How many blocks and marks are found again.
 use super::blocks::Kind;
 use super::blocks::block_count;
 use super::blocks::block_there;
 use super::blocks::kind_of;
 use super::windows::mark_agrees;
-use super::windows::mark_exists;
 
 // One number for each kind.
 fn kind_number(k: Kind) -> usize {
@@ -19,18 +18,21 @@ fn kind_number(k: Kind) -> usize {
     }
 }
 
-// Is block x of this kind.
-fn is_kind(counts: [usize; 8], t: usize, s: usize, x: usize, wanted: Kind) -> bool {
+// Is block x of this kind, and found again at its spot.
+fn is_found(counts: [usize; 8], t: usize, s: usize, x: usize, wanted: Kind) -> bool {
+    if block_there(counts, t, s, x) != x {
+        return false;
+    }
     kind_number(kind_of(counts, t, s, x)) == kind_number(wanted)
 }
 
-// The blocks of this kind.
-pub fn blocks_of_kind(counts: [usize; 8], t: usize, s: usize, wanted: Kind) -> usize {
+// The blocks of this kind that are found again at their spots.
+pub fn blocks_found(counts: [usize; 8], t: usize, s: usize, wanted: Kind) -> usize {
     let end = block_count(counts, t, s);
     let mut total = 0;
     let mut x = 0;
     while x < end {
-        if is_kind(counts, t, s, x, wanted) {
+        if is_found(counts, t, s, x, wanted) {
             total += 1;
         }
         x += 1;
@@ -38,34 +40,7 @@ pub fn blocks_of_kind(counts: [usize; 8], t: usize, s: usize, wanted: Kind) -> u
     total
 }
 
-// The blocks that are found again at their spots.
-pub fn blocks_found(counts: [usize; 8], t: usize, s: usize) -> usize {
-    let end = block_count(counts, t, s);
-    let mut total = 0;
-    let mut x = 0;
-    while x < end {
-        if block_there(counts, t, s, x) == x {
-            total += 1;
-        }
-        x += 1;
-    }
-    total
-}
-
-// The marks of window w whose rows exist.
-pub fn marks_existing(m: usize, n: usize, s: usize, w: usize) -> usize {
-    let mut total = 0;
-    let mut j = 0;
-    while j < 64 {
-        if mark_exists(m, n, s, w, j) {
-            total += 1;
-        }
-        j += 1;
-    }
-    total
-}
-
-// Those of them that their spots lead back to.
+// The marks of window w whose rows exist and that their spots lead back to.
 pub fn marks_found(m: usize, n: usize, s: usize, w: usize) -> usize {
     let mut total = 0;
     let mut j = 0;

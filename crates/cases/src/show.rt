@@ -6,8 +6,6 @@ use super::blocks::kind_of;
 use super::blocks::spot;
 use super::blocks::within;
 use super::counts::blocks_found;
-use super::counts::blocks_of_kind;
-use super::counts::marks_existing;
 use super::counts::marks_found;
 use super::print::labelled;
 use super::print::show_history;
@@ -77,34 +75,34 @@ pub fn show_calls(counts: [usize; 8], t: usize, s: usize) {
     text(b"\n");
 }
 
-// How many blocks of each kind there are.
+// How many blocks of each kind are found again at their spots.
 fn show_kinds(counts: [usize; 8], t: usize, s: usize) {
     if t == 0 {
         labelled(
-            b", set out at format",
-            blocks_of_kind(counts, t, s, Kind::Format),
+            b"set out at format",
+            blocks_found(counts, t, s, Kind::Format),
         );
         return;
     }
-    labelled(b", moved as head", blocks_of_kind(counts, t, s, Kind::Head));
-    labelled(b", as body", blocks_of_kind(counts, t, s, Kind::Body));
-    labelled(b", as tail", blocks_of_kind(counts, t, s, Kind::Tail));
-    labelled(b", added", blocks_of_kind(counts, t, s, Kind::Added));
-    labelled(b", stay", blocks_of_kind(counts, t, s, Kind::Stays));
+    labelled(b"moved as head", blocks_found(counts, t, s, Kind::Head));
+    labelled(b", as body", blocks_found(counts, t, s, Kind::Body));
+    labelled(b", as tail", blocks_found(counts, t, s, Kind::Tail));
+    labelled(b", added", blocks_found(counts, t, s, Kind::Added));
+    labelled(b", stay", blocks_found(counts, t, s, Kind::Stays));
 }
 
-// Every block: how many are found again at their spots, and how many of each kind there are.
+// Every block: how many there are, and how many of each kind are found again at their spots.
 pub fn show_volume(counts: [usize; 8], t: usize, s: usize) {
     if !show_case(counts, t, s) {
         return;
     }
     labelled(b": blocks", block_count(counts, t, s));
-    labelled(b", found at their spots", blocks_found(counts, t, s));
+    text(b", found at their spots: ");
     show_kinds(counts, t, s);
     text(b"\n");
 }
 
-// Window w of the newest growth: its moves, its marks whose rows exist, and those of them that their spots lead back to.
+// Window w of the newest growth: its moves, and its marks that their spots lead back to.
 pub fn show_marks(counts: [usize; 8], t: usize, s: usize, w: usize) {
     if !show_case(counts, t, s) {
         return;
@@ -116,9 +114,8 @@ pub fn show_marks(counts: [usize; 8], t: usize, s: usize, w: usize) {
     }
     let g = growth_disks(counts, t, s);
     labelled(b": moves", window_moves(counts, t, s, w));
-    labelled(b", marks with a row", marks_existing(g.old, g.added, s, w));
     labelled(
-        b", found from their spots",
+        b", marks found from their spots",
         marks_found(g.old, g.added, s, w),
     );
     text(b"\n");

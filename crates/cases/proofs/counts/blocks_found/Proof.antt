@@ -7,10 +7,10 @@ use Rattle.cases.proofs.counts.blocks_found.Statement.{statement}
 use Rattle.cases.proofs.counts.blocks_found.Tie as tie
 
 abbrev Inv-loop : tie.InvT-loop
-Inv-loop counts t s end total₀ x₀ total x = (x ≤ end) × (total ≤ x)
+Inv-loop counts t s wanted end total₀ x₀ total x = (x ≤ end) × (total ≤ x)
 
 abbrev μ-loop : tie.MeasureT-loop
-μ-loop counts t s end total₀ x₀ total x = end - x
+μ-loop counts t s wanted end total₀ x₀ total x = end - x
 
 block-count-requires : tie.Need-block-count-requires Inv-loop μ-loop
 block-count-requires c κs = search needs
@@ -18,8 +18,8 @@ block-count-requires c κs = search needs
 loop-holds : tie.Need-loop-holds Inv-loop μ-loop
 loop-holds c = search needs
 
-block-there-requires : tie.Need-block-there-requires Inv-loop μ-loop
-block-there-requires c κs = search needs
+is-found-requires : tie.Need-is-found-requires Inv-loop μ-loop
+is-found-requires c κs = search needs
 
 add-total : tie.Need-add-total Inv-loop μ-loop
 add-total c = search needs
@@ -44,7 +44,7 @@ blocks-found-spec =
     μ-loop
     block-count-requires
     loop-holds
-    block-there-requires
+    is-found-requires
     add-total
     add-x
     loop-less
