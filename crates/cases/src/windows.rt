@@ -64,7 +64,7 @@ fn grows(m: usize, n: usize) -> bool
 }
 
 // Is j a mark of window w whose row exists.
-pub fn mark_exists(m: usize, n: usize, s: usize, w: usize, j: usize) -> bool
+fn mark_exists(m: usize, n: usize, s: usize, w: usize, j: usize) -> bool
     ensures { λ r. ⌜ (r ≡ true → Grows m n × (w ≤ mostRows) × (j < m * n)) ⌝ }
 {
     if !grows(m, n) {
