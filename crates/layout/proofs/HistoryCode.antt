@@ -44,15 +44,19 @@ growths-most s t l a = omega (arith, a .growths-most, history-length t l)
 
 -- ---- one growth back, from suc j growths to j
 
-module _ (s j : ℕ) (l : List ℕ) (a : Limits s (history (suc j) l)) where
-  pub rise-two : rising (getD l (suc j) 0 ∷ getD l j 0 ∷ earlier (history j l)) ≡ true
-  rise-two = subst (λ (h : List ℕ). rising h ≡ true) (history-two j l) (a .rise)
+rise-two : (j : ℕ) (l : List ℕ) → rising (history (suc j) l) ≡ true → rising (getD l (suc j) 0 ∷ getD l j 0 ∷ earlier (history j l)) ≡ true
+rise-two j l r = subst (λ (h : List ℕ). rising h ≡ true) (history-two j l) r
 
-  pub count-up : getD l j 0 < getD l (suc j) 0
-  count-up = rising-up _ _ _ rise-two
+-- with k for suc j, as the code has it
+pub count-up : (j k : ℕ) (l : List ℕ) → k ≡ suc j → rising (history k l) ≡ true → getD l j 0 < getD l k 0
+count-up j k l e r = rw e (rising-up _ _ _ (rise-two j l (rw e at r)))
+
+module _ (s j : ℕ) (l : List ℕ) (a : Limits s (history (suc j) l)) where
+  up : getD l j 0 < getD l (suc j) 0
+  up = count-up j (suc j) l refl (a .rise)
 
   rise-one : rising (getD l j 0 ∷ earlier (history j l)) ≡ true
-  rise-one = rising-earlier _ _ _ rise-two
+  rise-one = rising-earlier _ _ _ (rise-two j l (a .rise))
 
   count-most : getD l (suc j) 0 ≤ mostDisks
   count-most = omega (arith, history-disks (suc j) l, a .disks-most)
@@ -61,15 +65,15 @@ module _ (s j : ℕ) (l : List ℕ) (a : Limits s (history (suc j) l)) where
   grows =
       record {
         old = rising-some _ _ rise-one;
-        added = omega (arith, count-up);
-        most = omega (arith, count-up, count-most);
+        added = omega (arith, up);
+        most = omega (arith, up, count-most);
       }
 
   one-earlier : Limits s (history j l)
   one-earlier =
       record {
         rise = subst (λ (h : List ℕ). rising h ≡ true) (sym (history-one j l)) rise-one;
-        disks-most = omega (arith, history-disks j l, count-up, count-most);
+        disks-most = omega (arith, history-disks j l, up, count-most);
         growths-most = omega (arith, a .growths-most, history-length j l, history-length (suc j) l);
         rows-least = a .rows-least;
         rows-most = a .rows-most;
@@ -93,7 +97,7 @@ module _ (s t k : ℕ) (l : List ℕ) (a : Limits s (history t l)) where
   next-limits h = limits-at s t (suc k) l a h
 
   pub turn-up : k < t → getD l k 0 < getD l (k + 1) 0
-  turn-up h = rw add-one (count-up s k l (next-limits h))
+  turn-up h = count-up k (k + 1) l (add-one k) (rw add-one (next-limits h .rise))
 
   pub turn-grows : k < t → Grows (getD l k 0) (getD l (k + 1) 0 - getD l k 0)
   turn-grows h = rw add-one (grows s k l (next-limits h))
@@ -140,7 +144,7 @@ module _ (s t j k : ℕ) (l : List ℕ) (a : Limits s (history t l)) (e : k ≡ 
   here = limits-at s t (suc j) l a (omega arith)
 
   pub back-up : getD l j 0 < getD l k 0
-  back-up = rw e (count-up s j l here)
+  back-up = count-up j k l e (limits-at s t k l a h .rise)
 
   pub back-grows : Grows (getD l j 0) (getD l k 0 - getD l j 0)
   back-grows = rw e (grows s j l here)
@@ -205,9 +209,6 @@ pub newest-is : (j k : ℕ) (l : List ℕ) → k ≡ suc j
     → _≡_ {A = GrowthDisks} (record { old = getD l j 0; added = getD l k 0 - getD l j 0 }) (newestGrowth (history k l))
 unfolding newestGrowth oldCount addedCount earlier diskCount
 newest-is j k l e = rw (e, history-two j l)
-
-pub newest-up : (j k : ℕ) (l : List ℕ) → k ≡ suc j → rising (history k l) ≡ true → getD l j 0 < getD l k 0
-newest-up j k l e r = rw e (rising-up _ _ _ (subst (λ (h : List ℕ). rising h ≡ true) (history-two j l) (rw e at r)))
 
 -- there is one where there was a growth
 pub newest-old : (s t : ℕ) (l : List ℕ) → 0 < t → Limits s (history t l) → 0 < oldCount (history t l)

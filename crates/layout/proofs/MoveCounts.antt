@@ -173,10 +173,6 @@ module _ (s c m : ℕ) (h : List ℕ) (r : rising (c ∷ m ∷ h) ≡ true) wher
   unfolding uncopied oldCount earlier diskCount
   closed w copied = rw (by-marks w (λ x. not (copied x)), later-is w)
 
-  pub counts-law : Counts s (c ∷ m ∷ h)
-  unfolding oldCount addedCount earlier diskCount
-  counts-law = record { whole-window = whole; cut-window = cut; closed-form = closed }
-
   -- the calls left, where the copied blocks of window w are those with a mark
   marked-is : (w j : ℕ) (marks : List Bool) → j < m * n → rowExists m n s w j ≡ true → markedBlocks s H w marks (blockOfMark s H w j) ≡ getD marks j false
   unfolding markedBlocks oldCount addedCount earlier diskCount
@@ -184,7 +180,7 @@ module _ (s c m : ℕ) (h : List ℕ) (r : rising (c ∷ m ∷ h) ≡ true) wher
       let t = laws .mark-moves w j hj e in
       rw (moving-in w (blockOfMark s H w j) (t .0) (t .1), t .2)
 
-  pub calls-left : (w : ℕ) (marks : List Bool) → callsLeft s H w (markedBlocks s H w marks) ≡ callsLeftByMarks m n s w marks
+  calls-left : (w : ℕ) (marks : List Bool) → callsLeft s H w (markedBlocks s H w marks) ≡ callsLeftByMarks m n s w marks
   unfolding callsLeft callsLeftByMarks oldCount addedCount earlier diskCount
   calls-left w marks =
       rw (closed w (markedBlocks s H w marks), count-ext _ (λ j. rowExists m n s w j && not (getD marks j false)) (m * n) (λ j hj. by j hj (rowExists m n s w j) refl))
@@ -193,3 +189,7 @@ module _ (s c m : ℕ) (h : List ℕ) (r : rising (c ∷ m ∷ h) ≡ true) wher
           → (t && not (markedBlocks s H w marks (blockOfMark s H w j))) ≡ (t && not (getD marks j false))
       by j hj true e = ap not (marked-is w j marks hj e)
       by j hj false e = refl
+
+  pub counts-law : Counts s (c ∷ m ∷ h)
+  unfolding oldCount addedCount earlier diskCount
+  counts-law = record { whole-window = whole; cut-window = cut; closed-form = closed; calls-by-marks = calls-left }

@@ -10,7 +10,7 @@ use Rattle.layout.specs.Limits.{Limits, Grows, mostGrowths}
 use Rattle.layout.specs.Windows.{windows, markedBlocks, movesOfWindow, callsLeft, cutMoves, callsLeftByMarks}
 use Rattle.layout.proofs.MarkSpots.{window-row}
 use Rattle.layout.proofs.HistoryCode.{growths-most}
-use Rattle.layout.proofs.Theorems.{some-added, disks-sum, move-counts, calls-by-marks}
+use Rattle.layout.proofs.Theorems.{some-added, disks-sum, move-counts}
 
 -- what reading it asks
 pub newest-asks : (s t : ℕ) (l : List ℕ) → 0 < t → Limits s (history t l) → (0 < t) × (t ≤ mostGrowths) × (rising (history t l) ≡ true)
@@ -44,4 +44,4 @@ module _ (s : ℕ) (h : List ℕ) (a : Limits s h) (o : 0 < oldCount h) (g : Gro
   cut-is w r k = rw (old-is, added-is) (sym (move-counts s h (a .rise) o .cut-window w r (rw (old-is, added-is) at k)))
 
   pub calls-are : (w : ℕ) (marks : List Bool) → callsLeftByMarks (g .old) (g .added) s w marks ≡ callsLeft s h w (markedBlocks s h w marks)
-  calls-are w marks = rw (old-is, added-is) (sym (calls-by-marks s h (a .rise) o w marks))
+  calls-are w marks = rw (old-is, added-is) (sym (move-counts s h (a .rise) o .calls-by-marks w marks))

@@ -1,4 +1,4 @@
--- The theorems of the layout, each under the claim of `specs/Laws.antt` or `specs/Cases.antt` that it proves. Assumes nothing.
+-- The laws of the layout: `layout-laws` proves all of `LayoutLaws` in `specs/Laws.antt`. Assumes nothing.
 use Prim.Native.Nat.{ℕ, _+_, _-_, _<_}
 use mathlib.Core.Path.{_≡_, refl}
 use mathlib.Core.Bool.{Bool, true}
@@ -7,9 +7,9 @@ use native.Mathlib.Omega.{arith}
 use Rattle.layout.specs.Below.{count}
 use Rattle.layout.specs.Growth.{minusMod, moves, partOf, newDisk, diskAfter, movesFrom, oldBlockSpot, addedDisk, addedSpot, spotAfter, changeOf, addedIndex, oldDisk, diskBefore, spotBefore, blockAfter}
 use Rattle.layout.specs.History.{diskCount, earlier, oldCount, addedCount, rising, spotOf, blockAt}
-use Rattle.layout.specs.Windows.{windows, windowOfRow, oldSpot, moving, windowOf, movingIn, markedBlocks, uncopied, callsLeft, callsLeftByMarks}
+use Rattle.layout.specs.Windows.{windows, windowOfRow, oldSpot, moving, windowOf, movingIn, uncopied, callsLeft}
 use Rattle.layout.specs.Limits.{Limits}
-use Rattle.layout.specs.Laws.{RemainderOf, Bijection, Moving, LiveSpots, Marks, MarksFit, Counts}
+use Rattle.layout.specs.Laws.{RemainderOf, Bijection, Moving, LiveSpots, Marks, MarksFit, Counts, LayoutLaws}
 use Rattle.layout.specs.Cases.{TableHolds, worked}
 use Rattle.layout.proofs.Histories.{rising-up}
 use Rattle.layout.proofs.Remainder.{remainder}
@@ -17,7 +17,7 @@ use Rattle.layout.proofs.Bijection.{bijection}
 use Rattle.layout.proofs.NewestGrowth.{moving-law}
 use Rattle.layout.proofs.LiveSpots.{live-law}
 use Rattle.layout.proofs.MarkBlocks.{marks-law}
-use Rattle.layout.proofs.MoveCounts.{counts-law, calls-left}
+use Rattle.layout.proofs.MoveCounts.{counts-law}
 use Rattle.layout.proofs.WindowsCode.{marks-most}
 
 -- the remainder of b-(n-1) is the true one, also for b < n-1
@@ -57,13 +57,6 @@ module _ (s : ℕ) (h : List ℕ) (r : rising h ≡ true) (g : 0 < oldCount h) w
   pub move-counts : Counts s h
   move-counts = has-growth (Counts s) (counts-law s) h r g
 
-  pub calls-by-marks : (w : ℕ) (marks : List Bool)
-      → callsLeft s h w (markedBlocks s h w marks) ≡ callsLeftByMarks (oldCount h) (addedCount h) s w marks
-  unfolding addedCount oldCount earlier diskCount
-  calls-by-marks w marks =
-      has-growth (λ k. callsLeft s k w (markedBlocks s k w marks) ≡ callsLeftByMarks (oldCount k) (addedCount k) s w marks)
-      (λ c m k q. calls-left s c m k q w marks) h r g
-
 -- within the limits a window has at most 64 marks
 pub marks-fit : (s : ℕ) (h : List ℕ) → Limits s h → 0 < oldCount h → MarksFit h
 marks-fit s h a g = marks-most (oldCount h) (addedCount h) (omega (arith, disks-sum s h (a .rise) g, a .disks-most))
@@ -72,3 +65,16 @@ marks-fit s h a g = marks-most (oldCount h) (addedCount h) (omega (arith, disks-
 pub layout-cases : TableHolds
 unfolding worked spotOf blockAt changeOf callsLeft uncopied count moving movingIn windowOf windowOfRow windows oldSpot oldCount addedCount earlier diskCount spotAfter spotBefore blockAfter oldBlockSpot addedSpot diskAfter newDisk moves movesFrom partOf addedDisk minusMod diskBefore oldDisk addedIndex
 layout-cases = refl
+
+pub layout-laws : LayoutLaws
+layout-laws =
+    record {
+      remainder-true = remainder-true;
+      spots-and-blocks = spots-and-blocks;
+      moving-blocks = moving-blocks;
+      live-spots = live-spots;
+      marks-and-blocks = marks-and-blocks;
+      marks-fit = marks-fit;
+      move-counts = move-counts;
+      layout-cases = layout-cases;
+    }

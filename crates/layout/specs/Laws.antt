@@ -1,5 +1,5 @@
--- What is proved of the layout, each law as a record of facts. `proofs/Theorems.antt` has the proofs.
--- m and n are the newest growth's. None but `MarksFit` rests on the limit of 16 disks. Assumes nothing.
+-- What is proved of the layout: each law as a record of facts, and in `LayoutLaws` all of them with what each asks.
+-- `proofs/Theorems.antt` has the proof. None but `MarksFit` rests on the limit of 16 disks. Assumes nothing.
 use Prim.Native.Nat.{ℕ, suc, _+_, _-_, _*_, _%_, _≤_, _<_}
 use mathlib.Core.Path.{_≡_}
 use mathlib.Core.Bool.{Bool, true, false, not, _&&_}
@@ -7,9 +7,12 @@ use mathlib.Core.List.{List}
 use mathlib.Core.Option.{some}
 use Rattle.layout.specs.declared.Spot.{Spot}
 use Rattle.layout.specs.Below.{count}
-use Rattle.layout.specs.History.{diskCount, oldCount, addedCount, Within, spotOf, blockAt}
-use Rattle.layout.specs.Windows.{windows, rowExists, oldSpot, moving, windowOf, markOf, blockOfMark, movesOfWindow, uncopied, cutMoves, laterMoves}
+use Rattle.layout.specs.Growth.{minusMod}
+use Rattle.layout.specs.History.{diskCount, oldCount, addedCount, rising, Within, spotOf, blockAt}
+use Rattle.layout.specs.Windows.{windows, rowExists, oldSpot, moving, windowOf, markOf, blockOfMark, markedBlocks, movesOfWindow, uncopied, callsLeft, cutMoves, laterMoves, callsLeftByMarks}
 use Rattle.layout.specs.Live.{liveSpot, liveBlock}
+use Rattle.layout.specs.Limits.{Limits}
+use Rattle.layout.specs.Cases.{TableHolds}
 
 -- r is the remainder of a - c by k, also where a is less than c; no other number is
 pub record RemainderOf (a c k r : ℕ) : Type 0 where
@@ -53,7 +56,7 @@ pub record Marks (s : ℕ) (h : List ℕ) : Type 0 where
   pub some-block : (w : ℕ) → w < windows (oldCount h) (addedCount h) s → (x : ℕ) × (moving s h x ≡ true) × (windowOf s h x ≡ w)
 
 -- within the limit of 16 disks a window has at most 64 marks
-abbrev pub MarksFit : List ℕ → Type 0
+abbrev pub MarksFit : (h : List ℕ) → Type 0
 MarksFit h = oldCount h * addedCount h ≤ 64
 
 -- how many blocks move
@@ -64,3 +67,19 @@ pub record Counts (s : ℕ) (h : List ℕ) : Type 0 where
   pub closed-form : (w : ℕ) (copied : ℕ → Bool) → uncopied s h w copied
       ≡ count (λ j. rowExists (oldCount h) (addedCount h) s w j && not (copied (blockOfMark s h w j))) (oldCount h * addedCount h)
       + laterMoves (oldCount h) (addedCount h) s w
+  -- U + R - w from the marks of the copied blocks of window w
+  pub calls-by-marks : (w : ℕ) (marks : List Bool)
+      → callsLeft s h w (markedBlocks s h w marks) ≡ callsLeftByMarks (oldCount h) (addedCount h) s w marks
+
+-- All laws. A history has a growth where its old disks are more than 0.
+pub record LayoutLaws : Type 0 where
+  -- the remainder of b-(n-1) is the true one, also for b < n-1
+  pub remainder-true : (m n b : ℕ) → 0 < n → RemainderOf b (n - 1) (m + n) (minusMod b (n - 1) (m + n))
+  pub spots-and-blocks : (s : ℕ) (h : List ℕ) → rising h ≡ true → Bijection s h
+  pub moving-blocks : (s : ℕ) (h : List ℕ) → rising h ≡ true → 0 < oldCount h → Moving s h
+  pub live-spots : (s : ℕ) (h : List ℕ) → rising h ≡ true → 0 < oldCount h → (moved : ℕ → Bool) → LiveSpots s h moved
+  pub marks-and-blocks : (s : ℕ) (h : List ℕ) → rising h ≡ true → 0 < oldCount h → Marks s h
+  pub marks-fit : (s : ℕ) (h : List ℕ) → Limits s h → 0 < oldCount h → MarksFit h
+  pub move-counts : (s : ℕ) (h : List ℕ) → rising h ≡ true → 0 < oldCount h → Counts s h
+  -- L1 to L12
+  pub layout-cases : TableHolds

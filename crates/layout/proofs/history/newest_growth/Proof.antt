@@ -2,7 +2,7 @@
 use Prim.Native.Nat.{_-_}
 use native.Mathlib.Omega.{arith}
 use borrow.Author.Needs.{needs}
-use Rattle.layout.proofs.HistoryCode.{newest-is, newest-up}
+use Rattle.layout.proofs.HistoryCode.{count-up, newest-is}
 use Rattle.layout.proofs.history.newest_growth.Statement.{statement}
 use Rattle.layout.proofs.history.newest_growth.Tie as tie
 
@@ -22,7 +22,7 @@ array-read-added : tie.Need-array-read-added
 array-read-added c = search needs
 
 sub-added : tie.Need-sub-added
-sub-added c = omega (arith, newest-up (c .args .t - 1) (c .args .t) (c .args .t1) (omega arith) (c .pre .2))
+sub-added c = omega (arith, count-up (c .args .t - 1) (c .args .t) (c .args .t1) (omega arith) (c .pre .2))
 
 returns : tie.Need-returns
 returns c = newest-is (c .args .t - 1) (c .args .t) (c .args .t1) (omega arith)

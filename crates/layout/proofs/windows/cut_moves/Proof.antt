@@ -1,16 +1,17 @@
--- `cut_moves` meets its contract. The loop's invariant: the total is the sum over the disks passed, each of at most 16. Assumes nothing.
+-- `cut_moves` meets its contract. The loop's invariant: the total is the sum over the disks passed, each of at most as many as there may be disks. Assumes nothing.
 use Prim.Native.Nat.{_+_, _-_, _*_, _≤_, min}
 use mathlib.Core.Path.{_≡_, refl}
 use mathlib.Core.Logic.{⊎-elim}
 use native.Mathlib.Omega.{arith}
 use Rattle.layout.specs.Below.{sum}
+use Rattle.layout.specs.Limits.{mostDisks}
 use Rattle.layout.specs.Windows.{cutMoves}
 use Rattle.layout.proofs.Counting.{sum-next}
 use Rattle.layout.proofs.windows.cut_moves.Statement.{statement}
 use Rattle.layout.proofs.windows.cut_moves.Tie as tie
 
 abbrev Inv-loop : tie.InvT-loop
-Inv-loop m n r end total₀ d₀ total d = (d ≤ end) × (end ≡ min m r) × (total ≡ sum (λ k. min n (r - k)) d) × (total ≤ d * 16)
+Inv-loop m n r end total₀ d₀ total d = (d ≤ end) × (end ≡ min m r) × (total ≡ sum (λ k. min n (r - k)) d) × (total ≤ d * mostDisks)
 
 abbrev μ-loop : tie.MeasureT-loop
 μ-loop m n r end total₀ d₀ total d = end - d
