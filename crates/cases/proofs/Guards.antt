@@ -14,7 +14,7 @@ use Rattle.layout.specs.Growth.{movesFrom}
 use Rattle.layout.specs.History.{Within, history, diskCount, earlier, oldCount, addedCount, rising, newestGrowth, spotOf}
 use Rattle.layout.specs.Limits.{Limits, Grows, mostDisks, mostGrowths, mostRows}
 use Rattle.layout.specs.Windows.{windows, spotOfMark}
-use Rattle.layout.proofs.Booleans.{and-both}
+use Rattle.base.proofs.Booleans.{and-both}
 use Rattle.layout.proofs.Histories.{not-rising, rising-some}
 use Rattle.layout.proofs.HistoryCode.{history-length, history-disks, limits-at, newest-old}
 use Rattle.layout.proofs.MarkSpots.{mark-spot-disk, mark-spot-moves}

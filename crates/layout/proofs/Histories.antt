@@ -7,7 +7,7 @@ use native.Mathlib.Omega.{arith}
 use lib.Dec.{ltb}
 use borrow.Author.Tests.{ltb-true, leb-true}
 use Rattle.layout.specs.History.{rising}
-use Rattle.layout.proofs.Booleans.{and-left, and-right}
+use Rattle.base.proofs.Booleans.{and-left, and-right}
 
 pub not-rising : rising [] ≡ true → ⊥
 unfolding rising

@@ -1,4 +1,3 @@
-pub mod Booleans
 pub mod Remainder
 pub mod OneRow
 pub mod Histories
@@ -6,7 +5,6 @@ pub mod OneGrowth
 pub mod Bijection
 pub mod NewestGrowth
 pub mod LiveSpots
-pub mod Counting
 pub mod MarkSpots
 pub mod MarkBlocks
 pub mod MoveCounts

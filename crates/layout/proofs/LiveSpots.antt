@@ -12,7 +12,7 @@ use Rattle.layout.specs.History.{Within, diskCount, earlier, oldCount, r
 use Rattle.layout.specs.Windows.{oldSpot, moving}
 use Rattle.layout.specs.Live.{atNewSpot, liveSpot, liveBlock}
 use Rattle.layout.specs.Laws.{LiveSpots}
-use Rattle.layout.proofs.Booleans.{and-left, and-right, clash}
+use Rattle.base.proofs.Booleans.{and-left, and-right, clash}
 use Rattle.layout.proofs.Bijection.{spot-injective}
 use Rattle.layout.proofs.NewestGrowth.{up, old-bijection, new-bijection, old-within, still-there, moving-old, moving-law}
 

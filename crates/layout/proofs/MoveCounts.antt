@@ -9,12 +9,12 @@ use native.Mathlib.Omega.{arith}
 use lib.Dec.{ltb, eqb}
 use lib.ListN.{getD}
 use borrow.Author.Tests.{ltb-true, ltb-false, lt-ltb, le-ltb, eqb-true, eq-eqb, ne-eqb}
-use Rattle.layout.specs.Below.{count, sum}
+use Rattle.base.specs.Below.{count, sum}
 use Rattle.layout.specs.History.{diskCount, earlier, oldCount, addedCount, rising}
 use Rattle.layout.specs.Windows.{spotOfMark, rowExists, oldSpot, moving, windowOfRow, windowOf, movingIn, markOf, blockOfMark, markedBlocks, movesOfWindow, uncopied, callsLeft, cutMoves, laterMoves, callsLeftByMarks}
 use Rattle.layout.specs.Laws.{Marks, Counts}
-use Rattle.layout.proofs.Booleans.{and-left, and-right, and-both, same-order}
-use Rattle.layout.proofs.Counting.{count-ext, count-none, count-all, count-split, sum-ext, count-digits, count-below, OneToOne, count-one-to-one}
+use Rattle.base.proofs.Booleans.{and-left, and-right, and-both, same-order}
+use Rattle.base.proofs.Counting.{count-ext, count-none, count-all, count-split, sum-ext, count-digits, count-below, OneToOne, count-one-to-one}
 use Rattle.layout.proofs.NewestGrowth.{old-within, moving-old}
 use Rattle.layout.proofs.MarkSpots.{mark-spot-window}
 use Rattle.layout.proofs.MarkBlocks.{old-pos, added-pos, marks-law}

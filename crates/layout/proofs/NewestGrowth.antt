@@ -12,7 +12,7 @@ use Rattle.layout.specs.Growth.{movesFrom, oldBlockSpot}
 use Rattle.layout.specs.History.{Within, diskCount, earlier, oldCount, addedCount, rising, spotOf}
 use Rattle.layout.specs.Windows.{oldSpot, moving}
 use Rattle.layout.specs.Laws.{Bijection, Moving}
-use Rattle.layout.proofs.Booleans.{and-left, and-right, and-both}
+use Rattle.base.proofs.Booleans.{and-left, and-right, and-both}
 use Rattle.layout.proofs.Histories.{rising-up, rising-earlier, rising-some}
 use Rattle.layout.proofs.OneRow.{goes, stays}
 use Rattle.layout.proofs.OneGrowth.{spot-after-old}

@@ -8,7 +8,7 @@ use lib.Arith.{digits-lt, digits-div, digits-mod}
 use borrow.Author.Tests.{ltb-true, ltb-false, lt-ltb, le-ltb}
 use Rattle.layout.specs.declared.Spot.{Spot}
 use Rattle.layout.specs.Growth.{addedDisk, addedIndex, oldBlockSpot, addedSpot, spotAfter, spotBefore, blockAfter}
-use Rattle.layout.proofs.Booleans.{cond-cases}
+use Rattle.base.proofs.Booleans.{cond-cases}
 use Rattle.layout.proofs.OneRow.{old-there, old-back, added-there, added-back}
 
 module _ (m n s : ℕ) where

@@ -11,7 +11,7 @@ use borrow.Author.Tests.{ltb-true, ltb-false, leb-true, leb-false, lt-ltb, le-lt
 use Rattle.layout.specs.declared.Part.{Part}
 use Rattle.layout.specs.declared.Part.the-variants.{Head, Body, Tail}
 use Rattle.layout.specs.Growth.{minusMod, firstFit, partOf, moves, byPart, newDisk, diskAfter, addedDisk, addedIndex, diskBefore, oldDisk}
-use Rattle.layout.proofs.Booleans.{cond-cases, clash}
+use Rattle.base.proofs.Booleans.{cond-cases, clash}
 use Rattle.layout.proofs.Remainder.{minus-cases, minus-below, minus-mod-left, minus-add, add-minus}
 
 -- the rule, by its cases: m ≥ n or not, and the part

@@ -6,11 +6,11 @@ use native.Mathlib.Nat.{mul-le-mul, le-mul-of-pos-right, div-le-self, mod-le, di
 use native.Mathlib.Omega.{arith}
 use lib.Dec.{leb, ltb}
 use borrow.Author.Tests.{leb-true}
-use Rattle.layout.specs.Below.{every}
+use Rattle.base.specs.Below.{every}
 use Rattle.layout.specs.Limits.{Grows, mostDisks, mostRows}
 use Rattle.layout.specs.Windows.{windows, cutMoves, laterMoves}
-use Rattle.layout.proofs.Booleans.{cond-cases}
-use Rattle.layout.proofs.Counting.{every-use, sum-most}
+use Rattle.base.proofs.Booleans.{cond-cases}
+use Rattle.base.proofs.Counting.{every-use, sum-most}
 
 -- a window has at most 64 marks: one computed test of all m and n with m+n at most that of the limits
 products : every (λ m. every (λ n. leb (m * n) 64) (suc mostDisks - m)) (suc mostDisks) ≡ true

@@ -6,7 +6,7 @@ use mathlib.Core.Bool.{Bool, true, false, not, _&&_}
 use mathlib.Core.List.{List}
 use mathlib.Core.Option.{some}
 use Rattle.layout.specs.declared.Spot.{Spot}
-use Rattle.layout.specs.Below.{count}
+use Rattle.base.specs.Below.{count}
 use Rattle.layout.specs.Growth.{minusMod}
 use Rattle.layout.specs.History.{diskCount, oldCount, addedCount, rising, Within, spotOf, blockAt}
 use Rattle.layout.specs.Windows.{windows, rowExists, oldSpot, moving, windowOf, markOf, blockOfMark, markedBlocks, movesOfWindow, uncopied, callsLeft, cutMoves, laterMoves, callsLeftByMarks}

@@ -1,4 +1,3 @@
-pub mod Below
 pub mod Growth
 pub mod History
 pub mod Windows

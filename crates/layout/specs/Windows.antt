@@ -6,7 +6,7 @@ use lib.Dec.{ltb, eqb}
 use lib.ListN.{getD}
 use Rattle.layout.specs.declared.Row.{Row}
 use Rattle.layout.specs.declared.Spot.{Spot}
-use Rattle.layout.specs.Below.{count, sum}
+use Rattle.base.specs.Below.{count, sum}
 use Rattle.layout.specs.Growth.{rowInWindow, movesFrom}
 use Rattle.layout.specs.History.{earlier, oldCount, addedCount, spotOf, blockAt}
 

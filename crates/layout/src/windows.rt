@@ -3,7 +3,7 @@ ghost use mathlib.Core.Path.{_≡_};
 ghost use mathlib.Core.Bool.{true, false, not, _&&_};
 ghost use Prim.Native.Nat.{_+_, _*_, _<_, _≤_};
 ghost use lib.ListN.{getD};
-ghost use Rattle.layout.specs.Below.{count};
+ghost use Rattle.base.specs.Below.{count};
 ghost use Rattle.layout.specs.Limits.{Limits, Grows, mostRows};
 ghost use Rattle.layout.specs.Growth.{movesFrom};
 ghost use Rattle.layout.specs.History.{history, oldCount, addedCount};

@@ -3,7 +3,7 @@ use Prim.Native.Nat.{_+_, _*_, _≤_}
 use native.Mathlib.Omega.{arith}
 use borrow.Author.Needs.{needs}
 use Rattle.layout.specs.Windows.{callsLeftByMarks}
-use Rattle.layout.proofs.Counting.{count-most}
+use Rattle.base.proofs.Counting.{count-most}
 use Rattle.layout.proofs.WindowsCode.{marks-most, windows-most, later-most}
 use Rattle.layout.proofs.windows.calls_left_by_marks.Statement.{statement}
 use Rattle.layout.proofs.windows.calls_left_by_marks.Tie as tie

@@ -3,10 +3,10 @@ use Prim.Native.Nat.{_+_, _-_, _*_, _≤_, min}
 use mathlib.Core.Path.{_≡_, refl}
 use mathlib.Core.Logic.{⊎-elim}
 use native.Mathlib.Omega.{arith}
-use Rattle.layout.specs.Below.{sum}
+use Rattle.base.specs.Below.{sum}
 use Rattle.layout.specs.Limits.{mostDisks}
 use Rattle.layout.specs.Windows.{cutMoves}
-use Rattle.layout.proofs.Counting.{sum-next}
+use Rattle.base.proofs.Counting.{sum-next}
 use Rattle.layout.proofs.windows.cut_moves.Statement.{statement}
 use Rattle.layout.proofs.windows.cut_moves.Tie as tie
 

@@ -6,9 +6,9 @@ use mathlib.Core.Logic.{⊎-elim}
 use native.Mathlib.Omega.{arith}
 use lib.ListN.{getD}
 use borrow.Author.Needs.{needs}
-use Rattle.layout.specs.Below.{count}
+use Rattle.base.specs.Below.{count}
 use Rattle.layout.specs.Windows.{rowExists}
-use Rattle.layout.proofs.Counting.{count-next, count-most}
+use Rattle.base.proofs.Counting.{count-next, count-most}
 use Rattle.layout.proofs.WindowsCode.{marks-most}
 use Rattle.layout.proofs.windows.unmarked.Statement.{statement}
 use Rattle.layout.proofs.windows.unmarked.Tie as tie

@@ -1,6 +1,8 @@
--- Numbers below a bound: how many pass a test, whether all do, and a sum over them. Assumes nothing.
+-- Numbers below a bound: how many pass a test, whether all do, a sum over them, and the list of a function's values at them.
+-- Assumes nothing.
 use Prim.Native.Nat.{ℕ, zero, suc, _+_}
 use mathlib.Core.Bool.{Bool, true, cond, _&&_}
+use mathlib.Core.List.{List, [], _∷_, _++_}
 
 unfoldable pub count : (p : ℕ → Bool) (n : ℕ) → ℕ
 count p zero = 0
@@ -13,3 +15,7 @@ every p (suc n) = p n && every p n
 unfoldable pub sum : (f : ℕ → ℕ) (n : ℕ) → ℕ
 sum f zero = 0
 sum f (suc n) = sum f n + f n
+
+unfoldable pub table : {A : Type 0} (f : ℕ → A) (n : ℕ) → List A
+table f zero = []
+table f (suc n) = table f n ++ (f n ∷ [])

@@ -10,8 +10,8 @@ use native.Mathlib.Omega.{arith}
 use lib.Dec.{ltb, eqb}
 use lib.Arith.{digits-div, digits-mod}
 use borrow.Author.Tests.{ltb-true, ltb-false, eqb-false, eq-eqb, ne-eqb, not-true}
-use Rattle.layout.specs.Below.{count, every, sum}
-use Rattle.layout.proofs.Booleans.{cond-cases, and-left, and-right, and-both, clash}
+use Rattle.base.specs.Below.{count, every, sum}
+use Rattle.base.proofs.Booleans.{cond-cases, and-left, and-right, and-both, clash, by-test}
 
 pub count-ext : (p q : ℕ → Bool) (n : ℕ) → ((i : ℕ) → i < n → p i ≡ q i) → count p n ≡ count q n
 unfolding count
@@ -71,7 +71,20 @@ every-use p (suc n) e i h =
     ⊎-elim (λ (q : i ≡ n). rw q (and-left (p n) (every p n) e)) (λ (q : i < n). every-use p n (and-right (p n) (every p n) e) i q)
     (eq-or-lt-of-le (le-of-suc-le-suc h))
 
+pub every-make : (p : ℕ → Bool) (n : ℕ) → ((i : ℕ) → i < n → p i ≡ true) → every p n ≡ true
+unfolding every
+every-make p zero h = refl
+every-make p (suc n) h = and-both (h n (omega arith)) (every-make p n (λ i l. h i (omega arith)))
+
+-- one number fails
+pub every-fails : (p : ℕ → Bool) (n i : ℕ) → i < n → p i ≡ false → every p n ≡ false
+every-fails p n i h e = by-test (every p n) (λ f. clash (every-use p n f i h) e) (λ f. f)
+
 -- one number more, as a loop counts
+pub every-next : (p : ℕ → Bool) (n : ℕ) → every p n ≡ true → p n ≡ true → every p (n + 1) ≡ true
+unfolding every
+every-next p n h e = rw add-one (and-both e h)
+
 pub count-next : (p : ℕ → Bool) (n : ℕ) (t : Bool) → p n ≡ t → count p (n + 1) ≡ count p n + cond t 1 0
 unfolding count
 count-next p n t e = rw (add-one, e)

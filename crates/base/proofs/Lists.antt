@@ -1,0 +1,91 @@
+-- Laws of lists: runs of elements stored (`sets` of the library), parts, and tables. Assumes nothing.
+use Prim.Native.Nat.{ℕ, zero, suc, _+_, _-_, _≤_, _<_}
+use mathlib.Core.Path.{_≡_, refl, sym, ap, _∙_}
+use mathlib.Core.List.{List, [], _∷_, _++_, append-assoc}
+use mathlib.Core.Logic.{_⊎_, inl, inr, ⊎-elim}
+use native.Mathlib.Nat.{add-zero, add-suc, suc-add, not-suc-le-zero, le-of-suc-le-suc, eq-or-lt-of-le}
+use native.Mathlib.Numerals.{add-one}
+use native.Mathlib.Omega.{arith}
+use lib.ListN.{length, take, drop, getD, set, replicate, length-append, length-take, length-drop, length-set, List·getD-append}
+use lib.Seq.{sets, sets-eq, take-at, drop-at, set-at, getD-at, append-snoc, drop-drop, drop-length, take-suc, drop-set-lt, drop-set-add, take-set-le, getD-set-other, ext-getD}
+use Rattle.base.specs.Below.{table}
+
+module _ {A : Type 0} where
+  pub drop-none : (l : List A) (n : ℕ) → length l ≡ n → drop n l ≡ []
+  drop-none l n e = rw (← e) (drop-length l)
+
+  -- ---- runs
+
+  -- a run and then the run after it
+  pub sets-append : (l : List A) (i : ℕ) (a b : List A) → sets l i (a ++ b) ≡ sets (sets l i a) (i + length a) b
+  sets-append l i [] b = rw add-zero
+  sets-append l i (x ∷ a) b = sets-append (set l i x) (suc i) a b ∙ rw (add-suc, suc-add)
+
+  -- a part that was lent and comes back
+  pub part-back : (m l : List A) (at end : ℕ) → at ≤ end → end ≤ length m → length l ≡ end - at
+      → take at m ++ (l ++ drop (end - at) (drop at m)) ≡ sets m at l
+  part-back m l at end h k e =
+      let f : at + length l ≤ length m = omega (arith, e) in
+      sym (sets-eq l m at f ∙ rw (append-assoc, e, ← drop-drop (end - at) at m))
+
+  -- a run is read back
+  pub part-stored : (m l : List A) (at : ℕ) → at + length l ≤ length m → take (length l) (drop at (sets m at l)) ≡ l
+  part-stored m l at h =
+      let e : length (take at m) ≡ at = simp length-take (omega arith) in
+      rw (sets-eq l m at h, append-assoc, drop-at (take at m) (l ++ drop (at + length l) m) at e)
+      (take-at l (drop (at + length l) m) (length l) refl)
+
+  part-set : (m : List A) (x : A) (i from n : ℕ) → (i < from) ⊎ (from + n ≤ i) → take n (drop from (set m i x)) ≡ take n (drop from m)
+  part-set m x i from n (inl h) = rw (drop-set-lt from m i x h)
+  part-set m x i from n (inr h) =
+      let e : i ≡ from + (i - from) = omega arith in
+      let k : n ≤ i - from = omega arith in
+      ap (λ (j : ℕ). take n (drop from (set m j x))) e ∙ rw (drop-set-add from m (i - from) x) (take-set-le n (drop from m) (i - from) x k)
+
+  -- a run keeps every part that it doesn't reach
+  pub part-kept : (m l : List A) (at from n : ℕ) → (at + length l ≤ from) ⊎ (from + n ≤ at) → take n (drop from (sets m at l)) ≡ take n (drop from m)
+  part-kept m [] at from n h = refl
+  part-kept m (x ∷ l) at from n (inl h) =
+      part-kept (set m at x) l (suc at) from n (inl (omega arith)) ∙ part-set m x at from n (inl (omega arith))
+  part-kept m (x ∷ l) at from n (inr h) =
+      part-kept (set m at x) l (suc at) from n (inr (omega arith)) ∙ part-set m x at from n (inr h)
+
+  pub drop-kept : (m l : List A) (at n : ℕ) → at + length l ≤ n → drop n (sets m at l) ≡ drop n m
+  drop-kept m [] at n h = refl
+  drop-kept m (x ∷ l) at n h =
+      drop-kept (set m at x) l (suc at) n (omega arith) ∙ drop-set-lt n m at x (omega arith)
+
+  -- ---- tables
+
+  pub length-table : (f : ℕ → A) (n : ℕ) → length (table f n) ≡ n
+  unfolding table
+  length-table f zero = refl
+  length-table f (suc n) = rw (length-append (table f n) (f n ∷ []), length-table f n) (add-one n)
+
+  pub getD-table : (z : A) (f : ℕ → A) (n i : ℕ) → i < n → getD (table f n) i z ≡ f i
+  unfolding table
+  getD-table z f zero i h = absurd (not-suc-le-zero h)
+  getD-table z f (suc n) i h =
+      ⊎-elim
+      (λ (q : i ≡ n). rw q (getD-at (table f n) (f n) [] z n (length-table f n)))
+      (λ (q : i < n). let k : i < length (table f n) = rw (length-table f n) q in List·getD-append (table f n) (f n ∷ []) z i k ∙ getD-table z f n i q)
+      (eq-or-lt-of-le (le-of-suc-le-suc h))
+
+  pub table-ext : (f g : ℕ → A) (n : ℕ) → ((i : ℕ) → i < n → f i ≡ g i) → table f n ≡ table g n
+  unfolding table
+  table-ext f g zero h = refl
+  table-ext f g (suc n) h = rw (table-ext f g n (λ i l. h i (omega arith)), h n (omega arith))
+
+  -- a list is the table of its elements
+  pub table-self : (z : A) (l : List A) (n : ℕ) → length l ≡ n → table (λ i. getD l i z) n ≡ l
+  table-self z l n e =
+      ext-getD z (table (λ i. getD l i z) n) l (length-table (λ i. getD l i z) n ∙ sym e)
+      (λ i h. getD-table z (λ j. getD l j z) n i (rw (length-table (λ j. getD l j z) n) at h))
+
+  -- one more entry, as a loop stores it
+  pub table-next : (z : A) (n i : ℕ) (f : ℕ → A) (l : List A) → i < n → l ≡ table f i ++ replicate (n - i) z
+      → set l i (f i) ≡ table f (i + 1) ++ replicate (n - (i + 1)) z
+  unfolding table
+  table-next z n i f l h e =
+      let k : n - i ≡ suc (n - suc i) = omega arith in
+      rw (e, k, add-one) (set-at (table f i) z (replicate (n - suc i) z) (f i) i (length-table f i) ∙ sym (append-snoc (table f i) (f i) (replicate (n - suc i) z)))
