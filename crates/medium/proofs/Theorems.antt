@@ -1,0 +1,86 @@
+-- The laws of stores, as `specs/Laws.antt` states them. Assumes nothing.
+use Prim.Native.Nat.{ℕ, _+_, _≤_, _<_}
+use mathlib.Core.Path.{_≡_, refl, subst}
+use mathlib.Core.List.{List}
+use mathlib.Core.Logic.{_⊎_, inl, inr}
+use native.Mathlib.Omega.{arith}
+use lib.ListN.{length, take, drop}
+use lib.Seq.{sets, length-sets}
+use Rattle.base.proofs.Lists.{part-stored, part-kept, drop-kept}
+use Rattle.layout.specs.declared.Spot.{Spot}
+use Rattle.medium.specs.declared.Geometry.{Geometry}
+use Rattle.medium.specs.Medium.{recordBytes, place, Observations, observe, Store, noStore, recordStore, blockStore, apply, Inside, StoreFits, Left, tornBlock, oldRecord, newRecord, MayLeave, cutStore, applyCut}
+use Rattle.medium.specs.Laws.{Holds, SparesRecord, Spares, Stored, MediumLaws}
+use Rattle.medium.proofs.Places.{past-record, disjoint, inside}
+
+-- ---- a store that lies in the medium
+
+stored : (g : Geometry) (s : Store) (m : List ℕ) → StoreFits g (length m) s → Stored g s (observe m) (observe (apply g s m))
+unfolding observe apply StoreFits Holds SparesRecord Spares
+stored g noStore m f = record { length-kept = refl; read-back = tt; record-kept = λ _. refl; spots-kept = λ q r n. refl }
+stored g (recordStore sector) m f = record {
+  length-kept = length-sets m 0 sector;
+  read-back = subst (λ (k : ℕ). take k (sets m 0 sector) ≡ sector) (f .0) (part-stored m sector 0 (omega (arith, f .0, f .1)));
+  record-kept = λ n. absurd n;
+  spots-kept = λ q r n. part-kept m sector 0 (place g q) (g .size) (inl (omega (arith, f .0, past-record g q)));
+}
+stored g (blockStore p bytes) m f = record {
+  length-kept = length-sets m (place g p) bytes;
+  read-back = subst (λ (k : ℕ). take k (drop (place g p) (sets m (place g p) bytes)) ≡ bytes) (f .1) (part-stored m bytes (place g p) (omega (arith, f .1, f .0 .fits)));
+  record-kept = λ _. part-kept m bytes (place g p) 0 recordBytes (inr (past-record g p));
+  spots-kept = λ q r n. elim (disjoint g p q (f .0 .row) r n) [
+    | inl h ↦ part-kept m bytes (place g p) (place g q) (g .size) (inl (omega (arith, f .1)))
+    | inr h ↦ part-kept m bytes (place g p) (place g q) (g .size) (inr h)
+  ];
+}
+
+beyond-kept : (g : Geometry) (n : ℕ) (s : Store) (m : List ℕ) → StoreFits g n s → drop n (apply g s m) ≡ drop n m
+unfolding apply StoreFits
+beyond-kept g n noStore m f = refl
+beyond-kept g n (recordStore sector) m f = drop-kept m sector 0 n (omega (arith, f .0, f .1))
+beyond-kept g n (blockStore p bytes) m f = drop-kept m bytes (place g p) n (omega (arith, f .1, f .0 .fits))
+
+-- ---- a store that was cut
+
+-- what a cut leaves lies where the store does
+cut-fits : (g : Geometry) (n : ℕ) (s : Store) (l : Left) → StoreFits g n s → MayLeave s l → StoreFits g n (cutStore s l)
+unfolding StoreFits MayLeave cutStore
+cut-fits g n noStore l f c = absurd c
+cut-fits g n (recordStore sector) (tornBlock bytes) f c = absurd c
+cut-fits g n (recordStore sector) oldRecord f c = tt
+cut-fits g n (recordStore sector) newRecord f c = f
+cut-fits g n (blockStore p stored) (tornBlock bytes) f c = (f .0, rw c (f .1))
+cut-fits g n (blockStore p stored) oldRecord f c = absurd c
+cut-fits g n (blockStore p stored) newRecord f c = absurd c
+
+cut-spares-record : (s : Store) (l : Left) → MayLeave s l → SparesRecord s → SparesRecord (cutStore s l)
+unfolding MayLeave cutStore SparesRecord
+cut-spares-record noStore l c n = absurd c
+cut-spares-record (recordStore sector) l c n = absurd n
+cut-spares-record (blockStore p stored) (tornBlock bytes) c n = tt
+cut-spares-record (blockStore p stored) oldRecord c n = absurd c
+cut-spares-record (blockStore p stored) newRecord c n = absurd c
+
+cut-spares : (s : Store) (l : Left) (q : Spot) → MayLeave s l → Spares s q → Spares (cutStore s l) q
+unfolding MayLeave cutStore Spares
+cut-spares noStore l q c n = absurd c
+cut-spares (recordStore sector) (tornBlock bytes) q c n = absurd c
+cut-spares (recordStore sector) oldRecord q c n = tt
+cut-spares (recordStore sector) newRecord q c n = tt
+cut-spares (blockStore p stored) (tornBlock bytes) q c n = n
+cut-spares (blockStore p stored) oldRecord q c n = absurd c
+cut-spares (blockStore p stored) newRecord q c n = absurd c
+
+pub medium-laws : MediumLaws
+unfolding applyCut
+medium-laws = record {
+  past-record = past-record;
+  disjoint = disjoint;
+  inside = inside;
+  stored = stored;
+  beyond-kept = beyond-kept;
+  cut-stored = λ g s l m f c. stored g (cutStore s l) m (cut-fits g (length m) s l f c);
+  cut-spares-record = cut-spares-record;
+  cut-spares = cut-spares;
+  cut-beyond-kept = λ g n s l m f c. beyond-kept g n (cutStore s l) m (cut-fits g n s l f c);
+}

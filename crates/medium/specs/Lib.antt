@@ -1,0 +1,2 @@
+pub mod Medium
+pub mod Laws
