@@ -50,6 +50,13 @@ module _ {A : Type 0} where
   part-kept m (x ∷ l) at from n (inr h) =
       part-kept (set m at x) l (suc at) from n (inr (omega arith)) ∙ part-set m x at from n (inr h)
 
+  pub getD-kept : (m l : List A) (at k : ℕ) (z : A) → (at + length l ≤ k) ⊎ (k < at) → getD (sets m at l) k z ≡ getD m k z
+  getD-kept m [] at k z h = refl
+  getD-kept m (x ∷ l) at k z (inl h) =
+      getD-kept (set m at x) l (suc at) k z (inl (omega arith)) ∙ getD-set-other m at k x z (λ e. omega arith)
+  getD-kept m (x ∷ l) at k z (inr h) =
+      getD-kept (set m at x) l (suc at) k z (inr (omega arith)) ∙ getD-set-other m at k x z (λ e. omega arith)
+
   pub drop-kept : (m l : List A) (at n : ℕ) → at + length l ≤ n → drop n (sets m at l) ≡ drop n m
   drop-kept m [] at n h = refl
   drop-kept m (x ∷ l) at n h =

@@ -1,23 +1,29 @@
+-- `bytes_needed` meets its contract. Assumes nothing.
+use Prim.Native.Nat.{_*_, _<_, _^_}
+use mathlib.Core.Path.{refl}
+use native.Mathlib.Omega.{arith}
+use Rattle.medium.specs.Medium.{needed}
+use Rattle.medium.proofs.MediumCode.{factor-fits}
 use Rattle.medium.proofs.bytes_needed.Statement.{statement}
 use Rattle.medium.proofs.bytes_needed.Tie as tie
-use Rattle.medium.proofs.bytes_needed.Reads as reads
-use Rattle.medium.proofs.bytes_needed.Lts as lts
 
--- src/lib.rt:27:11
 mul-result : tie.Need-mul-result
-mul-result c = ?
+unfolding needed
+mul-result c =
+    let h = factor-fits (c .before .args .disks * c .before .args .g .rows) (c .before .args .g .size) (c .before .pre .0) (c .before .pre .1) in
+    omega (arith, h)
 
--- src/lib.rt:27:11
 mul-result-2 : tie.Need-mul-result-2
-mul-result-2 c = ?
+unfolding needed
+mul-result-2 c = omega (arith, c .before .before .pre .1)
 
--- src/lib.rt:27:5
 add-result : tie.Need-add-result
-add-result c = ?
+unfolding needed
+add-result c = omega (arith, c .before .before .pre .1)
 
--- src/lib.rt:22:1
 returns : tie.Need-returns
-returns c = ?
+unfolding needed
+returns c = refl
 
 pub bytes-needed-spec : {M : Type 1} → statement M
 bytes-needed-spec = tie.close (tie.spec mul-result mul-result-2 add-result returns)
