@@ -6,8 +6,8 @@ use mathlib.Core.Logic.{_⊎_, inl, inr, ⊎-elim}
 use native.Mathlib.Nat.{add-zero, add-suc, suc-add, not-suc-le-zero, le-of-suc-le-suc, eq-or-lt-of-le}
 use native.Mathlib.Numerals.{add-one}
 use native.Mathlib.Omega.{arith}
-use lib.ListN.{length, take, drop, getD, set, replicate, length-append, length-take, length-drop, length-set, List·getD-append}
-use lib.Seq.{sets, sets-eq, take-at, drop-at, set-at, getD-at, append-snoc, drop-drop, drop-length, take-suc, drop-set-lt, drop-set-add, take-set-le, getD-set-other, ext-getD}
+use lib.ListN.{length, take, drop, getD, set, replicate, length-append, length-take, List·getD-append}
+use lib.Seq.{sets, sets-eq, take-at, drop-at, set-at, getD-at, append-snoc, drop-drop, drop-length, drop-set-lt, drop-set-add, take-set-le, getD-set-other, ext-getD}
 use Rattle.base.specs.Below.{table}
 
 module _ {A : Type 0} where

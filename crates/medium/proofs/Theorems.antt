@@ -1,15 +1,15 @@
 -- The laws of stores, as `specs/Laws.antt` states them. Assumes nothing.
-use Prim.Native.Nat.{ℕ, _+_, _≤_, _<_}
-use mathlib.Core.Path.{_≡_, refl, subst}
+use Prim.Native.Nat.{ℕ}
+use mathlib.Core.Path.{_≡_, refl, subst, _∙_}
 use mathlib.Core.List.{List}
-use mathlib.Core.Logic.{_⊎_, inl, inr}
+use mathlib.Core.Logic.{inl, inr}
 use native.Mathlib.Omega.{arith}
 use lib.ListN.{length, take, drop}
 use lib.Seq.{sets, length-sets}
 use Rattle.base.proofs.Lists.{part-stored, part-kept, drop-kept}
 use Rattle.layout.specs.declared.Spot.{Spot}
 use Rattle.medium.specs.declared.Geometry.{Geometry}
-use Rattle.medium.specs.Medium.{recordBytes, place, Observations, observe, Store, noStore, recordStore, blockStore, apply, Inside, StoreFits, Left, tornBlock, oldRecord, newRecord, MayLeave, cutStore, applyCut}
+use Rattle.medium.specs.Medium.{recordBytes, place, observe, Store, noStore, recordStore, blockStore, apply, StoreFits, Left, tornBlock, oldRecord, newRecord, MayLeave, cutStore, applyCut}
 use Rattle.medium.specs.Laws.{Holds, SparesRecord, Spares, Stored, MediumLaws}
 use Rattle.medium.proofs.Places.{past-record, disjoint, inside}
 
@@ -49,7 +49,7 @@ cut-fits g n noStore l f c = absurd c
 cut-fits g n (recordStore sector) (tornBlock bytes) f c = absurd c
 cut-fits g n (recordStore sector) oldRecord f c = tt
 cut-fits g n (recordStore sector) newRecord f c = f
-cut-fits g n (blockStore p stored) (tornBlock bytes) f c = (f .0, rw c (f .1))
+cut-fits g n (blockStore p stored) (tornBlock bytes) f c = (f .0, c ∙ f .1)
 cut-fits g n (blockStore p stored) oldRecord f c = absurd c
 cut-fits g n (blockStore p stored) newRecord f c = absurd c
 

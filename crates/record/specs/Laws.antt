@@ -5,7 +5,6 @@ use mathlib.Core.Bool.{Bool, true}
 use mathlib.Core.List.{List}
 use lib.ListN.{length, getD}
 use Rattle.record.specs.declared.Column.the-variants.{Number, Blank}
-use Rattle.record.specs.declared.RecordRead.{RecordRead}
 use Rattle.record.specs.Decimal.{columnWidth, decimal, blank, readColumn}
 use Rattle.record.specs.Sector.{columnCount, markCount, growths, isBlank, sector, readRecord}
 

@@ -1,6 +1,6 @@
 // Reading the record. Each field is read or the record is refused there.
 ghost use mathlib.Core.Path.{_≡_};
-ghost use Prim.Native.Nat.{_≤_, _<_};
+ghost use Prim.Native.Nat.{_<_};
 ghost use lib.ListN.{length};
 ghost use Rattle.record.specs.Sector.{readField, readNumbers, readMarks, spacesHold, noRecord, readRecord};
 use super::Column;

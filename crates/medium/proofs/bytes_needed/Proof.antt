@@ -1,5 +1,5 @@
 -- `bytes_needed` meets its contract. Assumes nothing.
-use Prim.Native.Nat.{_*_, _<_, _^_}
+use Prim.Native.Nat.{_*_}
 use mathlib.Core.Path.{refl}
 use native.Mathlib.Omega.{arith}
 use Rattle.medium.specs.Medium.{needed}

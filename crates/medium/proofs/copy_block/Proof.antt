@@ -1,6 +1,4 @@
 -- `copy_block` meets its contract. Assumes nothing.
-use mathlib.Core.Path.{_≡_, _∙_}
-use native.Mathlib.Omega.{arith}
 use borrow.Author.Needs.{needs}
 use Rattle.medium.specs.Medium.{apply, observe}
 use Rattle.medium.proofs.Places.{disjoint}
