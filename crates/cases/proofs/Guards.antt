@@ -1,8 +1,9 @@
--- What the run-time tests of the cases show, and what the layout's code then asks. Assumes nothing.
+-- What the run-time tests of the cases show, and what the code of layout and medium then asks. Assumes nothing.
 use Prim.Native.Nat.{ℕ, zero, suc, _+_, _*_, _≤_, _<_}
-use mathlib.Core.Path.{_≡_}
+use mathlib.Core.Path.{_≡_, ap}
 use mathlib.Core.Bool.{true, false, false≢true}
 use mathlib.Core.List.{List, [], _∷_}
+use mathlib.Core.Logic.{_≢_}
 use native.Mathlib.Nat.{mul-le-mul}
 use native.Mathlib.Numerals.{add-one}
 use native.Mathlib.Omega.{arith}
@@ -20,6 +21,9 @@ use Rattle.layout.proofs.HistoryCode.{history-length, history-disks, limits-at,
 use Rattle.layout.proofs.MarkSpots.{mark-spot-disk, mark-spot-moves}
 use Rattle.layout.proofs.NewestCode.{old-is, added-is, newest-grows}
 use Rattle.layout.proofs.Theorems.{spots-and-blocks}
+use Rattle.medium.specs.declared.Geometry.{Geometry}
+use Rattle.medium.specs.Medium.{needed, Inside}
+use Rattle.medium.proofs.Theorems.{medium-laws}
 
 -- a test that fails shows nothing
 pub failed : {X : Type 0} → false ≡ true → X
@@ -111,3 +115,18 @@ module _ (s t : ℕ) (l : List ℕ) (h : 0 < t) (a : Limits s (history t l)) (g 
 pub mark-asks : (m n w j : ℕ) (p : Spot) → Grows m n → j < m * n → p ≡ spotOfMark m n w j → Grows m n × ((p .disk < m) × (movesFrom m n p ≡ true))
 mark-asks m n w j p g h e =
     (g, rw e (mark-spot-disk m n (g .old) (g .added) w j h, mark-spot-moves m n (g .old) (g .added) w j h))
+
+-- ---- the medium, where g is known to be h
+
+-- a spot of five disks, in n bytes
+pub spot-inside : (h : Geometry) (n : ℕ) (p : Spot) → needed h 5 ≤ n → p .disk < 5 → p .row .0 < h .rows → Inside h n p
+spot-inside h n p k d r = let a = medium-laws .inside h 5 p d r in record { row = r; fits = omega (arith, a .fits) }
+
+module _ (g h : Geometry) (e : g ≡ h) (z : 0 < h .size) (n : ℕ) (p : Spot) (a : Inside h n p) where
+  -- what storing and fetching a piece of k bytes take
+  pub piece-asks : (k : ℕ) → k ≡ h .size → (0 < g .size) × (Inside g n p × (k ≡ g .size))
+  piece-asks k f = rw e (z, (a, f))
+
+  -- what copying to spot q takes
+  pub copy-asks : (q : Spot) → Inside h n q → p .disk ≢ q .disk → (0 < g .size) × (Inside g n p × (Inside g n q × (p ≢ q)))
+  copy-asks q b d = rw e (z, (a, (b, λ f. d (ap (λ (s : Spot). s .disk) f))))

@@ -1,8 +1,12 @@
-// Runs the layout on cases and writes a line for each. What it must write is in the file stdout.
+// Runs the layout, the record and the medium on cases and writes a line for each. What it must write is in the file stdout.
 mod blocks;
+mod buffers;
+mod columns;
 mod counts;
 mod print;
+mod records;
 mod show;
+mod spots;
 mod windows;
 
 use print::text;
@@ -163,4 +167,11 @@ fn main() {
     cut_windows();
     seven_growths();
     largest_volume();
+    columns::written_columns();
+    columns::damaged_columns();
+    records::worked_record();
+    records::changed_records();
+    records::damaged_numbers();
+    records::damaged_rest();
+    spots::blocks_on_medium();
 }

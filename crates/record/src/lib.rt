@@ -18,13 +18,13 @@ pub enum Column {
 }
 
 // What reading the thirteen columns gives: refusal 0 and the numbers, or 13 and zeros.
-pub struct NumbersRead {
+struct NumbersRead {
     pub refusal: usize,
     pub numbers: [usize; 13],
 }
 
 // What reading the marks gives: refusal 0 and the marks, or 13 and none set.
-pub struct MarksRead {
+struct MarksRead {
     pub refusal: usize,
     pub marks: [bool; 64],
 }
