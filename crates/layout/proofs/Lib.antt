@@ -1,3 +1,4 @@
+pub mod Spots
 pub mod Remainder
 pub mod OneRow
 pub mod Histories

@@ -6,12 +6,10 @@ use native.Mathlib.Nat.{mod-lt, div-add-mod', div-lt-iff-lt-mul, lt-div-mul-add,
 use native.Mathlib.Omega.{arith}
 use lib.Arith.{digits-lt, digits-div, digits-mod}
 use Rattle.layout.specs.declared.Spot.{Spot}
+use Rattle.layout.proofs.Spots.{same-spot}
 use Rattle.layout.specs.Growth.{movesFrom}
 use Rattle.layout.specs.Windows.{windows, windowOfRow, markOfSpot, spotOfMark}
 use Rattle.layout.proofs.OneRow.{moves-rows, rows-move}
-
-spot-path : {p q : Spot} → p .disk ≡ q .disk → p .row .0 ≡ q .row .0 → p ≡ q
-spot-path d r = λ i. record { disk = d i; row = record { 0 = r i } }
 
 module _ (m n : ℕ) (hm : 0 < m) (hn : 0 < n) where
   -- the mark of a moving block, and the spot of that mark
@@ -42,7 +40,7 @@ module _ (m n : ℕ) (hm : 0 < m) (hn : 0 < n) where
     pub spot-of-mark : spotOfMark m n (windowOfRow m n (p .row)) (markOfSpot m n p) ≡ p
     unfolding spotOfMark windowOfRow b1
     spot-of-mark =
-        spot-path mark-disk
+        same-spot mark-disk
         (ap (λ (r : ℕ). p .row .0 / (m + n) * (m + n) + r) mark-row ∙ div-add-mod' (p .row .0) (m + n))
 
   -- the spot of a mark, and the mark of that spot

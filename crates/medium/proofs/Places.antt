@@ -5,7 +5,9 @@ use mathlib.Core.Logic.{_⊎_, _≢_, inl, inr}
 use native.Mathlib.Nat.{mul-le-mul-right, suc-mul}
 use native.Mathlib.Decide.{decLt}
 use native.Mathlib.Omega.{arith}
+use lib.Arith.{digits-lt}
 use Rattle.layout.specs.declared.Spot.{Spot}
+use Rattle.layout.proofs.Spots.{same-spot}
 use Rattle.medium.specs.declared.Geometry.{Geometry}
 use Rattle.medium.specs.Medium.{recordBytes, place, needed, Inside}
 
@@ -15,12 +17,7 @@ number g p = p .disk * g .rows + p .row .0
 
 -- a later disk begins past every row of an earlier one
 later-disk : (s d e a b : ℕ) → d < e → a < s → d * s + a < e * s + b
-later-disk s d e a b h k =
-    let f : suc d * s ≤ e * s = mul-le-mul-right s h in
-    omega (arith, rw suc-mul at f)
-
-same-spot : {p q : Spot} → p .disk ≡ q .disk → p .row .0 ≡ q .row .0 → p ≡ q
-same-spot d r = λ i. record { disk = d i; row = record { 0 = r i } }
+later-disk s d e a b h k = omega (arith, digits-lt {q = d} {m = e} {r = a} {c = s} h k)
 
 -- two numbers are in order, or the same
 ordered : (a b : ℕ) → (a < b) ⊎ ((a ≡ b) ⊎ (b < a))
@@ -64,6 +61,5 @@ disjoint g p q a b n = elim (numbers-differ g p q a b n) [
 pub inside : (g : Geometry) (disks : ℕ) (p : Spot) → p .disk < disks → p .row .0 < g .rows → Inside g (needed g disks) p
 unfolding place needed
 inside g disks p d r =
-    let e : suc (number g p) ≤ disks * g .rows = omega (arith, later-disk (g .rows) (p .disk) disks (p .row .0) 0 d r) in
-    let f : suc (number g p) * g .size ≤ disks * g .rows * g .size = mul-le-mul-right (g .size) e in
+    let f : suc (number g p) * g .size ≤ disks * g .rows * g .size = mul-le-mul-right (g .size) (digits-lt d r) in
     record { row = r; fits = omega (arith, rw suc-mul at f) }
