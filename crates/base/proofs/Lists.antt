@@ -7,13 +7,10 @@ use native.Mathlib.Nat.{add-zero, add-suc, suc-add, not-suc-le-zero, le-of-suc-l
 use native.Mathlib.Numerals.{add-one}
 use native.Mathlib.Omega.{arith}
 use lib.ListN.{length, take, drop, getD, set, replicate, length-append, length-take, List·getD-append}
-use lib.Seq.{sets, sets-eq, take-at, drop-at, set-at, getD-at, append-snoc, drop-drop, drop-length, drop-set-lt, drop-set-add, take-set-le, getD-set-other, ext-getD}
+use lib.Seq.{sets, sets-eq, take-at, drop-at, set-at, getD-at, append-snoc, drop-drop, drop-set-lt, drop-set-add, take-set-le, getD-set-other, ext-getD}
 use Rattle.base.specs.Below.{table}
 
 module _ {A : Type 0} where
-  pub drop-none : (l : List A) (n : ℕ) → length l ≡ n → drop n l ≡ []
-  drop-none l n e = rw (← e) (drop-length l)
-
   -- ---- runs
 
   -- a run and then the run after it

@@ -22,7 +22,7 @@ use Rattle.layout.proofs.MarkSpots.{mark-spot-disk, mark-spot-moves}
 use Rattle.layout.proofs.NewestCode.{old-is, added-is, newest-grows}
 use Rattle.layout.proofs.Theorems.{spots-and-blocks}
 use Rattle.medium.specs.declared.Geometry.{Geometry}
-use Rattle.medium.specs.Medium.{needed, Inside}
+use Rattle.medium.specs.Medium.{bytesNeeded, Inside}
 use Rattle.medium.proofs.Theorems.{medium-laws}
 
 -- a test that fails shows nothing
@@ -119,7 +119,7 @@ mark-asks m n w j p g h e =
 -- ---- the medium, where g is known to be h
 
 -- a spot of five disks, in n bytes
-pub spot-inside : (h : Geometry) (n : ℕ) (p : Spot) → needed h 5 ≤ n → p .disk < 5 → p .row .0 < h .rows → Inside h n p
+pub spot-inside : (h : Geometry) (n : ℕ) (p : Spot) → bytesNeeded h 5 ≤ n → p .disk < 5 → p .row .0 < h .rows → Inside h n p
 spot-inside h n p k d r = let a = medium-laws .inside h 5 p d r in record { row = r; fits = omega (arith, a .fits) }
 
 module _ (g h : Geometry) (e : g ≡ h) (z : 0 < h .size) (n : ℕ) (p : Spot) (a : Inside h n p) where

@@ -2,7 +2,7 @@
 // that no caller needs a `requires`.
 ghost use mathlib.Core.Path.{_≡_};
 ghost use mathlib.Core.Bool.{true};
-ghost use Rattle.medium.specs.Medium.{needed, Inside};
+ghost use Rattle.medium.specs.Medium.{bytesNeeded, Inside};
 use super::buffers::first_changed;
 use super::buffers::last_changed;
 use super::buffers::number_bytes;
@@ -23,7 +23,7 @@ fn geometry() -> Geometry
 
 // The bytes that the record and the disks take.
 fn needed_bytes() -> usize
-    ensures { λ r. ⌜ r ≡ needed (record { size = 512; rows = 5 }) 5 ⌝ }
+    ensures { λ r. ⌜ r ≡ bytesNeeded (record { size = 512; rows = 5 }) 5 ⌝ }
 {
     medium::bytes_needed(geometry(), 5)
 }

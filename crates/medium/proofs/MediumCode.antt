@@ -7,10 +7,10 @@ use mathlib.Core.Logic.{_⊎_, inl, inr, ⊎-elim}
 use native.Mathlib.Nat.{le-mul-of-pos-right}
 use native.Mathlib.Numerals.{add-one}
 use native.Mathlib.Omega.{arith}
-use lib.ListN.{length, take, drop, getD, set, length-take, length-drop}
+use lib.ListN.{length, take, drop, getD, set, length-take, length-drop, drop-of-length-le}
 use lib.Seq.{sets, take-suc, take-length, getD-drop}
 use Rattle.medium.specs.Medium.{recordBytes}
-use Rattle.base.proofs.Lists.{drop-none, part-back, getD-kept, sets-append}
+use Rattle.base.proofs.Lists.{part-back, getD-kept, sets-append}
 
 -- what is multiplied by a size above 0 fits where the place does
 pub factor-fits : (a size : ℕ) → 0 < size → recordBytes + a * size < 2 ^ 64 → a < 2 ^ 64
@@ -23,7 +23,7 @@ pub copied-in : (m piece l : List ℕ) (at : ℕ) → at + length piece ≤ leng
 copied-in m piece l at h e =
     let k : at + length piece - at ≡ length piece = omega arith in
     let f : length (take (at + length piece - at) (drop at m)) ≡ length piece = simp (length-take, length-drop) (omega arith) in
-    let q : l ≡ piece = e ∙ rw (drop-none (take (at + length piece - at) (drop at m)) (length piece) f, take-length) (append-nil piece) in
+    let q : l ≡ piece = e ∙ rw (drop-of-length-le (take (at + length piece - at) (drop at m)) {i = length piece} (omega (arith, f)), take-length) (append-nil piece) in
     rw q (part-back m piece at (at + length piece) (omega arith) h (sym k))
 
 -- the library's copy of a part into a whole piece
@@ -33,7 +33,7 @@ pub copied-out : (m piece l : List ℕ) (at : ℕ) → at + length piece ≤ len
 copied-out m piece l at h e =
     let k : at + length piece - at ≡ length piece = omega arith in
     let f : length piece ≡ length (take (length piece) (drop at m)) = simp (length-take, length-drop) (omega arith) in
-    e ∙ simp (k, take-length, drop-none piece (length (take (length piece) (drop at m))) f, append-nil)
+    e ∙ simp (k, take-length, drop-of-length-le piece {i = length (take (length piece) (drop at m))} (omega (arith, f)), append-nil)
 
 -- ---- a copy inside one list
 

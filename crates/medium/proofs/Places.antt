@@ -9,7 +9,7 @@ use lib.Arith.{digits-lt}
 use Rattle.layout.specs.declared.Spot.{Spot}
 use Rattle.layout.proofs.Spots.{same-spot}
 use Rattle.medium.specs.declared.Geometry.{Geometry}
-use Rattle.medium.specs.Medium.{recordBytes, place, needed, Inside}
+use Rattle.medium.specs.Medium.{recordBytes, place, bytesNeeded, Inside}
 
 -- a spot's number among all spots, disk by disk
 abbrev number : (g : Geometry) (p : Spot) → ℕ
@@ -58,8 +58,8 @@ disjoint g p q a b n = elim (numbers-differ g p q a b n) [
   | inr h ↦ inr (lower-place g q p h)
 ]
 
-pub inside : (g : Geometry) (disks : ℕ) (p : Spot) → p .disk < disks → p .row .0 < g .rows → Inside g (needed g disks) p
-unfolding place needed
+pub inside : (g : Geometry) (disks : ℕ) (p : Spot) → p .disk < disks → p .row .0 < g .rows → Inside g (bytesNeeded g disks) p
+unfolding place bytesNeeded
 inside g disks p d r =
     let f : suc (number g p) * g .size ≤ disks * g .rows * g .size = mul-le-mul-right (g .size) (digits-lt d r) in
     record { row = r; fits = omega (arith, rw suc-mul at f) }

@@ -9,14 +9,14 @@ use lib.Seq.{sets, length-sets}
 use Rattle.base.proofs.Lists.{part-stored, part-kept, drop-kept}
 use Rattle.layout.specs.declared.Spot.{Spot}
 use Rattle.medium.specs.declared.Geometry.{Geometry}
-use Rattle.medium.specs.Medium.{recordBytes, place, observe, Store, noStore, recordStore, blockStore, apply, StoreFits, Left, tornBlock, oldRecord, newRecord, MayLeave, cutStore, applyCut}
-use Rattle.medium.specs.Laws.{Holds, SparesRecord, Spares, Stored, MediumLaws}
+use Rattle.medium.specs.Medium.{recordBytes, place, observe, Store, noStore, recordStore, blockStore, apply, StoreFits, AfterCut, tornBlock, oldRecord, newRecord, MayLeave, cutStore, applyCut}
+use Rattle.medium.specs.Laws.{Holds, OtherThanRecord, OtherThanSpot, Stored, MediumLaws}
 use Rattle.medium.proofs.Places.{past-record, disjoint, inside}
 
 -- ---- a store that lies in the medium
 
 stored : (g : Geometry) (s : Store) (m : List ℕ) → StoreFits g (length m) s → Stored g s (observe m) (observe (apply g s m))
-unfolding observe apply StoreFits Holds SparesRecord Spares
+unfolding observe apply StoreFits Holds OtherThanRecord OtherThanSpot
 stored g noStore m f = record { length-kept = refl; read-back = tt; record-kept = λ _. refl; spots-kept = λ q r n. refl }
 stored g (recordStore sector) m f = record {
   length-kept = length-sets m 0 sector;
@@ -43,7 +43,7 @@ beyond-kept g n (blockStore p bytes) m f = drop-kept m bytes (place g p) n (omeg
 -- ---- a store that was cut
 
 -- what a cut leaves lies where the store does
-cut-fits : (g : Geometry) (n : ℕ) (s : Store) (l : Left) → StoreFits g n s → MayLeave s l → StoreFits g n (cutStore s l)
+cut-fits : (g : Geometry) (n : ℕ) (s : Store) (l : AfterCut) → StoreFits g n s → MayLeave s l → StoreFits g n (cutStore s l)
 unfolding StoreFits MayLeave cutStore
 cut-fits g n noStore l f c = absurd c
 cut-fits g n (recordStore sector) (tornBlock bytes) f c = absurd c
@@ -53,23 +53,23 @@ cut-fits g n (blockStore p stored) (tornBlock bytes) f c = (f .0, c ∙ f .1)
 cut-fits g n (blockStore p stored) oldRecord f c = absurd c
 cut-fits g n (blockStore p stored) newRecord f c = absurd c
 
-cut-spares-record : (s : Store) (l : Left) → MayLeave s l → SparesRecord s → SparesRecord (cutStore s l)
-unfolding MayLeave cutStore SparesRecord
-cut-spares-record noStore l c n = absurd c
-cut-spares-record (recordStore sector) l c n = absurd n
-cut-spares-record (blockStore p stored) (tornBlock bytes) c n = tt
-cut-spares-record (blockStore p stored) oldRecord c n = absurd c
-cut-spares-record (blockStore p stored) newRecord c n = absurd c
+cut-other-than-record : (s : Store) (l : AfterCut) → MayLeave s l → OtherThanRecord s → OtherThanRecord (cutStore s l)
+unfolding MayLeave cutStore OtherThanRecord
+cut-other-than-record noStore l c n = absurd c
+cut-other-than-record (recordStore sector) l c n = absurd n
+cut-other-than-record (blockStore p stored) (tornBlock bytes) c n = tt
+cut-other-than-record (blockStore p stored) oldRecord c n = absurd c
+cut-other-than-record (blockStore p stored) newRecord c n = absurd c
 
-cut-spares : (s : Store) (l : Left) (q : Spot) → MayLeave s l → Spares s q → Spares (cutStore s l) q
-unfolding MayLeave cutStore Spares
-cut-spares noStore l q c n = absurd c
-cut-spares (recordStore sector) (tornBlock bytes) q c n = absurd c
-cut-spares (recordStore sector) oldRecord q c n = tt
-cut-spares (recordStore sector) newRecord q c n = tt
-cut-spares (blockStore p stored) (tornBlock bytes) q c n = n
-cut-spares (blockStore p stored) oldRecord q c n = absurd c
-cut-spares (blockStore p stored) newRecord q c n = absurd c
+cut-other-than-spot : (s : Store) (l : AfterCut) (q : Spot) → MayLeave s l → OtherThanSpot s q → OtherThanSpot (cutStore s l) q
+unfolding MayLeave cutStore OtherThanSpot
+cut-other-than-spot noStore l q c n = absurd c
+cut-other-than-spot (recordStore sector) (tornBlock bytes) q c n = absurd c
+cut-other-than-spot (recordStore sector) oldRecord q c n = tt
+cut-other-than-spot (recordStore sector) newRecord q c n = tt
+cut-other-than-spot (blockStore p stored) (tornBlock bytes) q c n = n
+cut-other-than-spot (blockStore p stored) oldRecord q c n = absurd c
+cut-other-than-spot (blockStore p stored) newRecord q c n = absurd c
 
 pub medium-laws : MediumLaws
 unfolding applyCut
@@ -80,7 +80,7 @@ medium-laws = record {
   stored = stored;
   beyond-kept = beyond-kept;
   cut-stored = λ g s l m f c. stored g (cutStore s l) m (cut-fits g (length m) s l f c);
-  cut-spares-record = cut-spares-record;
-  cut-spares = cut-spares;
+  cut-other-than-record = cut-other-than-record;
+  cut-other-than-spot = cut-other-than-spot;
   cut-beyond-kept = λ g n s l m f c. beyond-kept g n (cutStore s l) m (cut-fits g n s l f c);
 }

@@ -6,7 +6,7 @@ use mathlib.Core.Logic.{_⊎_, _≢_}
 use lib.ListN.{length, drop}
 use Rattle.layout.specs.declared.Spot.{Spot}
 use Rattle.medium.specs.declared.Geometry.{Geometry}
-use Rattle.medium.specs.Medium.{recordBytes, place, needed, Observations, observe, Store, noStore, recordStore, blockStore, apply, Inside, StoreFits, Left, MayLeave, cutStore, applyCut}
+use Rattle.medium.specs.Medium.{recordBytes, place, bytesNeeded, Observations, observe, Store, noStore, recordStore, blockStore, apply, Inside, StoreFits, AfterCut, MayLeave, cutStore, applyCut}
 
 -- what was stored is seen
 unfoldable pub Holds : (g : Geometry) (s : Store) (o : Observations) → Type 0
@@ -14,23 +14,23 @@ Holds g noStore o = Unit {0}
 Holds g (recordStore sector) o = o .sector ≡ sector
 Holds g (blockStore p bytes) o = o .bytesAt g p ≡ bytes
 
--- a store that is not of the record; that is not of spot q
-unfoldable pub SparesRecord : (s : Store) → Type 0
-SparesRecord noStore = Unit {0}
-SparesRecord (recordStore sector) = ⊥
-SparesRecord (blockStore p bytes) = Unit {0}
+-- a store that is not to the record; that is not to spot q
+unfoldable pub OtherThanRecord : (s : Store) → Type 0
+OtherThanRecord noStore = Unit {0}
+OtherThanRecord (recordStore sector) = ⊥
+OtherThanRecord (blockStore p bytes) = Unit {0}
 
-unfoldable pub Spares : (s : Store) (q : Spot) → Type 0
-Spares noStore q = Unit {0}
-Spares (recordStore sector) q = Unit {0}
-Spares (blockStore p bytes) q = p ≢ q
+unfoldable pub OtherThanSpot : (s : Store) (q : Spot) → Type 0
+OtherThanSpot noStore q = Unit {0}
+OtherThanSpot (recordStore sector) q = Unit {0}
+OtherThanSpot (blockStore p bytes) q = p ≢ q
 
 -- what a store makes of what is seen
 pub record Stored (g : Geometry) (s : Store) (before after : Observations) : Type 0 where
   pub length-kept : after .byteCount ≡ before .byteCount
   pub read-back : Holds g s after
-  pub record-kept : SparesRecord s → after .sector ≡ before .sector
-  pub spots-kept : (q : Spot) → q .row .0 < g .rows → Spares s q → after .bytesAt g q ≡ before .bytesAt g q
+  pub record-kept : OtherThanRecord s → after .sector ≡ before .sector
+  pub spots-kept : (q : Spot) → q .row .0 < g .rows → OtherThanSpot s q → after .bytesAt g q ≡ before .bytesAt g q
 
 -- All laws. A store is one that lies in the medium.
 pub record MediumLaws : Type 0 where
@@ -39,14 +39,14 @@ pub record MediumLaws : Type 0 where
   pub disjoint : (g : Geometry) (p q : Spot) → p .row .0 < g .rows → q .row .0 < g .rows → p ≢ q
       → (place g p + g .size ≤ place g q) ⊎ (place g q + g .size ≤ place g p)
   -- a spot of the disks lies in the bytes that they need
-  pub inside : (g : Geometry) (disks : ℕ) (p : Spot) → p .disk < disks → p .row .0 < g .rows → Inside g (needed g disks) p
+  pub inside : (g : Geometry) (disks : ℕ) (p : Spot) → p .disk < disks → p .row .0 < g .rows → Inside g (bytesNeeded g disks) p
   pub stored : (g : Geometry) (s : Store) (m : List ℕ) → StoreFits g (length m) s → Stored g s (observe m) (observe (apply g s m))
-  -- "Bytes beyond the last disk are never touched", with n = needed g disks
+  -- "Bytes beyond the last disk are never touched", with n = bytesNeeded g disks
   pub beyond-kept : (g : Geometry) (n : ℕ) (s : Store) (m : List ℕ) → StoreFits g n s → drop n (apply g s m) ≡ drop n m
-  -- the same for a store that was cut, which changes nothing else either
-  pub cut-stored : (g : Geometry) (s : Store) (l : Left) (m : List ℕ) → StoreFits g (length m) s → MayLeave s l
+  -- the same for a store that was cut; and where the store was not to the record or a spot, what is left of it is not
+  pub cut-stored : (g : Geometry) (s : Store) (l : AfterCut) (m : List ℕ) → StoreFits g (length m) s → MayLeave s l
       → Stored g (cutStore s l) (observe m) (observe (applyCut g s l m))
-  pub cut-spares-record : (s : Store) (l : Left) → MayLeave s l → SparesRecord s → SparesRecord (cutStore s l)
-  pub cut-spares : (s : Store) (l : Left) (q : Spot) → MayLeave s l → Spares s q → Spares (cutStore s l) q
-  pub cut-beyond-kept : (g : Geometry) (n : ℕ) (s : Store) (l : Left) (m : List ℕ) → StoreFits g n s → MayLeave s l
+  pub cut-other-than-record : (s : Store) (l : AfterCut) → MayLeave s l → OtherThanRecord s → OtherThanRecord (cutStore s l)
+  pub cut-other-than-spot : (s : Store) (l : AfterCut) (q : Spot) → MayLeave s l → OtherThanSpot s q → OtherThanSpot (cutStore s l) q
+  pub cut-beyond-kept : (g : Geometry) (n : ℕ) (s : Store) (l : AfterCut) (m : List ℕ) → StoreFits g n s → MayLeave s l
       → drop n (applyCut g s l m) ≡ drop n m

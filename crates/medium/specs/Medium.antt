@@ -17,8 +17,8 @@ unfoldable pub place : (g : Geometry) (p : Spot) → ℕ
 place g p = recordBytes + (p .disk * g .rows + p .row .0) * g .size
 
 -- the bytes that the record and so many disks take
-unfoldable pub needed : (g : Geometry) (disks : ℕ) → ℕ
-needed g disks = recordBytes + disks * g .rows * g .size
+unfoldable pub bytesNeeded : (g : Geometry) (disks : ℕ) → ℕ
+bytesNeeded g disks = recordBytes + disks * g .rows * g .size
 
 -- ---- what a call sees of a medium
 
@@ -59,13 +59,13 @@ StoreFits g n (blockStore p bytes) = Inside g n p × (length bytes ≡ g .size)
 -- ---- cuts
 
 -- "A block store then leaves any bytes in its spot", "A record store leaves the old record .. or the new".
-pub data Left : Type 0 where
-  tornBlock : (bytes : List ℕ) → Left
-  oldRecord : Left
-  newRecord : Left
+pub data AfterCut : Type 0 where
+  tornBlock : (bytes : List ℕ) → AfterCut
+  oldRecord : AfterCut
+  newRecord : AfterCut
 
 -- what a cut in a store may leave; "A cut falls in one call's store", so there is one
-unfoldable pub MayLeave : (s : Store) (l : Left) → Type 0
+unfoldable pub MayLeave : (s : Store) (l : AfterCut) → Type 0
 MayLeave noStore l = ⊥
 MayLeave (recordStore sector) (tornBlock bytes) = ⊥
 MayLeave (recordStore sector) oldRecord = Unit {0}
@@ -75,7 +75,7 @@ MayLeave (blockStore p stored) oldRecord = ⊥
 MayLeave (blockStore p stored) newRecord = ⊥
 
 -- the store that a cut makes of a store
-unfoldable pub cutStore : (s : Store) (l : Left) → Store
+unfoldable pub cutStore : (s : Store) (l : AfterCut) → Store
 cutStore noStore l = noStore
 cutStore (recordStore sector) (tornBlock bytes) = noStore
 cutStore (recordStore sector) oldRecord = noStore
@@ -85,5 +85,5 @@ cutStore (blockStore p stored) oldRecord = noStore
 cutStore (blockStore p stored) newRecord = noStore
 
 -- the medium after a cut
-unfoldable pub applyCut : (g : Geometry) (s : Store) (l : Left) (m : List ℕ) → List ℕ
+unfoldable pub applyCut : (g : Geometry) (s : Store) (l : AfterCut) (m : List ℕ) → List ℕ
 applyCut g s l m = apply g (cutStore s l) m

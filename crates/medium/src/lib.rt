@@ -8,7 +8,7 @@ ghost use mathlib.Core.Logic.{_⊎_, _≢_};
 ghost use Prim.Native.Nat.{_+_, _≤_, _<_, _^_};
 ghost use lib.ListN.{length, take, drop};
 ghost use lib.Seq.{sets};
-ghost use Rattle.medium.specs.Medium.{place, needed, observe, blockStore, apply, Inside};
+ghost use Rattle.medium.specs.Medium.{place, bytesNeeded, observe, blockStore, apply, Inside};
 use layout::Spot;
 
 // Document 01's Z and s: the bytes in a block, and the rows on each disk.
@@ -20,8 +20,8 @@ pub struct Geometry {
 // The bytes that the record and so many disks take.
 pub fn bytes_needed(g: Geometry, disks: usize) -> usize
     requires { ⌜ 0 < g .size ⌝ }
-    requires { ⌜ needed g disks < 2 ^ 64 ⌝ }
-    ensures { λ r. ⌜ r ≡ needed g disks ⌝ }
+    requires { ⌜ bytesNeeded g disks < 2 ^ 64 ⌝ }
+    ensures { λ r. ⌜ r ≡ bytesNeeded g disks ⌝ }
 {
     512 + disks * g.rows * g.size
 }

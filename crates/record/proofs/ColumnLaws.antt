@@ -14,7 +14,7 @@ use lib.Seq.{take-suc, take-all}
 use Rattle.base.proofs.Booleans.{cond-cases, and-left, and-right, and-both}
 use Rattle.record.specs.declared.Column.{Column}
 use Rattle.record.specs.declared.Column.the-variants.{Number, Blank, NotANumber}
-use Rattle.record.specs.Decimal.{space, zeroDigit, columnWidth, digit, leading, decimal, blank, isDigit, columnStep, columnFold, readColumn}
+use Rattle.record.specs.Decimal.{space, zeroDigit, columnWidth, lastDigit, leading, decimal, blank, isDigit, columnStep, columnFold, readColumn}
 use Rattle.record.proofs.Lengths.{length-decimal}
 use Rattle.record.proofs.Folds.{fold-snoc, fold-next, digit-low, digit-high, fold-small}
 
@@ -45,7 +45,7 @@ step-digit (suc q) r h =
 decimal-read : (w n : ℕ) → columnFold Blank (leading w (n / 10)) ≡ shown (n / 10) → columnFold Blank (decimal (suc w) n) ≡ Number n
 unfolding decimal
 decimal-read w n e =
-    fold-snoc Blank (leading w (n / 10)) (digit n)
+    fold-snoc Blank (leading w (n / 10)) (lastDigit n)
     ∙ rw (e, step-digit (n / 10) (n % 10) (mod-lt n (omega arith)), div-add-mod' n 10)
 
 shorter : (n w : ℕ) → n < 10 ^ suc w → n / 10 < 10 ^ w
@@ -72,7 +72,7 @@ blank-read = refl
 impossible : {A : Type 0} → _≡_ {A = ℕ} 0 1 → A
 impossible e = absurd (omega arith)
 
-last-digit : (q b n : ℕ) → isDigit b ≡ true → n ≡ q * 10 + (b - zeroDigit) → (q ≡ n / 10) × (b ≡ digit n)
+last-digit : (q b n : ℕ) → isDigit b ≡ true → n ≡ q * 10 + (b - zeroDigit) → (q ≡ n / 10) × (b ≡ lastDigit n)
 last-digit q b n h e =
     let k : b - zeroDigit < 10 = omega (arith, digit-high b h) in
     rw (e, digits-div q k, digits-mod q k) (refl, omega (arith, digit-low b h))
@@ -81,16 +81,16 @@ shown-number : (n : ℕ) → (n ≡ 0 → ⊥) → Number n ≡ shown n
 shown-number zero h = absurd (h refl)
 shown-number (suc n) h = refl
 
-step-number : (c : Column) (b n : ℕ) → columnStep c b ≡ Number n → (c ≡ shown (n / 10)) × (b ≡ digit n)
+step-number : (c : Column) (b n : ℕ) → columnStep c b ≡ Number n → (c ≡ shown (n / 10)) × (b ≡ lastDigit n)
 unfolding columnStep
 step-number (Number q) b n =
-    cond-cases (λ c. c ≡ Number n → (Number q ≡ shown (n / 10)) × (b ≡ digit n)) (isDigit b && not (eqb q 0))
+    cond-cases (λ c. c ≡ Number n → (Number q ≡ shown (n / 10)) × (b ≡ lastDigit n)) (isDigit b && not (eqb q 0))
     (λ f e. let g = last-digit q b n (and-left (isDigit b) (not (eqb q 0)) f) (cc) in
     (shown-number q (eqb-false q 0 (not-true (eqb q 0) (and-right (isDigit b) (not (eqb q 0)) f))) ∙ ap shown (g .0), g .1))
     (λ _ e. impossible (cc))
 step-number Blank b n =
-    cond-cases (λ c. c ≡ Number n → (Blank ≡ shown (n / 10)) × (b ≡ digit n)) (eqb b space) (λ _ e. impossible (cc))
-    (λ _. cond-cases (λ c. c ≡ Number n → (Blank ≡ shown (n / 10)) × (b ≡ digit n)) (isDigit b)
+    cond-cases (λ c. c ≡ Number n → (Blank ≡ shown (n / 10)) × (b ≡ lastDigit n)) (eqb b space) (λ _ e. impossible (cc))
+    (λ _. cond-cases (λ c. c ≡ Number n → (Blank ≡ shown (n / 10)) × (b ≡ lastDigit n)) (isDigit b)
     (λ f e. let k : n ≡ b - zeroDigit = cc in let g = last-digit 0 b n f (omega arith) in (ap shown (g .0), g .1))
     (λ _ e. impossible (cc)))
 step-number NotANumber b n = λ e. impossible (cc)

@@ -7,11 +7,11 @@ use native.Mathlib.Nat.{zero-add}
 use native.Mathlib.Numerals.{add-one}
 use native.Mathlib.Omega.{arith}
 use lib.Dec.{eqb}
-use lib.ListN.{length, take, drop, getD, set, replicate, length-set, length-take, length-drop}
+use lib.ListN.{length, take, drop, getD, set, replicate, length-set, length-take, length-drop, drop-of-length-le}
 use lib.Seq.{sets, drop-cons, getD-set-same, drop-set-lt, append-snoc}
 use Rattle.base.specs.Below.{table}
-use Rattle.base.proofs.Lists.{sets-append, part-back, drop-none}
-use Rattle.record.specs.Decimal.{space, columnWidth, digit, leading, decimal}
+use Rattle.base.proofs.Lists.{sets-append, part-back}
+use Rattle.record.specs.Decimal.{space, columnWidth, lastDigit, leading, decimal}
 use Rattle.record.specs.Sector.{columnCount, growths, markCount, markByte, lineFeed, field, columns, markBytes, ending, sector}
 use Rattle.record.proofs.Lengths.{length-columns, length-marks}
 
@@ -30,22 +30,22 @@ no-columns n [] e = refl
 no-columns n (b ∷ page) e = absurd (omega arith)
 
 -- a number is written from its last digit
-pub last-digit : (w n : ℕ) (page : List ℕ) → length page ≡ w → 0 < w
-    → leading (w - 1) (n / 10) ++ drop (w - 1) (set page (w - 1) (digit n)) ≡ decimal w n
+pub last-digit-stored : (w n : ℕ) (page : List ℕ) → length page ≡ w → 0 < w
+    → leading (w - 1) (n / 10) ++ drop (w - 1) (set page (w - 1) (lastDigit n)) ≡ decimal w n
 unfolding decimal
-last-digit zero n page e h = absurd (omega arith)
-last-digit (suc w) n page e h =
+last-digit-stored zero n page e h = absurd (omega arith)
+last-digit-stored (suc w) n page e h =
     let m : suc w - 1 ≡ w = omega arith in
-    rw (m, drop-stored page w (digit n) (omega arith), drop-none page (suc w) e)
+    rw (m, drop-stored page w (lastDigit n) (omega arith), drop-of-length-le page {i = suc w} (omega arith))
 
 -- and the digits before it follow, each in place of what was there
 pub digit-before : (i rest : ℕ) (page : List ℕ) → 0 < i → i ≤ length page
-    → leading (i - 1) (rest / 10) ++ drop (i - 1) (set page (i - 1) (cond (eqb rest 0) space (digit rest))) ≡ leading i rest ++ drop i page
+    → leading (i - 1) (rest / 10) ++ drop (i - 1) (set page (i - 1) (cond (eqb rest 0) space (lastDigit rest))) ≡ leading i rest ++ drop i page
 unfolding leading
 digit-before zero rest page h k = absurd (omega arith)
 digit-before (suc j) rest page h k =
     let m : suc j - 1 ≡ j = omega arith in
-    let b = cond (eqb rest 0) space (digit rest) in
+    let b = cond (eqb rest 0) space (lastDigit rest) in
     rw (m, drop-stored page j b (omega arith)) (sym (append-snoc (leading j (rest / 10)) b (drop (suc j) page)))
 
 -- ---- the record

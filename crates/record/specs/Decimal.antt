@@ -21,19 +21,19 @@ columnWidth = 10
 
 -- ---- writing
 
--- the last digit of n
-abbrev pub digit : (n : ℕ) → ℕ
-digit n = zeroDigit + n % 10
+-- the byte of the last digit of n
+abbrev pub lastDigit : (n : ℕ) → ℕ
+lastDigit n = zeroDigit + n % 10
 
--- w columns that end in the digits of n; nothing is written for 0
+-- w columns that end in the digits of n; spaces alone where n is 0
 unfoldable pub leading : (w n : ℕ) → List ℕ
 leading zero n = []
-leading (suc w) n = leading w (n / 10) ++ (cond (eqb n 0) space (digit n) ∷ [])
+leading (suc w) n = leading w (n / 10) ++ (cond (eqb n 0) space (lastDigit n) ∷ [])
 
--- n in w columns: its last digit, and before it what is left of n
+-- n in w columns: its last digit, also for 0, and before it the digits of n / 10
 unfoldable pub decimal : (w n : ℕ) → List ℕ
 decimal zero n = []
-decimal (suc w) n = leading w (n / 10) ++ (digit n ∷ [])
+decimal (suc w) n = leading w (n / 10) ++ (lastDigit n ∷ [])
 
 -- a column that holds no number
 unfoldable pub blank : List ℕ

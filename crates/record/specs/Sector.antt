@@ -32,14 +32,14 @@ lineFeed = 0x0A
 
 -- ---- writing
 
--- "counts after N[t] blank": is column i of them
+-- "counts after N[t] blank": whether column i is one of them
 unfoldable pub isBlank : (t i : ℕ) → Bool
 isBlank t i = ltb (3 + t) i && ltb i 11
 
 unfoldable pub field : (t i n : ℕ) → List ℕ
 field t i n = cond (isBlank t i) blank (decimal columnWidth n)
 
--- the first k columns
+-- "Z at byte 0, s at 10, t at 20, N[0] to N[7] from 30 (counts after N[t] blank), growing at 110, w at 120": the first k of them
 unfoldable pub columns : (numbers : List ℕ) (k : ℕ) → List ℕ
 columns numbers zero = []
 columns numbers (suc k) = columns numbers k ++ field (growths numbers) k (getD numbers k 0)
@@ -55,7 +55,7 @@ markBytes marks k = table (λ i. markByte (getD marks i false)) k
 unfoldable pub ending : List ℕ
 ending = replicate 317 space ++ (lineFeed ∷ [])
 
--- the record
+-- the record, 512 bytes
 unfoldable pub sector : (numbers : List ℕ) (marks : List Bool) → List ℕ
 sector numbers marks = columns numbers columnCount ++ (markBytes marks markCount ++ ending)
 
@@ -110,7 +110,7 @@ numbersFound bytes t = table (λ i. valueOf (readField bytes t i)) columnCount
 unfoldable pub marksFound : (bytes : List ℕ) → List Bool
 marksFound bytes = table (λ i. eqb (getD bytes (130 + i) 0) oneDigit) markCount
 
--- "A refusal has 0 for every figure beside its number."
+-- The columns alone, the marks alone, the whole. "A refusal has 0 for every figure beside its number."
 unfoldable pub readNumbers : (bytes : List ℕ) (t : ℕ) → NumbersRead
 readNumbers bytes t =
     cond (fieldsHold bytes t)

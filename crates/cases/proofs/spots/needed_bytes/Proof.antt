@@ -1,7 +1,7 @@
 -- `needed_bytes` meets its contract. Assumes nothing.
 use native.Mathlib.Omega.{arith}
 use borrow.Author.Needs.{needs}
-use Rattle.medium.specs.Medium.{needed}
+use Rattle.medium.specs.Medium.{bytesNeeded}
 use Rattle.cases.proofs.spots.needed_bytes.Statement.{statement}
 use Rattle.cases.proofs.spots.needed_bytes.Tie as tie
 
@@ -9,7 +9,7 @@ geometry-requires : tie.Need-geometry-requires
 geometry-requires c κs = search needs
 
 bytes-needed-requires : tie.Need-bytes-needed-requires
-unfolding needed
+unfolding bytesNeeded
 bytes-needed-requires c κs = rw (c .geometry .ensures) (omega arith)
 
 returns : tie.Need-returns

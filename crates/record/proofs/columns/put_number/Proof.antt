@@ -9,8 +9,8 @@ use borrow.Author.Needs.{needs}
 use borrow.Author.Tests.{eq-eqb, ne-eqb}
 use lib.Dec.{eqb}
 use lib.ListN.{length, drop, set, length-set}
-use Rattle.record.specs.Decimal.{space, digit, leading, decimal}
-use Rattle.record.proofs.WriteCode.{no-columns, last-digit, digit-before}
+use Rattle.record.specs.Decimal.{space, lastDigit, leading, decimal}
+use Rattle.record.proofs.WriteCode.{no-columns, last-digit-stored, digit-before}
 use Rattle.record.proofs.columns.put_number.Statement.{statement}
 use Rattle.record.proofs.columns.put_number.Tie as tie
 
@@ -36,7 +36,7 @@ slice-write-page : tie.Need-slice-write-page Inv-loop μ-loop
 slice-write-page c = search needs
 
 loop-holds : tie.Need-loop-holds Inv-loop μ-loop
-loop-holds c = (omega arith, (simp length-set, last-digit _ (c .before .args .n) (c .before .args .page .now) refl (omega arith)))
+loop-holds c = (omega arith, (simp length-set, last-digit-stored _ (c .before .args .n) (c .before .args .page .now) refl (omega arith)))
 
 sub-i-2 : tie.Need-sub-i-2 Inv-loop μ-loop
 sub-i-2 c = search needs
@@ -59,7 +59,7 @@ loop-less c = search needs
 -- either arm stores the byte of the definition
 stored : (c : tie.Joined2 Inv-loop μ-loop)
     → let lp = c .before .before .loop in
-    c .if2 .page ≡ set (lp .page) (lp .i - 1) (cond (eqb (lp .rest) 0) space (digit (lp .rest)))
+    c .if2 .page ≡ set (lp .page) (lp .i - 1) (cond (eqb (lp .rest) 0) space (lastDigit (lp .rest)))
 stored c = ⊎-elim (λ w. rw (eq-eqb _ _ (w .0 .taken)) (w .1)) (λ w. rw (ne-eqb _ _ (w .0 .left)) (w .1)) (c .if2 .came)
 
 loop-again : tie.Need-loop-again Inv-loop μ-loop

@@ -5,7 +5,7 @@ use mathlib.Core.List.{_++_, append-nil}
 use native.Mathlib.Omega.{arith}
 use borrow.Author.Fill.{fill-more}
 use lib.ListN.{length, drop, replicate, length-set}
-use Rattle.base.proofs.Lists.{drop-none}
+use lib.Seq.{drop-length}
 use Rattle.record.proofs.write.fill.Statement.{statement}
 use Rattle.record.proofs.write.fill.Tie as tie
 
@@ -41,7 +41,7 @@ returns : tie.Need-returns Inv-loop μ-loop
 returns c =
     let p = c .before .before .args .page .now in
     let e : c .before .loop .i ≡ length p = omega arith in
-    c .before .loop .inv .1 .0 ∙ rw (e, drop-none p (length p) refl) (append-nil _)
+    c .before .loop .inv .1 .0 ∙ rw (e, drop-length p) (append-nil _)
 
 pub fill-spec : {M : Type 1} → statement M
 fill-spec =
