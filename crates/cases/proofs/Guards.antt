@@ -1,23 +1,20 @@
 -- What the run-time tests of the cases show, and what the code of layout and medium then asks. Assumes nothing.
-use Prim.Native.Nat.{ℕ, zero, suc, _+_, _*_, _≤_, _<_}
+use Prim.Native.Nat.{ℕ, suc, _*_, _≤_, _<_}
 use mathlib.Core.Path.{_≡_, ap}
 use mathlib.Core.Bool.{true, false, false≢true}
 use mathlib.Core.List.{List, [], _∷_}
 use mathlib.Core.Logic.{_≢_}
 use native.Mathlib.Nat.{mul-le-mul}
-use native.Mathlib.Numerals.{add-one}
 use native.Mathlib.Omega.{arith}
 use lib.ListN.{getD}
-use borrow.Author.Tests.{lt-ltb, le-leb}
 use Rattle.layout.specs.declared.GrowthDisks.{GrowthDisks}
 use Rattle.layout.specs.declared.Spot.{Spot}
 use Rattle.layout.specs.Growth.{movesFrom}
 use Rattle.layout.specs.History.{Within, history, diskCount, earlier, oldCount, addedCount, rising, newestGrowth, spotOf}
-use Rattle.layout.specs.Limits.{Limits, Grows, mostDisks, mostGrowths, mostRows}
+use Rattle.layout.specs.Limits.{Limits, Grows, mostDisks, mostRows}
 use Rattle.layout.specs.Windows.{windows, spotOfMark}
-use Rattle.base.proofs.Booleans.{and-both}
 use Rattle.layout.proofs.Histories.{not-rising, rising-some}
-use Rattle.layout.proofs.HistoryCode.{history-length, history-disks, limits-at, newest-old}
+use Rattle.layout.proofs.HistoryCode.{history-disks, limits-at, newest-old}
 use Rattle.layout.proofs.MarkSpots.{mark-spot-disk, mark-spot-moves}
 use Rattle.layout.proofs.NewestCode.{old-is, added-is, newest-grows}
 use Rattle.layout.proofs.Theorems.{spots-and-blocks}
@@ -28,34 +25,6 @@ use Rattle.medium.proofs.Theorems.{medium-laws}
 -- a test that fails shows nothing
 pub failed : {X : Type 0} → false ≡ true → X
 failed e = absurd (false≢true e)
-
--- ---- the limits
-
-pub rising-first : (l : List ℕ) → 0 < getD l 0 0 → rising (history 0 l) ≡ true
-unfolding history rising
-rising-first l h = le-leb 1 (getD l 0 0) h
-
-rising-suc : (k : ℕ) (l : List ℕ) → rising (history k l) ≡ true → getD l k 0 < getD l (suc k) 0 → rising (history (suc k) l) ≡ true
-unfolding history rising
-rising-suc zero l r h = and-both (lt-ltb (getD l 0 0) (getD l 1 0) h) r
-rising-suc (suc k) l r h = and-both (lt-ltb (getD l (suc k) 0) (getD l (suc (suc k)) 0) h) r
-
--- one count more
-pub rising-more : (k : ℕ) (l : List ℕ) → rising (history k l) ≡ true → getD l k 0 < getD l (k + 1) 0 → rising (history (k + 1) l) ≡ true
-rising-more k l r h = rw (add-one k) (rising-suc k l r (rw (add-one k) at h))
-
--- after the last turn, k = t
-pub limits-made : (s t k : ℕ) (l : List ℕ) → 0 < s → s ≤ mostRows → t ≤ mostGrowths → k ≤ t → t ≤ k → rising (history k l) ≡ true → getD l t 0 ≤ mostDisks
-    → Limits s (history t l)
-limits-made s t k l least most g up down r d =
-    let e : k ≡ t = omega arith in
-    record {
-      rise = rw e at r;
-      disks-most = omega (arith, history-disks t l);
-      growths-most = omega (arith, history-length t l);
-      rows-least = least;
-      rows-most = most;
-    }
 
 -- ---- blocks and spots
 

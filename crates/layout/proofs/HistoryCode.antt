@@ -1,18 +1,24 @@
 -- What the loops over the growths need at each turn: the array of counts read as a history. Assumes nothing.
 use Prim.Native.Nat.{ℕ, zero, suc, _+_, _-_, _*_, _/_, _%_, _≤_, _<_}
 use mathlib.Core.Path.{_≡_, refl, sym, _∙_, ap, subst}
-use mathlib.Core.Bool.{true}
+use mathlib.Core.Bool.{true, false}
 use mathlib.Core.List.{List, _∷_}
 use native.Mathlib.Nat.{mul-le-mul}
 use native.Mathlib.Decide.{ℕ-discrete}
 use native.Mathlib.Numerals.{add-one}
 use native.Mathlib.Omega.{arith}
 use lib.ListN.{getD, length}
+use borrow.Author.Tests.{lt-ltb, le-leb, lt-leb}
+use Rattle.layout.specs.declared.Change.{Change}
 use Rattle.layout.specs.declared.GrowthDisks.{GrowthDisks}
+use Rattle.layout.specs.declared.Reason.{Reason}
+use Rattle.layout.specs.declared.Reason.the-variants.{SetOut}
 use Rattle.layout.specs.declared.Spot.{Spot}
-use Rattle.layout.specs.Growth.{addedIndex, spotAfter, spotBefore, blockAfter}
+use Rattle.layout.specs.Growth.{addedIndex, spotAfter, changeOf, spotBefore, blockAfter}
 use Rattle.layout.specs.History.{Within, history, diskCount, earlier, oldCount, addedCount, newestGrowth, rising, spotOf, blockAt}
 use Rattle.layout.specs.Limits.{Limits, Grows, mostDisks, mostGrowths, mostRows}
+use Rattle.layout.specs.Reasons.{reasonAfter, reasonOf}
+use Rattle.base.proofs.Booleans.{and-both, clash, by-test}
 use Rattle.layout.proofs.Histories.{rising-up, rising-earlier, rising-some}
 use Rattle.layout.proofs.OneRow.{old-back}
 use Rattle.layout.proofs.OneGrowth.{block-after-added, block-after-old}
@@ -47,6 +53,12 @@ growths-most s t l a = omega (arith, a .growths-most, history-length t l)
 rise-two : (j : ℕ) (l : List ℕ) → rising (history (suc j) l) ≡ true → rising (getD l (suc j) 0 ∷ getD l j 0 ∷ earlier (history j l)) ≡ true
 rise-two j l r = subst (λ (h : List ℕ). rising h ≡ true) (history-two j l) r
 
+rise-one : (j : ℕ) (l : List ℕ) → rising (history (suc j) l) ≡ true → rising (getD l j 0 ∷ earlier (history j l)) ≡ true
+rise-one j l r = rising-earlier _ _ _ (rise-two j l r)
+
+rise-before : (j : ℕ) (l : List ℕ) → rising (history (suc j) l) ≡ true → rising (history j l) ≡ true
+rise-before j l r = subst (λ (h : List ℕ). rising h ≡ true) (sym (history-one j l)) (rise-one j l r)
+
 -- with k for suc j, as the code has it
 pub count-up : (j k : ℕ) (l : List ℕ) → k ≡ suc j → rising (history k l) ≡ true → getD l j 0 < getD l k 0
 count-up j k l e r = rw e (rising-up _ _ _ (rise-two j l (rw e at r)))
@@ -55,16 +67,13 @@ module _ (s j : ℕ) (l : List ℕ) (a : Limits s (history (suc j) l)) where
   up : getD l j 0 < getD l (suc j) 0
   up = count-up j (suc j) l refl (a .rise)
 
-  rise-one : rising (getD l j 0 ∷ earlier (history j l)) ≡ true
-  rise-one = rising-earlier _ _ _ (rise-two j l (a .rise))
-
   count-most : getD l (suc j) 0 ≤ mostDisks
   count-most = omega (arith, history-disks (suc j) l, a .disks-most)
 
   pub grows : Grows (getD l j 0) (getD l (suc j) 0 - getD l j 0)
   grows =
       record {
-        old = rising-some _ _ rise-one;
+        old = rising-some _ _ (rise-one j l (a .rise));
         added = omega (arith, up);
         most = omega (arith, up, count-most);
       }
@@ -72,7 +81,7 @@ module _ (s j : ℕ) (l : List ℕ) (a : Limits s (history (suc j) l)) where
   one-earlier : Limits s (history j l)
   one-earlier =
       record {
-        rise = subst (λ (h : List ℕ). rising h ≡ true) (sym (history-one j l)) rise-one;
+        rise = rise-before j l (a .rise);
         disks-most = omega (arith, history-disks j l, up, count-most);
         growths-most = omega (arith, a .growths-most, history-length j l, history-length (suc j) l);
         rows-least = a .rows-least;
@@ -85,6 +94,51 @@ limits-at s (suc t) k l a h =
     elim (ℕ-discrete k (suc t)) [
       | yes e ↦ subst (λ (i : ℕ). Limits s (history i l)) (sym e) a
       | no e ↦ limits-at s t k l (one-earlier s t l a) (omega (arith, e))
+    ]
+
+-- ---- counts that rise, as a test of them one by one finds
+
+pub rising-first : (l : List ℕ) → 0 < getD l 0 0 → rising (history 0 l) ≡ true
+unfolding history rising
+rising-first l h = le-leb 1 (getD l 0 0) h
+
+rising-suc : (k : ℕ) (l : List ℕ) → rising (history k l) ≡ true → getD l k 0 < getD l (suc k) 0 → rising (history (suc k) l) ≡ true
+unfolding history rising
+rising-suc zero l r h = and-both (lt-ltb (getD l 0 0) (getD l 1 0) h) r
+rising-suc (suc k) l r h = and-both (lt-ltb (getD l (suc k) 0) (getD l (suc (suc k)) 0) h) r
+
+-- one count more
+pub rising-more : (k : ℕ) (l : List ℕ) → rising (history k l) ≡ true → getD l k 0 < getD l (k + 1) 0 → rising (history (k + 1) l) ≡ true
+rising-more k l r h = rw (add-one k) (rising-suc k l r (rw (add-one k) at h))
+
+-- after the last turn, k = t
+pub limits-made : (s t k : ℕ) (l : List ℕ) → 0 < s → s ≤ mostRows → t ≤ mostGrowths → k ≤ t → t ≤ k → rising (history k l) ≡ true → getD l t 0 ≤ mostDisks
+    → Limits s (history t l)
+limits-made s t k l least most g up down r d =
+    let e : k ≡ t = omega arith in
+    record {
+      rise = rw e at r;
+      disks-most = omega (arith, history-disks t l);
+      growths-most = omega (arith, history-length t l);
+      rows-least = least;
+      rows-most = most;
+    }
+
+-- A history does not rise if its first count is 0, or its newest not above the one before; nor does a later history then.
+pub not-rising-first : (l : List ℕ) → getD l 0 0 ≤ 0 → rising (history 0 l) ≡ false
+unfolding history rising
+not-rising-first l h = lt-leb 1 (getD l 0 0) (omega arith)
+
+pub not-rising-more : (k : ℕ) (l : List ℕ) → getD l (k + 1) 0 ≤ getD l k 0 → rising (history (k + 1) l) ≡ false
+not-rising-more k l h =
+    by-test (rising (history (k + 1) l)) (λ r. absurd (omega (arith, count-up k (k + 1) l (add-one k) r))) (λ r. r)
+
+pub not-rising-later : (k t : ℕ) (l : List ℕ) → k ≤ t → rising (history k l) ≡ false → rising (history t l) ≡ false
+not-rising-later k zero l h r = let e : k ≡ 0 = omega arith in rw e at r
+not-rising-later k (suc t) l h r =
+    elim (ℕ-discrete k (suc t)) [
+      | yes e ↦ rw e at r
+      | no e ↦ by-test (rising (history (suc t) l)) (λ f. clash (rise-before t l f) (not-rising-later k t l (omega (arith, e)) r)) (λ f. f)
     ]
 
 -- ---- the loop from format to now, at its turn k
@@ -121,6 +175,21 @@ spot-suc s (suc k) l x = refl
 pub spot-next : (s k : ℕ) (l : List ℕ) (x : ℕ) (p q : Spot) → p ≡ spotOf s (history k l) x
     → q ≡ spotAfter (getD l k 0) (getD l (k + 1) 0 - getD l k 0) s x p → q ≡ spotOf s (history (k + 1) l) x
 spot-next s k l x p q e f = rw (add-one k) (rw (e, add-one k) at f ∙ sym (spot-suc s k l x))
+
+-- and the reason
+pub reason-first : (s : ℕ) (l : List ℕ) (x : ℕ) → SetOut ≡ reasonOf s (history 0 l) x
+unfolding history reasonOf
+reason-first s l x = refl
+
+reason-suc : (s k : ℕ) (l : List ℕ) (x : ℕ) → reasonOf s (history (suc k) l) x
+    ≡ reasonAfter (changeOf (getD l k 0) (getD l (suc k) 0 - getD l k 0) s x (spotOf s (history k l) x)) (suc k) (reasonOf s (history k l) x)
+unfolding history reasonOf
+reason-suc s zero l x = refl
+reason-suc s (suc k) l x = rw (history-length k l)
+
+pub reason-next : (s k : ℕ) (l : List ℕ) (x : ℕ) (p : Spot) (c : Change) (r q : Reason) → p ≡ spotOf s (history k l) x → r ≡ reasonOf s (history k l) x
+    → c ≡ changeOf (getD l k 0) (getD l (k + 1) 0 - getD l k 0) s x p → q ≡ reasonAfter c (k + 1) r → q ≡ reasonOf s (history (k + 1) l) x
+reason-next s k l x p c r q e f g o = rw (add-one k) (rw (g, e, f, add-one k) at o ∙ sym (reason-suc s k l x))
 
 -- ---- the loop back from now to format, at its turn k = j + 1
 

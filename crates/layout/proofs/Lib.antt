@@ -6,6 +6,8 @@ pub mod OneGrowth
 pub mod Bijection
 pub mod NewestGrowth
 pub mod LiveSpots
+pub mod LookUps
+pub mod ReasonsTrue
 pub mod MarkSpots
 pub mod MarkBlocks
 pub mod MoveCounts

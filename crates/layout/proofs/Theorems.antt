@@ -9,13 +9,16 @@ use Rattle.layout.specs.Growth.{minusMod, moves, partOf, newDisk, diskAf
 use Rattle.layout.specs.History.{diskCount, earlier, oldCount, addedCount, rising, spotOf, blockAt}
 use Rattle.layout.specs.Windows.{windows, windowOfRow, oldSpot, moving, windowOf, movingIn, uncopied, callsLeft}
 use Rattle.layout.specs.Limits.{Limits}
-use Rattle.layout.specs.Laws.{RemainderOf, Bijection, Moving, LiveSpots, Marks, MarksFit, Counts, LayoutLaws}
+use Rattle.layout.specs.Tally.{Tally, growing, movedBlocks}
+use Rattle.layout.specs.Laws.{RemainderOf, Bijection, Moving, LiveSpots, Marks, MarksFit, Counts, LookUps, ReasonTrue, LayoutLaws}
 use Rattle.layout.specs.Cases.{TableHolds, worked}
 use Rattle.layout.proofs.Histories.{rising-up}
 use Rattle.layout.proofs.Remainder.{remainder}
 use Rattle.layout.proofs.Bijection.{bijection}
 use Rattle.layout.proofs.NewestGrowth.{moving-law}
 use Rattle.layout.proofs.LiveSpots.{live-law}
+use Rattle.layout.proofs.LookUps.{look-ups-law}
+use Rattle.layout.proofs.ReasonsTrue.{reasons-law}
 use Rattle.layout.proofs.MarkBlocks.{marks-law}
 use Rattle.layout.proofs.MoveCounts.{counts-law}
 use Rattle.layout.proofs.WindowsCode.{marks-most}
@@ -61,6 +64,15 @@ module _ (s : ℕ) (h : List ℕ) (r : rising h ≡ true) (g : 0 < oldCount h) w
 pub marks-fit : (s : ℕ) (h : List ℕ) → Limits s h → 0 < oldCount h → MarksFit h
 marks-fit s h a g = marks-most (oldCount h) (addedCount h) (omega (arith, disks-sum s h (a .rise) g, a .disks-most))
 
+-- a tally's live spots, whether a growth runs or not
+pub look-ups : (t : Tally) → rising (t .counts) ≡ true → (t .mode ≡ growing → 0 < oldCount (t .counts)) → LookUps t
+look-ups t r g =
+    look-ups-law t (spots-and-blocks (t .rows) (t .counts) r) (λ e. live-spots (t .rows) (t .counts) r (g e) (movedBlocks t))
+
+-- the reason that is told of a block is true
+pub reason-true : (s : ℕ) (h : List ℕ) (x : ℕ) → rising h ≡ true → ReasonTrue s h x
+reason-true = reasons-law
+
 -- L1 to L12
 pub layout-cases : TableHolds
 unfolding worked spotOf blockAt changeOf callsLeft uncopied count moving movingIn windowOf windowOfRow windows oldSpot oldCount addedCount earlier diskCount spotAfter spotBefore blockAfter oldBlockSpot addedSpot diskAfter newDisk moves movesFrom partOf addedDisk minusMod diskBefore oldDisk addedIndex
@@ -76,5 +88,7 @@ layout-laws =
       marks-and-blocks = marks-and-blocks;
       marks-fit = marks-fit;
       move-counts = move-counts;
+      look-ups = look-ups;
+      reason-true = reason-true;
       layout-cases = layout-cases;
     }

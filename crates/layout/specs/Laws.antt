@@ -4,13 +4,17 @@ use Prim.Native.Nat.{ℕ, suc, _+_, _-_, _*_, _%_, _≤_, _<_}
 use mathlib.Core.Path.{_≡_}
 use mathlib.Core.Bool.{Bool, true, false, not, _&&_}
 use mathlib.Core.List.{List}
-use mathlib.Core.Option.{some}
+use mathlib.Core.Logic.{_≢_}
+use mathlib.Core.Option.{none, some}
+use lib.ListN.{length}
 use Rattle.layout.specs.declared.Spot.{Spot}
 use Rattle.base.specs.Below.{count}
 use Rattle.layout.specs.Growth.{minusMod}
 use Rattle.layout.specs.History.{diskCount, oldCount, addedCount, rising, Within, spotOf, blockAt}
 use Rattle.layout.specs.Windows.{windows, rowExists, oldSpot, moving, windowOf, markOf, blockOfMark, markedBlocks, movesOfWindow, uncopied, callsLeft, cutMoves, laterMoves, callsLeftByMarks}
 use Rattle.layout.specs.Live.{liveSpot, liveBlock}
+use Rattle.layout.specs.Reasons.{reasonOf, growthTold, firstGrowths}
+use Rattle.layout.specs.Tally.{Tally, notGrowing, growing, openBlocks, liveSpotOf, liveBlockOf, growthsOf}
 use Rattle.layout.specs.Limits.{Limits}
 use Rattle.layout.specs.Cases.{TableHolds}
 
@@ -71,6 +75,24 @@ pub record Counts (s : ℕ) (h : List ℕ) : Type 0 where
   pub calls-by-marks : (w : ℕ) (marks : List Bool)
       → callsLeft s h w (markedBlocks s h w marks) ≡ callsLeftByMarks (oldCount h) (addedCount h) s w marks
 
+-- a tally's live spots, whether a growth runs or not: the block at a spot is the inverse of a block's live spot
+pub record LookUps (t : Tally) : Type 0 where
+  pub live-within : (x : ℕ) → x < openBlocks t → Within (t .rows) (t .counts) (liveSpotOf t x)
+  pub live-distinct : (x y : ℕ) → x < openBlocks t → y < openBlocks t → liveSpotOf t x ≡ liveSpotOf t y → x ≡ y
+  pub block-of-live : (x : ℕ) → x < openBlocks t → liveBlockOf t (liveSpotOf t x) ≡ some x
+  pub live-of-block : (p : Spot) (x : ℕ) → Within (t .rows) (t .counts) p → liveBlockOf t p ≡ some x
+      → (x < openBlocks t) × (liveSpotOf t x ≡ p)
+  -- "After a finished growth 15 never occurs."
+  pub each-spot-taken : t .mode ≡ notGrowing → (p : Spot) → liveBlockOf t p ≢ none
+  -- the live spot is the one that the growths told of give it
+  pub live-growths : (x : ℕ) → liveSpotOf t x ≡ spotOf (t .rows) (growthsOf t x) x
+
+-- the reason that is told: the block is where the growth told put it, and no later one has changed that
+pub record ReasonTrue (s : ℕ) (h : List ℕ) (x : ℕ) : Type 0 where
+  pub growth-made : growthTold (reasonOf s h x) < length h
+  pub since-then : (j : ℕ) → growthTold (reasonOf s h x) ≤ j → j < length h → spotOf s (firstGrowths j h) x ≡ spotOf s h x
+  pub told-of-it : reasonOf s h x ≡ reasonOf s (firstGrowths (growthTold (reasonOf s h x)) h) x
+
 -- All laws. A history has a growth where its old disks are more than 0.
 pub record LayoutLaws : Type 0 where
   -- the remainder of b-(n-1) is the true one, also for b < n-1
@@ -81,5 +103,7 @@ pub record LayoutLaws : Type 0 where
   pub marks-and-blocks : (s : ℕ) (h : List ℕ) → rising h ≡ true → 0 < oldCount h → Marks s h
   pub marks-fit : (s : ℕ) (h : List ℕ) → Limits s h → 0 < oldCount h → MarksFit h
   pub move-counts : (s : ℕ) (h : List ℕ) → rising h ≡ true → 0 < oldCount h → Counts s h
+  pub look-ups : (t : Tally) → rising (t .counts) ≡ true → (t .mode ≡ growing → 0 < oldCount (t .counts)) → LookUps t
+  pub reason-true : (s : ℕ) (h : List ℕ) (x : ℕ) → rising h ≡ true → ReasonTrue s h x
   -- L1 to L12
   pub layout-cases : TableHolds

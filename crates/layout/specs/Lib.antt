@@ -2,6 +2,8 @@ pub mod Growth
 pub mod History
 pub mod Windows
 pub mod Live
+pub mod Reasons
+pub mod Tally
 pub mod Limits
 pub mod Laws
 pub mod Cases

@@ -4,11 +4,15 @@ ghost use mathlib.Core.Bool.{true};
 ghost use Prim.Native.Nat.{_*_, _<_, _≤_};
 ghost use Rattle.layout.specs.Limits.{Limits, mostGrowths};
 ghost use Rattle.layout.specs.History.{Within, history, diskCount, rising, newestGrowth, spotOf, blockAt};
+ghost use Rattle.layout.specs.Reasons.{reasonAfter, reasonOf};
 use super::Block;
+use super::Change;
 use super::GrowthDisks;
+use super::Reason;
 use super::Row;
 use super::Spot;
 use super::growth::added_index;
+use super::growth::change_of;
 use super::growth::spot_after;
 use super::growth::spot_before;
 
@@ -66,4 +70,40 @@ pub fn newest_growth(counts: [usize; 8], t: usize) -> GrowthDisks
     let old = counts[t - 1];
     let added = counts[t] - old;
     GrowthDisks { old, added }
+}
+
+// The reason after growth k, which did this with the block.
+fn reason_after(change: Change, k: usize, before: Reason) -> Reason
+    ensures { λ r. ⌜ r ≡ reasonAfter change k before ⌝ }
+{
+    match change {
+        Change::Moved(part) => Reason::MovedBy(k, part),
+        Change::Added => Reason::AddedBy(k),
+        Change::Stays => before,
+    }
+}
+
+// Why block x is at its spot after t growths.
+pub fn reason_of(counts: [usize; 8], t: usize, s: usize, x: Block) -> Reason
+    requires { ⌜ Limits s (history t counts) ⌝ }
+    requires { ⌜ x .0 < diskCount (history t counts) * s ⌝ }
+    ensures { λ r. ⌜ r ≡ reasonOf s (history t counts) (x .0) ⌝ }
+{
+    let n0 = counts[0];
+    let number = x.0;
+    let mut p = Spot {
+        disk: number % n0,
+        row: Row(number / n0),
+    };
+    let mut reason = Reason::SetOut;
+    let mut k = 0;
+    while k < t {
+        let m = counts[k];
+        let n = counts[k + 1] - m;
+        let change = change_of(m, n, s, number, p);
+        reason = reason_after(change, k + 1, reason);
+        p = spot_after(m, n, s, number, p);
+        k += 1;
+    }
+    reason
 }

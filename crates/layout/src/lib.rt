@@ -12,6 +12,7 @@ pub use growth::moves_from;
 pub use growth::part_of;
 pub use history::block_at;
 pub use history::newest_growth;
+pub use history::reason_of;
 pub use history::spot_of;
 pub use windows::calls_left;
 pub use windows::mark_of_spot;
@@ -50,4 +51,12 @@ pub enum Change {
     Moved(Part),
     Added,
     Stays,
+}
+
+// Document 01's "why it is there", of a block at its spot: set out at format, added by a growth, or moved
+// there by one. Growths are told by number, from 1.
+pub enum Reason {
+    SetOut,
+    AddedBy(usize),
+    MovedBy(usize, Part),
 }

@@ -6,7 +6,8 @@ use native.Mathlib.Omega.{arith}
 use borrow.Author.Tests.{leb-true}
 use borrow.Author.Needs.{needs}
 use Rattle.layout.specs.History.{history, rising}
-use Rattle.cases.proofs.Guards.{failed, rising-first, rising-more, limits-made}
+use Rattle.layout.proofs.HistoryCode.{rising-first, rising-more, limits-made}
+use Rattle.cases.proofs.Guards.{failed}
 use Rattle.cases.proofs.blocks.within.Statement.{statement}
 use Rattle.cases.proofs.blocks.within.Tie as tie
 

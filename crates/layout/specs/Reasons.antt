@@ -1,0 +1,33 @@
+-- Document 01, "Looking up spots": why a block is at its spot, "set out at format or added, by the last growth that placed it, or
+-- moved there, as head, body or tail, by the last growth that moved it". Assumes nothing.
+use Prim.Native.Nat.{ℕ, suc, _-_}
+use mathlib.Core.List.{List, [], _∷_}
+use lib.ListN.{length, drop}
+use Rattle.layout.specs.declared.Change.{Change}
+use Rattle.layout.specs.declared.Change.the-variants.{Moved, Added, Stays}
+use Rattle.layout.specs.declared.Reason.{Reason}
+use Rattle.layout.specs.declared.Reason.the-variants.{SetOut, AddedBy, MovedBy}
+use Rattle.layout.specs.Growth.{changeOf}
+use Rattle.layout.specs.History.{spotOf}
+
+-- the reason after growth k, which did this with the block
+unfoldable pub reasonAfter : (change : Change) (k : ℕ) (before : Reason) → Reason
+reasonAfter (Moved part) k before = MovedBy k part
+reasonAfter Added k before = AddedBy k
+reasonAfter Stays k before = before
+
+-- The reason of block x. "Growths are told by number, 1 to t": the newest one's number is how many counts are before its own.
+unfoldable pub reasonOf : (s : ℕ) (h : List ℕ) (x : ℕ) → Reason
+reasonOf s [] x = SetOut
+reasonOf s (c ∷ []) x = SetOut
+reasonOf s (c ∷ m ∷ h) x = reasonAfter (changeOf m (c - m) s x (spotOf s (m ∷ h) x)) (length (m ∷ h)) (reasonOf s (m ∷ h) x)
+
+-- "Growths are told by number, 1 to t; format is 0."
+unfoldable pub growthTold : (r : Reason) → ℕ
+growthTold SetOut = 0
+growthTold (AddedBy k) = k
+growthTold (MovedBy k part) = k
+
+-- the history after its first k growths
+unfoldable pub firstGrowths : (k : ℕ) (h : List ℕ) → List ℕ
+firstGrowths k h = drop (length h - suc k) h

@@ -1,0 +1,65 @@
+-- Document 01, "The plain volume and the cut": the tally, which follows the growth, and "The live spot" worked out from it.
+-- Blocks are numbers here; nothing is known of a state, a record or a medium. Assumes nothing.
+use Prim.Native.Nat.{ℕ, _*_}
+use mathlib.Core.Bool.{Bool, false, cond, not, _&&_, _||_}
+use mathlib.Core.List.{List}
+use mathlib.Core.Option.{Option, some}
+use lib.Dec.{ltb, eqb}
+use Rattle.layout.specs.declared.Reason.{Reason}
+use Rattle.layout.specs.declared.Spot.{Spot}
+use Rattle.layout.specs.History.{diskCount, earlier, oldCount, spotOf, blockAt}
+use Rattle.layout.specs.Live.{atNewSpot, liveSpot, liveBlock}
+use Rattle.layout.specs.Reasons.{reasonOf}
+use Rattle.layout.specs.Windows.{windowOf, callsLeft}
+
+-- whether a growth runs
+pub data Mode : Type 0 where
+  notGrowing growing : Mode
+
+abbrev pub byMode : {A : Type 0} (mode : Mode) (atRest running : A) → A
+byMode notGrowing atRest running = atRest
+byMode growing atRest running = running
+
+-- "It has s, the counts, whether a growth runs, a w, and which blocks are copied and which recorded." The counts are newest first.
+pub record Tally : Type 0 where
+  pub rows : ℕ
+  pub counts : List ℕ
+  pub mode : Mode
+  pub window : ℕ
+  pub copied : ℕ → Bool
+  pub recorded : ℕ → Bool
+
+-- "Not growing: all x < N[t]·s are open", "Growing: only blocks x < m·s are open": how many are
+unfoldable pub openBlocks : (t : Tally) → ℕ
+openBlocks t = byMode (t .mode) (diskCount (t .counts)) (oldCount (t .counts)) * t .rows
+
+-- "its window is below w, or is w with its recorded mark set"
+unfoldable pub recordedBy : (s : ℕ) (h : List ℕ) (w : ℕ) (recorded : ℕ → Bool) (x : ℕ) → Bool
+recordedBy s h w recorded x = ltb (windowOf s h x) w || (eqb (windowOf s h x) w && recorded x)
+
+unfoldable pub movedBlocks : (t : Tally) (x : ℕ) → Bool
+movedBlocks t x = recordedBy (t .rows) (t .counts) (t .window) (t .recorded) x
+
+-- the live spot of block x
+unfoldable pub liveSpotOf : (t : Tally) (x : ℕ) → Spot
+liveSpotOf t x = byMode (t .mode) (spotOf (t .rows) (t .counts) x) (liveSpot (t .rows) (t .counts) (movedBlocks t) x)
+
+-- the open block that lives at p, or none
+unfoldable pub liveBlockOf : (t : Tally) (p : Spot) → Option ℕ
+liveBlockOf t p = byMode (t .mode) (some (blockAt (t .rows) (t .counts) p)) (liveBlock (t .rows) (t .counts) (movedBlocks t) p)
+
+-- the growths that made the live spot of x: all, or all but the newest
+unfoldable pub growthsOf : (t : Tally) (x : ℕ) → List ℕ
+growthsOf t x = byMode (t .mode) (t .counts) (cond (atNewSpot (t .rows) (t .counts) (movedBlocks t) x) (t .counts) (earlier (t .counts)))
+
+-- why x is at its live spot
+unfoldable pub liveReasonOf : (t : Tally) (x : ℕ) → Reason
+liveReasonOf t x = reasonOf (t .rows) (growthsOf t x) x
+
+-- "x copied but not recorded"
+unfoldable pub waiting : (t : Tally) (x : ℕ) → Bool
+waiting t x = byMode (t .mode) false (t .copied x && not (t .recorded x))
+
+-- "the advance calls left, U + R - w, and 0 when not growing"
+unfoldable pub callsLeftOf : (t : Tally) → ℕ
+callsLeftOf t = byMode (t .mode) 0 (callsLeft (t .rows) (t .counts) (t .window) (t .copied))

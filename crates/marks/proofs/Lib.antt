@@ -1,0 +1,3 @@
+pub mod BlocksCode
+pub mod MarkSets
+pub mod SetsCode

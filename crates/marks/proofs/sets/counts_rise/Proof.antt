@@ -1,0 +1,57 @@
+-- `counts_rise` meets its contract. The loop's invariant: the counts passed rise. Assumes nothing.
+use Prim.Native.Nat.{suc, _-_, _≤_}
+use native.Mathlib.Omega.{arith}
+use Rattle.marks.proofs.SetsCode.{Risen, risen-none, risen-next, not-risen, risen-all}
+use Rattle.marks.proofs.sets.counts_rise.Statement.{statement}
+use Rattle.marks.proofs.sets.counts_rise.Tie as tie
+
+abbrev Inv-loop : tie.InvT-loop
+Inv-loop t counts last₀ k₀ last k = (k ≤ suc t) × Risen k last counts
+
+abbrev μ-loop : tie.MeasureT-loop
+μ-loop t counts last₀ k₀ last k = suc t - k
+
+loop-holds : tie.Need-loop-holds Inv-loop μ-loop
+loop-holds c = (omega arith, risen-none _)
+
+mul-count : tie.Need-mul-count Inv-loop μ-loop
+mul-count c = omega arith
+
+array-read-count : tie.Need-array-read-count Inv-loop μ-loop
+array-read-count c = omega arith
+
+returns : tie.Need-returns Inv-loop μ-loop
+returns c =
+    let l = c .before .before .loop in
+    not-risen (l .k) (l .last) _ _ (l .inv .1) (c .before .loop-test .taken) (c .if1 .taken)
+
+add-k : tie.Need-add-k Inv-loop μ-loop
+add-k c = omega arith
+
+loop-less : tie.Need-loop-less Inv-loop μ-loop
+loop-less c = omega arith
+
+loop-again : tie.Need-loop-again Inv-loop μ-loop
+loop-again c =
+    let l = c .before .before .loop in
+    (omega arith, risen-next (l .k) (l .last) _ (l .inv .1) (c .if1 .left))
+
+returns-2 : tie.Need-returns-2 Inv-loop μ-loop
+returns-2 c =
+    let l = c .before .loop in
+    risen-all (l .k) (l .last) _ _ (l .inv .1) (omega arith)
+
+pub counts-rise-spec : {M : Type 1} → statement M
+counts-rise-spec =
+    tie.close
+    (tie.spec
+    Inv-loop
+    μ-loop
+    loop-holds
+    mul-count
+    array-read-count
+    returns
+    add-k
+    loop-less
+    loop-again
+    returns-2)

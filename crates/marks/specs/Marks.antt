@@ -1,0 +1,35 @@
+-- Document 01, "Medium, state, record": sets of 64 marks, and the counts after N[t]. Assumes nothing.
+use Prim.Native.Nat.{ℕ, _*_}
+use mathlib.Core.Bool.{Bool, false, not, _&&_, _||_}
+use mathlib.Core.List.{List}
+use mathlib.Core.Option.{Option, none, some}
+use lib.Dec.{eqb, leb, ltb}
+use lib.ListN.{getD, replicate}
+use Rattle.base.specs.Below.{every, table}
+use Rattle.layout.specs.Windows.{rowExists}
+use Rattle.marks.specs.declared.LiveBlock.{LiveBlock}
+use Rattle.marks.specs.declared.LiveBlock.the-variants.{Lives, Nothing}
+
+-- "two sets of 64 marks"
+abbrev pub markCount : ℕ
+markCount = 64
+
+unfoldable pub noMarks : List Bool
+noMarks = replicate markCount false
+
+-- the marks of one set are all in another
+unfoldable pub within : (a b : List Bool) → Bool
+within a b = every (λ j. not (getD a j false) || getD b j false) markCount
+
+-- the marks of "the moving blocks of window w whose rows exist"
+unfoldable pub movingMarks : (m n s w : ℕ) → List Bool
+movingMarks m n s w = table (λ j. ltb j (m * n) && rowExists m n s w j) markCount
+
+-- "counts after N[t] are 0"
+unfoldable pub zerosAfter : (counts : List ℕ) (t : ℕ) → Bool
+zerosAfter counts t = every (λ i. leb i t || eqb (getD counts i 0) 0) 8
+
+-- a block that lives at a spot, or none, as the code answers it
+unfoldable pub asLiveBlock : (found : Option ℕ) → LiveBlock
+asLiveBlock none = Nothing
+asLiveBlock (some x) = Lives (record { 0 = x })

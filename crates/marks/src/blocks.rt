@@ -1,0 +1,121 @@
+// What the marks of window w say of the blocks of a growth under way.
+ghost use mathlib.Core.Path.{_≡_};
+ghost use Prim.Native.Nat.{_*_, _<_};
+ghost use Rattle.layout.specs.History.{Within, history, oldCount};
+ghost use Rattle.layout.specs.Limits.{Limits};
+ghost use Rattle.layout.specs.Live.{atNewSpot, liveSpot, liveBlock};
+ghost use Rattle.layout.specs.Tally.{recordedBy};
+ghost use Rattle.layout.specs.Windows.{markedBlocks};
+ghost use Rattle.marks.specs.Marks.{asLiveBlock};
+use super::LiveBlock;
+use layout::Block;
+use layout::Spot;
+
+// Is x a moving block of window w with its mark set?
+pub fn is_marked(
+    counts: [usize; 8],
+    t: usize,
+    s: usize,
+    w: usize,
+    marks: [bool; 64],
+    x: Block,
+) -> bool
+    requires { ⌜ Limits s (history t counts) ⌝ }
+    requires { ⌜ 0 < t ⌝ }
+    ensures { λ r. ⌜ r ≡ markedBlocks s (history t counts) w marks (x .0) ⌝ }
+{
+    let g = layout::newest_growth(counts, t);
+    let m = g.old;
+    let n = g.added;
+    if m * s <= x.0 {
+        return false;
+    }
+    let p = layout::spot_of(counts, t - 1, s, x);
+    if !layout::moves_from(m, n, p) {
+        return false;
+    }
+    let row = p.row;
+    if row.0 / (m + n) != w {
+        return false;
+    }
+    let j = layout::mark_of_spot(m, n, p);
+    marks[j]
+}
+
+// Is x at its new spot?
+pub fn at_new_spot(
+    counts: [usize; 8],
+    t: usize,
+    s: usize,
+    w: usize,
+    recorded: [bool; 64],
+    x: Block,
+) -> bool
+    requires { ⌜ Limits s (history t counts) ⌝ }
+    requires { ⌜ 0 < t ⌝ }
+    ensures { λ r. ⌜ r ≡ atNewSpot s (history t counts) (recordedBy s (history t counts) w (markedBlocks s (history t counts) w recorded)) (x .0) ⌝ }
+{
+    let g = layout::newest_growth(counts, t);
+    let m = g.old;
+    let n = g.added;
+    if m * s <= x.0 {
+        return false;
+    }
+    let p = layout::spot_of(counts, t - 1, s, x);
+    if !layout::moves_from(m, n, p) {
+        return false;
+    }
+    let row = p.row;
+    if row.0 / (m + n) < w {
+        return true;
+    }
+    is_marked(counts, t, s, w, recorded, x)
+}
+
+// The live spot of x.
+pub fn live_spot(
+    counts: [usize; 8],
+    t: usize,
+    s: usize,
+    w: usize,
+    recorded: [bool; 64],
+    x: Block,
+) -> Spot
+    requires { ⌜ Limits s (history t counts) ⌝ }
+    requires { ⌜ (0 < t) × (x .0 < oldCount (history t counts) * s) ⌝ }
+    ensures { λ r. ⌜ r ≡ liveSpot s (history t counts) (recordedBy s (history t counts) w (markedBlocks s (history t counts) w recorded)) (x .0) ⌝ }
+{
+    if at_new_spot(counts, t, s, w, recorded, x) {
+        return layout::spot_of(counts, t, s, x);
+    }
+    layout::spot_of(counts, t - 1, s, x)
+}
+
+// The block that lives at p.
+pub fn live_block(
+    counts: [usize; 8],
+    t: usize,
+    s: usize,
+    w: usize,
+    recorded: [bool; 64],
+    p: Spot,
+) -> LiveBlock
+    requires { ⌜ Limits s (history t counts) ⌝ }
+    requires { ⌜ (0 < t) × Within s (history t counts) p ⌝ }
+    ensures { λ r. ⌜ r ≡ asLiveBlock (liveBlock s (history t counts) (recordedBy s (history t counts) w (markedBlocks s (history t counts) w recorded)) p) ⌝ }
+{
+    let g = layout::newest_growth(counts, t);
+    let m = g.old;
+    if p.disk < m {
+        let x = layout::block_at(counts, t - 1, s, p);
+        if at_new_spot(counts, t, s, w, recorded, x) {
+            return LiveBlock::Nothing;
+        }
+        return LiveBlock::Lives(x);
+    }
+    let x = layout::block_at(counts, t, s, p);
+    if at_new_spot(counts, t, s, w, recorded, x) {
+        return LiveBlock::Lives(x);
+    }
+    LiveBlock::Nothing
+}

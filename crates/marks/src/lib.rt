@@ -1,0 +1,23 @@
+// The marks of a growth and what they say of its blocks, and tests of counts: loops over 64 marks and
+// 8 counts on plain arrays.
+//
+// The functions here serve the crates above and are not offered to others: their `requires` are the
+// limits of a sound volume.
+mod blocks;
+mod sets;
+
+pub use blocks::at_new_spot;
+pub use blocks::is_marked;
+pub use blocks::live_block;
+pub use blocks::live_spot;
+use layout::Block;
+pub use sets::counts_rise;
+pub use sets::is_within;
+pub use sets::moving_marks;
+pub use sets::zeros_after;
+
+// The block that lives at a spot, or that none does.
+pub enum LiveBlock {
+    Lives(Block),
+    Nothing,
+}

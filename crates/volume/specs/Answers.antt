@@ -1,0 +1,45 @@
+-- Document 01, "Calls": the number and the figures that each case of an answer stands for. "A refusal has 0 for every figure beside its
+-- number"; the number of an accepted call is 0. Assumes nothing.
+use Prim.Native.Nat.{ℕ}
+use Rattle.layout.specs.declared.Reason.{Reason}
+use Rattle.layout.specs.declared.Reason.the-variants.{SetOut}
+use Rattle.layout.specs.declared.Spot.{Spot}
+use Rattle.volume.specs.declared.Answer.{Answer}
+use Rattle.volume.specs.declared.Answer.the-variants.{Refused, Done, CallsLeft}
+use Rattle.volume.specs.declared.AddressAnswer.{AddressAnswer}
+use Rattle.volume.specs.declared.AddressAnswer.the-variants as address
+use Rattle.volume.specs.declared.HolderAnswer.{HolderAnswer}
+use Rattle.volume.specs.declared.HolderAnswer.the-variants as holder
+
+-- of the calls that work on a medium: the number, and the advance calls left
+unfoldable pub number : (a : Answer) → ℕ
+number (Refused k) = k
+number Done = 0
+number (CallsLeft n) = 0
+
+unfoldable pub callsTold : (a : Answer) → ℕ
+callsTold (Refused k) = 0
+callsTold Done = 0
+callsTold (CallsLeft n) = n
+
+-- of address: the number, the spot, and why the block is there
+unfoldable pub addressNumber : (a : AddressAnswer) → ℕ
+addressNumber (address.Refused k) = k
+addressNumber (address.At p reason) = 0
+
+unfoldable pub spotTold : (a : AddressAnswer) → Spot
+spotTold (address.Refused k) = record { disk = 0; row = record { 0 = 0 } }
+spotTold (address.At p reason) = p
+
+unfoldable pub reasonTold : (a : AddressAnswer) → Reason
+reasonTold (address.Refused k) = SetOut
+reasonTold (address.At p reason) = reason
+
+-- of holder: the number, and the block
+unfoldable pub holderNumber : (a : HolderAnswer) → ℕ
+holderNumber (holder.Refused k) = k
+holderNumber (holder.Has x) = 0
+
+unfoldable pub blockTold : (a : HolderAnswer) → ℕ
+blockTold (holder.Refused k) = 0
+blockTold (holder.Has x) = x .0

@@ -1,0 +1,155 @@
+-- Document 01, "Calls" and "Looking up spots": for each call the table of its refusals, in the order written, and what it hands back,
+-- stores and shows. Calls see a medium through its observations. Assumes nothing.
+use Prim.Native.Nat.{ℕ}
+use mathlib.Core.Bool.{Bool, true, false, cond, not, _&&_}
+use mathlib.Core.List.{List, [], _∷_}
+use mathlib.Core.Option.{Option, none, some}
+use lib.Dec.{eqb, leb, ltb}
+use lib.ListN.{length}
+use Rattle.base.specs.Refusals.{refusal}
+use Rattle.layout.specs.declared.Spot.{Spot}
+use Rattle.layout.specs.Limits.{mostDisks, mostGrowths}
+use Rattle.layout.specs.Tally.{openBlocks, liveSpotOf, liveBlockOf, liveReasonOf, waiting, callsLeftOf}
+use Rattle.medium.specs.declared.Geometry.{Geometry}
+use Rattle.medium.specs.Medium.{recordBytes, bytesNeeded, Observations, Store, noStore, recordStore, blockStore}
+use Rattle.volume.specs.declared.Volume.{Volume}
+use Rattle.volume.specs.declared.Answer.the-variants.{Refused, Done, CallsLeft}
+use Rattle.volume.specs.declared.Reply.{Reply}
+use Rattle.volume.specs.declared.AddressAnswer.the-variants as address
+use Rattle.volume.specs.declared.AddressReply.{AddressReply}
+use Rattle.volume.specs.declared.HolderAnswer.the-variants as holder
+use Rattle.volume.specs.declared.HolderReply.{HolderReply}
+use Rattle.volume.specs.States.{geometry, disks, tallyOf, newState, zeros, grown}
+use Rattle.volume.specs.Sound.{sizeHolds, rowsHold, disksHold, sound}
+use Rattle.volume.specs.Records.{recordOf, stateRead, isSoundRecord}
+
+-- What a call hands back (the next state beside the answer), its store, and what its piece then holds.
+pub record Outcome : Type 0 where
+  pub reply : Reply
+  pub store : Store
+  pub piece : List ℕ
+
+-- "state handed back unchanged", or of zeros; nothing stored, the piece as it was
+unfoldable pub refused : (v : Volume) (k : ℕ) (piece : List ℕ) → Outcome
+refused v k piece = record { reply = record { state = v; answer = Refused k }; store = noStore; piece = piece }
+
+-- a call that reports the advance calls left of the state that it hands back
+unfoldable pub reporting : (v : Volume) (store : Store) → Outcome
+reporting v store = record { reply = record { state = v; answer = CallsLeft (callsLeftOf (tallyOf v)) }; store = store; piece = [] }
+
+-- refused by its table, with the number, or accepted
+abbrev pub judged : {A : Type 0} (table : List (ℕ × Bool)) (refusing : ℕ → A) (accepted : A) → A
+judged table refusing accepted = cond (eqb (refusal table) 0) accepted (refusing (refusal table))
+
+-- "2: medium too short for the record and N[t] disks"
+unfoldable pub tooShort : (g : Geometry) (n byteCount : ℕ) → Bool
+tooShort g n byteCount = ltb byteCount (bytesNeeded g n)
+
+-- ---- "Format: 8, Z, s or N[0] outside the limits; 2. It stores a record with t = 0. Refused, it hands back a state of zeros."
+
+unfoldable pub formatTable : (z s n byteCount : ℕ) → List (ℕ × Bool)
+formatTable z s n byteCount =
+    (8, not (sizeHolds z))
+    ∷ (8, not (rowsHold s))
+    ∷ (8, not (disksHold n))
+    ∷ (2, tooShort (record { size = z; rows = s }) n byteCount)
+    ∷ []
+
+unfoldable pub formatOutcome : (z s n : ℕ) (o : Observations) → Outcome
+formatOutcome z s n o =
+    judged (formatTable z s n (o .byteCount)) (λ k. refused zeros k [])
+    (record { reply = record { state = newState z s n; answer = Done }; store = recordStore (recordOf (newState z s n)); piece = [] })
+
+-- ---- "Restart: 2, below 512 bytes; 13, bytes 0 to 511 are no sound state's record; 2. It stores nothing and sets copied to recorded. A
+-- refusal gives a state of zeros."
+
+unfoldable pub restartTable : (o : Observations) → List (ℕ × Bool)
+restartTable o =
+    (2, ltb (o .byteCount) recordBytes)
+    ∷ (13, not (isSoundRecord (o .sector)))
+    ∷ (2, tooShort (geometry (stateRead (o .sector))) (disks (stateRead (o .sector))) (o .byteCount))
+    ∷ []
+
+unfoldable pub restartOutcome : (o : Observations) → Outcome
+restartOutcome o = judged (restartTable o) (λ k. refused zeros k []) (reporting (stateRead (o .sector)) noStore)
+
+-- ---- "Grow to a count: 1; 6, growing already; 9, t = 7; 8, count not above N[t] or above 16; 2. It stores the record with the count
+-- added, growing 1, w 0, no marks."
+
+unfoldable pub growTable : (v : Volume) (count byteCount : ℕ) → List (ℕ × Bool)
+growTable v count byteCount =
+    (1, not (sound v))
+    ∷ (6, not (eqb (v .growing) 0))
+    ∷ (9, eqb (v .growths) mostGrowths)
+    ∷ (8, leb count (disks v))
+    ∷ (8, ltb mostDisks count)
+    ∷ (2, tooShort (geometry v) count byteCount)
+    ∷ []
+
+unfoldable pub growOutcome : (v : Volume) (count : ℕ) (o : Observations) → Outcome
+growOutcome v count o =
+    judged (growTable v count (o .byteCount)) (λ k. refused v k []) (reporting (grown v count) (recordStore (recordOf (grown v count))))
+
+-- ---- "Write block x from a lent piece: 1; 2; 3; 4, piece not Z bytes; 7, x copied but not recorded. It stores the piece at the live spot."
+
+unfoldable pub writeTable : (v : Volume) (x pieceBytes byteCount : ℕ) → List (ℕ × Bool)
+writeTable v x pieceBytes byteCount =
+    (1, not (sound v))
+    ∷ (2, tooShort (geometry v) (disks v) byteCount)
+    ∷ (3, leb (openBlocks (tallyOf v)) x)
+    ∷ (4, not (eqb pieceBytes (v .size)))
+    ∷ (7, waiting (tallyOf v) x)
+    ∷ []
+
+unfoldable pub writeOutcome : (v : Volume) (x : ℕ) (piece : List ℕ) (o : Observations) → Outcome
+writeOutcome v x piece o =
+    judged (writeTable v x (length piece) (o .byteCount)) (λ k. refused v k piece)
+    (record { reply = record { state = v; answer = Done }; store = blockStore (liveSpotOf (tallyOf v) x) piece; piece = piece })
+
+-- ---- "Read into a lent piece: 1; 2; 3; 4. It fills the piece from the live spot."
+
+unfoldable pub readTable : (v : Volume) (x pieceBytes byteCount : ℕ) → List (ℕ × Bool)
+readTable v x pieceBytes byteCount =
+    (1, not (sound v))
+    ∷ (2, tooShort (geometry v) (disks v) byteCount)
+    ∷ (3, leb (openBlocks (tallyOf v)) x)
+    ∷ (4, not (eqb pieceBytes (v .size)))
+    ∷ []
+
+unfoldable pub readOutcome : (v : Volume) (x : ℕ) (piece : List ℕ) (o : Observations) → Outcome
+readOutcome v x piece o =
+    judged (readTable v x (length piece) (o .byteCount)) (λ k. refused v k piece)
+    (record { reply = record { state = v; answer = Done }; store = noStore; piece = o .bytesAt (geometry v) (liveSpotOf (tallyOf v) x) })
+
+-- ---- "Address of block x: 1; 3. It gives the live spot and why it is there"
+
+unfoldable pub addressTable : (v : Volume) (x : ℕ) → List (ℕ × Bool)
+addressTable v x = (1, not (sound v)) ∷ (3, leb (openBlocks (tallyOf v)) x) ∷ []
+
+unfoldable pub addressReply : (v : Volume) (x : ℕ) → AddressReply
+addressReply v x =
+    judged (addressTable v x) (λ k. record { state = v; answer = address.Refused k })
+    (record { state = v; answer = address.At (liveSpotOf (tallyOf v) x) (liveReasonOf (tallyOf v) x) })
+
+-- ---- "Holder of (d, b): 1; 14, d ≥ N[t] or b ≥ s; 15, no open block lives there. It gives the block."
+
+abbrev pub isNone : (found : Option ℕ) → Bool
+isNone none = true
+isNone (some x) = false
+
+abbrev pub blockFound : (found : Option ℕ) → ℕ
+blockFound none = 0
+blockFound (some x) = x
+
+unfoldable pub holderTable : (v : Volume) (p : Spot) → List (ℕ × Bool)
+holderTable v p =
+    (1, not (sound v))
+    ∷ (14, leb (disks v) (p .disk))
+    ∷ (14, leb (v .rows) (p .row .0))
+    ∷ (15, isNone (liveBlockOf (tallyOf v) p))
+    ∷ []
+
+unfoldable pub holderReply : (v : Volume) (p : Spot) → HolderReply
+holderReply v p =
+    judged (holderTable v p) (λ k. record { state = v; answer = holder.Refused k })
+    (record { state = v; answer = holder.Has (record { 0 = blockFound (liveBlockOf (tallyOf v) p) }) })

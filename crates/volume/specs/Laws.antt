@@ -1,0 +1,104 @@
+-- What is proved of states, records and calls: `VolumeLaws`. `proofs/Theorems.antt` has the proof. Assumes nothing.
+use Prim.Native.Nat.{ℕ, _%_, _≤_, _<_}
+use mathlib.Core.Path.{_≡_}
+use mathlib.Core.Bool.{Bool, true, false}
+use mathlib.Core.List.{List, []}
+use mathlib.Core.Logic.{_≢_}
+use lib.ListN.{length, getD}
+use Rattle.base.specs.Refusals.{refusal}
+use Rattle.layout.specs.declared.Block.{Block}
+use Rattle.layout.specs.declared.Reason.{Reason}
+use Rattle.layout.specs.declared.Spot.{Spot}
+use Rattle.layout.specs.History.{oldCount, addedCount}
+use Rattle.layout.specs.Laws.{LookUps}
+use Rattle.layout.specs.Limits.{Limits}
+use Rattle.layout.specs.Windows.{windows, movingIn}
+use Rattle.marks.specs.Marks.{markCount, noMarks, within}
+use Rattle.medium.specs.Medium.{recordBytes, Observations, noStore, StoreFits}
+use Rattle.volume.specs.declared.Volume.{Volume}
+use Rattle.volume.specs.declared.AddressAnswer.the-variants as address
+use Rattle.volume.specs.declared.HolderAnswer.the-variants as holder
+use Rattle.volume.specs.Answers.{number, callsTold, addressNumber, holderNumber}
+use Rattle.volume.specs.Calls.{Outcome, formatTable, formatOutcome, restartTable, restartOutcome, growTable, growOutcome, writeTable, writeOutcome, readTable, readOutcome, addressTable, addressReply, holderTable, holderReply}
+use Rattle.volume.specs.Records.{recordOf, stateRead, isSoundRecord}
+use Rattle.volume.specs.Sound.{sizeStep, mostSize, sizeHolds, rowsHold, disksHold, movingOf, sound}
+use Rattle.volume.specs.States.{geometry, historyOf, tallyOf, newState, zeros, grown, recordedOnly}
+
+-- ---- what a sound state is
+
+pub record RestFacts (v : Volume) : Type 0 where
+  pub window-zero : v .window ≡ 0
+  pub none-recorded : v .recorded ≡ noMarks
+  pub none-copied : v .copied ≡ noMarks
+
+pub record GrowthFacts (v : Volume) : Type 0 where
+  pub growing-one : v .growing ≡ 1
+  pub has-growth : 0 < v .growths
+  pub window-below : v .window < windows (oldCount (historyOf v)) (addedCount (historyOf v)) (v .rows)
+  pub recorded-copied : within (v .recorded) (v .copied) ≡ true
+  pub copied-moving : within (v .copied) (movingOf v) ≡ true
+  pub one-unrecorded : (x : ℕ) × (movingIn (v .rows) (historyOf v) (v .window) x ≡ true) × (tallyOf v .recorded x ≡ false)
+
+pub record SoundFacts (v : Volume) : Type 0 where
+  pub counts-length : length (v .counts) ≡ 8
+  pub recorded-length : length (v .recorded) ≡ markCount
+  pub copied-length : length (v .copied) ≡ markCount
+  pub size-least : sizeStep ≤ v .size
+  pub size-most : v .size ≤ mostSize
+  pub size-steps : v .size % sizeStep ≡ 0
+  pub limits : Limits (v .rows) (historyOf v)
+  pub zeros-after : (i : ℕ) → i < 8 → v .growths < i → getD (v .counts) i 0 ≡ 0
+  pub at-rest : v .growing ≡ 0 → RestFacts v
+  pub while-growing : v .growing ≢ 0 → GrowthFacts v
+
+-- ---- what a refusal is
+
+-- the number told is the table's; a refusal hands back this state, stores nothing, leaves the piece and has no figures
+pub record Refuses (table : List (ℕ × Bool)) (v : Volume) (piece : List ℕ) (out : Outcome) : Type 0 where
+  pub number-told : number (out .reply .answer) ≡ refusal table
+  pub state-kept : refusal table ≢ 0 → out .reply .state ≡ v
+  pub nothing-stored : refusal table ≢ 0 → out .store ≡ noStore
+  pub piece-kept : refusal table ≢ 0 → out .piece ≡ piece
+  pub no-figures : refusal table ≢ 0 → callsTold (out .reply .answer) ≡ 0
+
+-- ---- all laws
+
+pub record VolumeLaws : Type 0 where
+  -- the test of soundness says these facts, no more and no less
+  pub sound-facts : (v : Volume) → sound v ≡ true → SoundFacts v
+  pub facts-sound : (v : Volume) → SoundFacts v → sound v ≡ true
+  -- reading the record of a sound state gives that state with copied set to recorded
+  pub record-length : (v : Volume) → length (recordOf v) ≡ recordBytes
+  pub record-read : (v : Volume) → sound v ≡ true → (isSoundRecord (recordOf v) ≡ true) × (stateRead (recordOf v) ≡ recordedOnly v)
+  -- what is accepted is exactly the record of the state handed back, which is sound; so 13 is given exactly where the bytes are no
+  -- sound state's record
+  pub read-sound : (bytes : List ℕ) → isSoundRecord bytes ≡ true → sound (stateRead bytes) ≡ true
+  pub read-recorded : (bytes : List ℕ) → isSoundRecord bytes ≡ true → recordOf (stateRead bytes) ≡ bytes
+  pub read-no-copies : (bytes : List ℕ) → recordedOnly (stateRead bytes) ≡ stateRead bytes
+  pub not-a-record : (bytes : List ℕ) → isSoundRecord bytes ≡ false → (v : Volume) → sound v ≡ true → recordOf v ≢ bytes
+  -- the states that accepted calls hand back are sound
+  pub format-sound : (z s n byteCount : ℕ) → refusal (formatTable z s n byteCount) ≡ 0 → sound (newState z s n) ≡ true
+  pub grown-sound : (v : Volume) (count byteCount : ℕ) → refusal (growTable v count byteCount) ≡ 0 → sound (grown v count) ≡ true
+  pub restart-sound : (o : Observations) → refusal (restartTable o) ≡ 0 → sound (stateRead (o .sector)) ≡ true
+  -- what is stored lies in the medium
+  pub format-fits : (z s n : ℕ) (o : Observations) → StoreFits (record { size = z; rows = s }) (o .byteCount) (formatOutcome z s n o .store)
+  pub grow-fits : (v : Volume) (count : ℕ) (o : Observations) → StoreFits (geometry v) (o .byteCount) (growOutcome v count o .store)
+  pub write-fits : (v : Volume) (x : ℕ) (piece : List ℕ) (o : Observations)
+      → StoreFits (geometry v) (o .byteCount) (writeOutcome v x piece o .store)
+  -- refusals
+  pub format-refuses : (z s n : ℕ) (o : Observations) → Refuses (formatTable z s n (o .byteCount)) zeros [] (formatOutcome z s n o)
+  pub restart-refuses : (o : Observations) → Refuses (restartTable o) zeros [] (restartOutcome o)
+  pub grow-refuses : (v : Volume) (count : ℕ) (o : Observations) → Refuses (growTable v count (o .byteCount)) v [] (growOutcome v count o)
+  pub write-refuses : (v : Volume) (x : ℕ) (piece : List ℕ) (o : Observations)
+      → Refuses (writeTable v x (length piece) (o .byteCount)) v piece (writeOutcome v x piece o)
+  pub read-refuses : (v : Volume) (x : ℕ) (piece : List ℕ) (o : Observations)
+      → Refuses (readTable v x (length piece) (o .byteCount)) v piece (readOutcome v x piece o)
+  pub address-refuses : (v : Volume) (x : ℕ) → addressNumber (addressReply v x .answer) ≡ refusal (addressTable v x)
+  pub holder-refuses : (v : Volume) (p : Spot) → holderNumber (holderReply v p .answer) ≡ refusal (holderTable v p)
+  -- address and holder are inverse to each other in every stage of a growth, and after a finished one 15 never occurs
+  pub look-ups : (v : Volume) → sound v ≡ true → LookUps (tallyOf v)
+  pub holder-of-address : (v : Volume) (x : Block) (p : Spot) (reason : Reason) → addressReply v (x .0) .answer ≡ address.At p reason
+      → holderReply v p .answer ≡ holder.Has x
+  pub address-of-holder : (v : Volume) (p : Spot) (x : Block) → holderReply v p .answer ≡ holder.Has x
+      → (reason : Reason) × (addressReply v (x .0) .answer ≡ address.At p reason)
+  pub at-rest-no-15 : (v : Volume) (p : Spot) → v .growing ≡ 0 → holderNumber (holderReply v p .answer) ≢ 15

@@ -1,0 +1,6 @@
+pub mod States
+pub mod Sound
+pub mod Records
+pub mod Answers
+pub mod Calls
+pub mod Laws

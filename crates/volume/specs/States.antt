@@ -1,0 +1,82 @@
+-- Document 01, "Medium, state, record": the state, read as a tally, and the states that calls hand back. The arrays of the code are
+-- lists here. Assumes nothing.
+use Prim.Native.Nat.{ℕ, suc}
+use mathlib.Core.Bool.{Bool, cond}
+use mathlib.Core.List.{List}
+use lib.Dec.{eqb}
+use lib.ListN.{set, replicate}
+use Rattle.layout.specs.History.{history, diskCount}
+use Rattle.layout.specs.Tally.{Mode, notGrowing, growing, Tally}
+use Rattle.layout.specs.Windows.{markedBlocks}
+use Rattle.marks.specs.Marks.{noMarks}
+use Rattle.medium.specs.declared.Geometry.{Geometry}
+use Rattle.volume.specs.declared.Volume.{Volume}
+
+unfoldable pub geometry : (v : Volume) → Geometry
+geometry v = record { size = v .size; rows = v .rows }
+
+-- N[t] to N[0], and N[t]
+unfoldable pub historyOf : (v : Volume) → List ℕ
+historyOf v = history (v .growths) (v .counts)
+
+unfoldable pub disks : (v : Volume) → ℕ
+disks v = diskCount (historyOf v)
+
+-- "growing (0 or 1)"
+unfoldable pub modeOf : (number : ℕ) → Mode
+modeOf number = cond (eqb number 0) notGrowing growing
+
+-- The state as a tally. Open blocks, live spots, waiting blocks and calls left of a state are those of its tally. A mark belongs to a
+-- moving block of window w; no other block is recorded or copied.
+unfoldable pub tallyOf : (v : Volume) → Tally
+tallyOf v =
+    record {
+      rows = v .rows;
+      counts = historyOf v;
+      mode = modeOf (v .growing);
+      window = v .window;
+      copied = markedBlocks (v .rows) (historyOf v) (v .window) (v .copied);
+      recorded = markedBlocks (v .rows) (historyOf v) (v .window) (v .recorded);
+    }
+
+-- ---- the states that calls hand back, from two forms
+
+-- a volume with no growth
+unfoldable pub newState : (z s n : ℕ) → Volume
+newState z s n =
+    record {
+      size = z;
+      rows = s;
+      growths = 0;
+      counts = set (replicate 8 0) 0 n;
+      growing = 0;
+      window = 0;
+      recorded = noMarks;
+      copied = noMarks;
+    }
+
+-- the same blocks and rows with another history and another stage of a growth
+unfoldable pub withGrowth : (v : Volume) (t : ℕ) (counts : List ℕ) (stage w : ℕ) (recorded copied : List Bool) → Volume
+withGrowth v t counts stage w recorded copied =
+    record {
+      size = v .size;
+      rows = v .rows;
+      growths = t;
+      counts = counts;
+      growing = stage;
+      window = w;
+      recorded = recorded;
+      copied = copied;
+    }
+
+-- "a state of zeros"
+unfoldable pub zeros : Volume
+zeros = newState 0 0 0
+
+-- "the count added, growing 1, w 0, no marks"
+unfoldable pub grown : (v : Volume) (count : ℕ) → Volume
+grown v count = withGrowth v (suc (v .growths)) (set (v .counts) (suc (v .growths)) count) 1 0 noMarks noMarks
+
+-- the recorded marks alone: "sets copied to recorded"
+unfoldable pub recordedOnly : (v : Volume) → Volume
+recordedOnly v = withGrowth v (v .growths) (v .counts) (v .growing) (v .window) (v .recorded) (v .recorded)

@@ -1,0 +1,212 @@
+// The calls that work on a medium.
+ghost use mathlib.Core.Path.{_≡_};
+ghost use mathlib.Core.Bool.{true};
+ghost use Rattle.base.specs.Refusals.{refusal};
+ghost use Rattle.layout.specs.Tally.{callsLeftOf};
+ghost use Rattle.medium.specs.Medium.{observe, apply};
+ghost use Rattle.volume.specs.Calls.{formatTable, formatOutcome, restartOutcome, growTable, growOutcome, writeTable, writeOutcome, readTable, readOutcome};
+ghost use Rattle.volume.specs.Sound.{sound};
+ghost use Rattle.volume.specs.States.{geometry, tallyOf};
+use super::Answer;
+use super::Reply;
+use super::Volume;
+use super::sound::disks_hold;
+use super::sound::rows_hold;
+use super::sound::size_holds;
+use layout::Block;
+use medium::Geometry;
+
+impl Volume {
+    // Refusal k, with the state as it is.
+    pub(crate) fn refuse(self, k: usize) -> Reply
+        ensures { λ r. ⌜ r ≡ record { state = self; answer = Answer.Refused k } ⌝ }
+    {
+        Reply {
+            state: self,
+            answer: Answer::Refused(k),
+        }
+    }
+
+    // The state with its advance calls left.
+    pub(crate) fn report(self) -> Reply
+        requires { ⌜ sound self ≡ true ⌝ }
+        ensures { λ r. ⌜ r ≡ record { state = self; answer = Answer.CallsLeft (callsLeftOf (tallyOf self)) } ⌝ }
+    {
+        let left = self.calls_left();
+        Reply {
+            state: self,
+            answer: Answer::CallsLeft(left),
+        }
+    }
+
+    pub(crate) fn format_refusal(size: usize, rows: usize, disks: usize, len: usize) -> usize
+        ensures { λ r. ⌜ r ≡ refusal (formatTable size rows disks len) ⌝ }
+    {
+        if !size_holds(size) {
+            return 8;
+        }
+        if !rows_hold(rows) {
+            return 8;
+        }
+        if !disks_hold(disks) {
+            return 8;
+        }
+        let g = Geometry { size, rows };
+        if len < medium::bytes_needed(g, disks) {
+            return 2;
+        }
+        0
+    }
+
+    // Makes a volume of so many disks on the lent medium.
+    pub fn format(medium: &mut [u8], size: usize, rows: usize, disks: usize) -> Reply
+        ensures { λ r. ⌜ r ≡ formatOutcome size rows disks (observe (now (medium .entry))) .reply ⌝ }
+        ensures { λ r. ⌜ now (medium .exit) ≡ apply (geometry (r .state)) (formatOutcome size rows disks (observe (now (medium .entry))) .store) (now (medium .entry)) ⌝ }
+    {
+        let k = Volume::format_refusal(size, rows, disks, medium.len());
+        if k != 0 {
+            return Volume::zeros().refuse(k);
+        }
+        let v = Volume::new_state(size, rows, disks);
+        v.store_record(medium);
+        Reply {
+            state: v,
+            answer: Answer::Done,
+        }
+    }
+
+    // Takes the state from the record, after a power cut or at any time.
+    pub fn restart(medium: &[u8]) -> Reply
+        ensures { λ r. ⌜ r ≡ restartOutcome (observe (now (medium .entry))) .reply ⌝ }
+    {
+        let len = medium.len();
+        if len < 512 {
+            return Volume::zeros().refuse(2);
+        }
+        let found = record::read_record(&medium[0..512]);
+        if found.refusal != 0 {
+            return Volume::zeros().refuse(13);
+        }
+        let numbers = found.numbers;
+        let marks = found.marks;
+        let v = Volume::from_record(numbers, marks);
+        if !v.is_sound() {
+            return Volume::zeros().refuse(13);
+        }
+        if v.is_short(v.disk_count(), len) {
+            return Volume::zeros().refuse(2);
+        }
+        v.report()
+    }
+
+    pub(crate) fn grow_refusal(self, count: usize, len: usize) -> usize
+        ensures { λ r. ⌜ r ≡ refusal (growTable self count len) ⌝ }
+    {
+        if !self.is_sound() {
+            return 1;
+        }
+        if self.growing != 0 {
+            return 6;
+        }
+        if self.growths == Volume::MOST_GROWTHS {
+            return 9;
+        }
+        if count <= self.disk_count() {
+            return 8;
+        }
+        if Volume::MOST_DISKS < count {
+            return 8;
+        }
+        if self.is_short(count, len) {
+            return 2;
+        }
+        0
+    }
+
+    // Starts a growth to so many disks.
+    pub fn grow(self, medium: &mut [u8], count: usize) -> Reply
+        ensures { λ r. ⌜ r ≡ growOutcome self count (observe (now (medium .entry))) .reply ⌝ }
+        ensures { λ _. ⌜ now (medium .exit) ≡ apply (geometry self) (growOutcome self count (observe (now (medium .entry))) .store) (now (medium .entry)) ⌝ }
+    {
+        let k = self.grow_refusal(count, medium.len());
+        if k != 0 {
+            return self.refuse(k);
+        }
+        let v = self.grown(count);
+        v.store_record(medium);
+        v.report()
+    }
+
+    pub(crate) fn read_refusal(self, x: Block, piece: usize, len: usize) -> usize
+        ensures { λ r. ⌜ r ≡ refusal (readTable self (x .0) piece len) ⌝ }
+    {
+        if !self.is_sound() {
+            return 1;
+        }
+        if self.is_short(self.disk_count(), len) {
+            return 2;
+        }
+        if self.open_blocks() <= x.0 {
+            return 3;
+        }
+        if piece != self.size {
+            return 4;
+        }
+        0
+    }
+
+    pub(crate) fn write_refusal(self, x: Block, piece: usize, len: usize) -> usize
+        ensures { λ r. ⌜ r ≡ refusal (writeTable self (x .0) piece len) ⌝ }
+    {
+        let k = self.read_refusal(x, piece, len);
+        if k != 0 {
+            return k;
+        }
+        if self.is_waiting(x) {
+            return 7;
+        }
+        0
+    }
+
+    // Saves a piece as block x.
+    pub fn write(self, medium: &mut [u8], x: Block, piece: &[u8]) -> Reply
+        ensures { λ r. ⌜ r ≡ writeOutcome self (x .0) (now (piece .entry)) (observe (now (medium .entry))) .reply ⌝ }
+        ensures { λ _. ⌜ now (medium .exit) ≡ apply (geometry self) (writeOutcome self (x .0) (now (piece .entry)) (observe (now (medium .entry))) .store) (now (medium .entry)) ⌝ }
+    {
+        let k = self.write_refusal(x, piece.len(), medium.len());
+        if k != 0 {
+            return self.refuse(k);
+        }
+        let p = self.live_spot(x);
+        let g = Geometry {
+            size: self.size,
+            rows: self.rows,
+        };
+        medium::store_block(medium, g, p, piece);
+        Reply {
+            state: self,
+            answer: Answer::Done,
+        }
+    }
+
+    // Fills a piece with block x.
+    pub fn read(self, medium: &[u8], x: Block, piece: &mut [u8]) -> Reply
+        ensures { λ r. ⌜ r ≡ readOutcome self (x .0) (now (piece .entry)) (observe (now (medium .entry))) .reply ⌝ }
+        ensures { λ _. ⌜ now (piece .exit) ≡ readOutcome self (x .0) (now (piece .entry)) (observe (now (medium .entry))) .piece ⌝ }
+    {
+        let k = self.read_refusal(x, piece.len(), medium.len());
+        if k != 0 {
+            return self.refuse(k);
+        }
+        let p = self.live_spot(x);
+        let g = Geometry {
+            size: self.size,
+            rows: self.rows,
+        };
+        medium::fetch_block(medium, g, p, piece);
+        Reply {
+            state: self,
+            answer: Answer::Done,
+        }
+    }
+}

@@ -1,0 +1,60 @@
+// The growing striped volume: its state by value, and the calls of document 01 as its methods. Each call
+// takes the state and hands the next one back, beside the answer.
+//
+// The calls, `is_sound`, `zeros` and the limits are offered to others and take any input. What has a
+// `requires` is private.
+mod calls;
+mod live;
+mod lookup;
+mod sound;
+mod state;
+
+use layout::Block;
+use layout::Reason;
+use layout::Spot;
+
+// Document 01's state: Z, s, t, the counts N[0] to N[7], growing (0 or 1), w, and the two sets of marks.
+pub struct Volume {
+    pub size: usize,
+    pub rows: usize,
+    pub growths: usize,
+    pub counts: [usize; 8],
+    pub growing: usize,
+    pub window: usize,
+    pub recorded: [bool; 64],
+    pub copied: [bool; 64],
+}
+
+// The answer of a call on a medium: refused with a number, done, or done with so many advance calls left.
+pub enum Answer {
+    Refused(usize),
+    Done,
+    CallsLeft(usize),
+}
+
+pub struct Reply {
+    pub state: Volume,
+    pub answer: Answer,
+}
+
+// The answer of address: refused with a number, or the live spot and why the block is there.
+pub enum AddressAnswer {
+    Refused(usize),
+    At(Spot, Reason),
+}
+
+pub struct AddressReply {
+    pub state: Volume,
+    pub answer: AddressAnswer,
+}
+
+// The answer of holder: refused with a number, or the block that lives at the spot.
+pub enum HolderAnswer {
+    Refused(usize),
+    Has(Block),
+}
+
+pub struct HolderReply {
+    pub state: Volume,
+    pub answer: HolderAnswer,
+}

@@ -1,0 +1,131 @@
+// Open blocks, live spots and calls left of a sound state.
+ghost use mathlib.Core.Path.{_≡_};
+ghost use mathlib.Core.Bool.{true};
+ghost use Prim.Native.Nat.{_≤_, _<_};
+ghost use Rattle.layout.specs.History.{Within};
+ghost use Rattle.layout.specs.Limits.{mostDisks};
+ghost use Rattle.layout.specs.Tally.{openBlocks, liveSpotOf, liveBlockOf, liveReasonOf, waiting, callsLeftOf};
+ghost use Rattle.marks.specs.Marks.{asLiveBlock};
+ghost use Rattle.volume.specs.Calls.{tooShort};
+ghost use Rattle.volume.specs.Sound.{sound};
+ghost use Rattle.volume.specs.States.{geometry, historyOf, disks, tallyOf};
+use super::Volume;
+use layout::Block;
+use layout::Reason;
+use layout::Spot;
+use marks::LiveBlock;
+use medium::Geometry;
+
+impl Volume {
+    // N[t].
+    pub(crate) fn disk_count(self) -> usize
+        requires { ⌜ sound self ≡ true ⌝ }
+        ensures { λ r. ⌜ r ≡ disks self ⌝ }
+    {
+        let t = self.growths;
+        let counts = self.counts;
+        counts[t]
+    }
+
+    // Are so many bytes too few for the record and so many disks?
+    pub(crate) fn is_short(self, disks: usize, len: usize) -> bool
+        requires { ⌜ sound self ≡ true ⌝ }
+        requires { ⌜ disks ≤ mostDisks ⌝ }
+        ensures { λ r. ⌜ r ≡ tooShort (geometry self) disks len ⌝ }
+    {
+        let g = Geometry {
+            size: self.size,
+            rows: self.rows,
+        };
+        len < medium::bytes_needed(g, disks)
+    }
+
+    // The number of open blocks.
+    pub(crate) fn open_blocks(self) -> usize
+        requires { ⌜ sound self ≡ true ⌝ }
+        ensures { λ r. ⌜ r ≡ openBlocks (tallyOf self) ⌝ }
+    {
+        let t = self.growths;
+        let counts = self.counts;
+        if self.growing == 0 {
+            return counts[t] * self.rows;
+        }
+        counts[t - 1] * self.rows
+    }
+
+    // The live spot of block x.
+    pub(crate) fn live_spot(self, x: Block) -> Spot
+        requires { ⌜ sound self ≡ true ⌝ }
+        requires { ⌜ x .0 < openBlocks (tallyOf self) ⌝ }
+        ensures { λ r. ⌜ r ≡ liveSpotOf (tallyOf self) (x .0) ⌝ }
+    {
+        let counts = self.counts;
+        if self.growing == 0 {
+            return layout::spot_of(counts, self.growths, self.rows, x);
+        }
+        let recorded = self.recorded;
+        marks::live_spot(counts, self.growths, self.rows, self.window, recorded, x)
+    }
+
+    // Why block x is at its live spot.
+    pub(crate) fn live_reason(self, x: Block) -> Reason
+        requires { ⌜ sound self ≡ true ⌝ }
+        requires { ⌜ x .0 < openBlocks (tallyOf self) ⌝ }
+        ensures { λ r. ⌜ r ≡ liveReasonOf (tallyOf self) (x .0) ⌝ }
+    {
+        let counts = self.counts;
+        let t = self.growths;
+        if self.growing == 0 {
+            return layout::reason_of(counts, t, self.rows, x);
+        }
+        let recorded = self.recorded;
+        if marks::at_new_spot(counts, t, self.rows, self.window, recorded, x) {
+            return layout::reason_of(counts, t, self.rows, x);
+        }
+        layout::reason_of(counts, t - 1, self.rows, x)
+    }
+
+    // The block that lives at p.
+    pub(crate) fn live_block(self, p: Spot) -> LiveBlock
+        requires { ⌜ sound self ≡ true ⌝ }
+        requires { ⌜ Within (self .rows) (historyOf self) p ⌝ }
+        ensures { λ r. ⌜ r ≡ asLiveBlock (liveBlockOf (tallyOf self) p) ⌝ }
+    {
+        let counts = self.counts;
+        if self.growing == 0 {
+            return LiveBlock::Lives(layout::block_at(counts, self.growths, self.rows, p));
+        }
+        let recorded = self.recorded;
+        marks::live_block(counts, self.growths, self.rows, self.window, recorded, p)
+    }
+
+    // Is block x copied but not recorded?
+    pub(crate) fn is_waiting(self, x: Block) -> bool
+        requires { ⌜ sound self ≡ true ⌝ }
+        ensures { λ r. ⌜ r ≡ waiting (tallyOf self) (x .0) ⌝ }
+    {
+        if self.growing == 0 {
+            return false;
+        }
+        let counts = self.counts;
+        let copied = self.copied;
+        if !marks::is_marked(counts, self.growths, self.rows, self.window, copied, x) {
+            return false;
+        }
+        let recorded = self.recorded;
+        !marks::is_marked(counts, self.growths, self.rows, self.window, recorded, x)
+    }
+
+    // The advance calls left.
+    pub(crate) fn calls_left(self) -> usize
+        requires { ⌜ sound self ≡ true ⌝ }
+        ensures { λ r. ⌜ r ≡ callsLeftOf (tallyOf self) ⌝ }
+    {
+        if self.growing == 0 {
+            return 0;
+        }
+        let counts = self.counts;
+        let copied = self.copied;
+        layout::calls_left(counts, self.growths, self.rows, self.window, copied)
+    }
+}

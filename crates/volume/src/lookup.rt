@@ -1,0 +1,76 @@
+// Looking up spots.
+ghost use mathlib.Core.Path.{_≡_};
+ghost use Rattle.base.specs.Refusals.{refusal};
+ghost use Rattle.volume.specs.Calls.{addressTable, addressReply, holderReply};
+use super::AddressAnswer;
+use super::AddressReply;
+use super::HolderAnswer;
+use super::HolderReply;
+use super::Volume;
+use layout::Block;
+use layout::Spot;
+use marks::LiveBlock;
+
+impl Volume {
+    pub(crate) fn address_refusal(self, x: Block) -> usize
+        ensures { λ r. ⌜ r ≡ refusal (addressTable self (x .0)) ⌝ }
+    {
+        if !self.is_sound() {
+            return 1;
+        }
+        if self.open_blocks() <= x.0 {
+            return 3;
+        }
+        0
+    }
+
+    // Where block x lives, and why.
+    pub fn address(self, x: Block) -> AddressReply
+        ensures { λ r. ⌜ r ≡ addressReply self (x .0) ⌝ }
+    {
+        let k = self.address_refusal(x);
+        if k != 0 {
+            return AddressReply {
+                state: self,
+                answer: AddressAnswer::Refused(k),
+            };
+        }
+        let p = self.live_spot(x);
+        let reason = self.live_reason(x);
+        AddressReply {
+            state: self,
+            answer: AddressAnswer::At(p, reason),
+        }
+    }
+
+    // What holder answers at p.
+    pub(crate) fn holder_answer(self, p: Spot) -> HolderAnswer
+        ensures { λ r. ⌜ r ≡ holderReply self p .answer ⌝ }
+    {
+        if !self.is_sound() {
+            return HolderAnswer::Refused(1);
+        }
+        if self.disk_count() <= p.disk {
+            return HolderAnswer::Refused(14);
+        }
+        let row = p.row;
+        if self.rows <= row.0 {
+            return HolderAnswer::Refused(14);
+        }
+        let LiveBlock::Lives(x) = self.live_block(p) else {
+            return HolderAnswer::Refused(15);
+        };
+        HolderAnswer::Has(x)
+    }
+
+    // The block that lives at spot p.
+    pub fn holder(self, p: Spot) -> HolderReply
+        ensures { λ r. ⌜ r ≡ holderReply self p ⌝ }
+    {
+        let answer = self.holder_answer(p);
+        HolderReply {
+            state: self,
+            answer,
+        }
+    }
+}
