@@ -89,20 +89,20 @@ pub fn reason_of(counts: [usize; 8], t: usize, s: usize, x: Block) -> Reason
     requires { ⌜ x .0 < diskCount (history t counts) * s ⌝ }
     ensures { λ r. ⌜ r ≡ reasonOf s (history t counts) (x .0) ⌝ }
 {
-    let n0 = counts[0];
+    let first = counts[0];
     let number = x.0;
-    let mut p = Spot {
-        disk: number % n0,
-        row: Row(number / n0),
+    let mut at = Spot {
+        disk: number % first,
+        row: Row(number / first),
     };
     let mut reason = Reason::SetOut;
     let mut k = 0;
     while k < t {
         let m = counts[k];
         let n = counts[k + 1] - m;
-        let change = change_of(m, n, s, number, p);
+        let change = change_of(m, n, s, number, at);
         reason = reason_after(change, k + 1, reason);
-        p = spot_after(m, n, s, number, p);
+        at = spot_after(m, n, s, number, at);
         k += 1;
     }
     reason

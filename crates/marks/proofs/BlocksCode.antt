@@ -28,7 +28,7 @@ use Rattle.marks.specs.Marks.{asLiveBlock, markCount}
 
 -- ---- before the newest growth
 
-history-before : (t : ℕ) (l : List ℕ) → 0 < t → history (t - 1) l ≡ earlier (history t l)
+pub history-before : (t : ℕ) (l : List ℕ) → 0 < t → history (t - 1) l ≡ earlier (history t l)
 unfolding history earlier
 history-before zero l o = absurd (omega arith)
 history-before (suc j) l o = let e : suc j - 1 ≡ j = omega arith in rw e

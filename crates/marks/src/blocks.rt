@@ -107,11 +107,11 @@ pub fn live_block(
     let g = layout::newest_growth(counts, t);
     let m = g.old;
     if p.disk < m {
-        let x = layout::block_at(counts, t - 1, s, p);
-        if at_new_spot(counts, t, s, w, recorded, x) {
+        let old = layout::block_at(counts, t - 1, s, p);
+        if at_new_spot(counts, t, s, w, recorded, old) {
             return LiveBlock::Nothing;
         }
-        return LiveBlock::Lives(x);
+        return LiveBlock::Lives(old);
     }
     let x = layout::block_at(counts, t, s, p);
     if at_new_spot(counts, t, s, w, recorded, x) {

@@ -1,4 +1,4 @@
--- `reason_of` meets its contract. The loop's invariant: p and reason are those after k growths. Assumes nothing.
+-- `reason_of` meets its contract. The loop's invariant: at and reason are those after k growths. Assumes nothing.
 use Prim.Native.Nat.{_-_, _≤_}
 use mathlib.Core.Path.{_≡_}
 use native.Mathlib.Omega.{arith}
@@ -11,14 +11,14 @@ use Rattle.layout.proofs.history.reason_of.Statement.{statement}
 use Rattle.layout.proofs.history.reason_of.Tie as tie
 
 abbrev Inv-loop : tie.InvT-loop
-Inv-loop t s counts n0 number p₀ reason₀ k₀ p reason k =
-    (k ≤ t) × (t ≤ mostGrowths) × (p ≡ spotOf s (history k counts) number) × (reason ≡ reasonOf s (history k counts) number)
+Inv-loop t s counts first number at₀ reason₀ k₀ at reason k =
+    (k ≤ t) × (t ≤ mostGrowths) × (at ≡ spotOf s (history k counts) number) × (reason ≡ reasonOf s (history k counts) number)
 
 abbrev μ-loop : tie.MeasureT-loop
-μ-loop t s counts n0 number p₀ reason₀ k₀ p reason k = t - k
+μ-loop t s counts first number at₀ reason₀ k₀ at reason k = t - k
 
-array-read-n0 : tie.Need-array-read-n0 Inv-loop μ-loop
-array-read-n0 c = search needs
+array-read-first : tie.Need-array-read-first Inv-loop μ-loop
+array-read-first c = search needs
 
 rem-t16 : tie.Need-rem-t16 Inv-loop μ-loop
 rem-t16 c = first-count _ _ 0 (c .args .t1) (c .pre .0)
@@ -92,7 +92,7 @@ reason-of-spec =
     (tie.spec
     Inv-loop
     μ-loop
-    array-read-n0
+    array-read-first
     rem-t16
     div-t17
     loop-holds

@@ -1,0 +1,171 @@
+-- What an accepted call knows: the facts that hold where a call's table refuses nothing. Assumes nothing.
+use Prim.Native.Nat.{ℕ, _≤_, _<_}
+use mathlib.Core.Path.{_≡_, refl}
+use mathlib.Core.Bool.{Bool, true, false, not}
+use mathlib.Core.List.{List, [], _∷_}
+use mathlib.Core.Option.{Option, none, some}
+use native.Mathlib.Omega.{arith}
+use lib.Dec.{eqb, leb, ltb}
+use borrow.Author.Tests.{leb-false, ltb-false, eqb-true, eqb-false, not-false}
+use Rattle.base.specs.Refusals.{refusal}
+use Rattle.base.proofs.Booleans.{clash}
+use Rattle.base.proofs.Refusals.{passed}
+use Rattle.layout.specs.declared.Spot.{Spot}
+use Rattle.layout.specs.History.{Within}
+use Rattle.layout.specs.Limits.{mostDisks, mostGrowths}
+use Rattle.layout.specs.Tally.{openBlocks, liveBlockOf, waiting}
+use Rattle.medium.specs.declared.Geometry.{Geometry}
+use Rattle.medium.specs.Medium.{recordBytes, bytesNeeded, Observations}
+use Rattle.volume.specs.declared.Volume.{Volume}
+use Rattle.volume.specs.Calls.{tooShort, formatTable, restartTable, growTable, writeTable, readTable, addressTable, holderTable, isNone}
+use Rattle.volume.specs.Records.{stateRead, isSoundRecord}
+use Rattle.volume.specs.Sound.{sizeHolds, rowsHold, disksHold, sound}
+use Rattle.volume.specs.States.{geometry, historyOf, disks, tallyOf}
+use Rattle.volume.proofs.SoundLaws.{sound-limits, growths-of-limits}
+
+-- a test that has to hold, and one that may not
+held : (k : ℕ) (test : Bool) (table : List (ℕ × Bool)) → 0 < k → refusal ((k, not test) ∷ table) ≡ 0 → (test ≡ true) × (refusal table ≡ 0)
+held k test table h e = let p = passed k (not test) table h e in (not-false test (p .0), p .1)
+
+long-enough : (g : Geometry) (n len : ℕ) → tooShort g n len ≡ false → bytesNeeded g n ≤ len
+unfolding tooShort
+long-enough g n len e = ltb-false len (bytesNeeded g n) e
+
+-- ---- format, restart, grow
+
+pub record FormatFacts (z s n len : ℕ) : Type 0 where
+  pub size-holds : sizeHolds z ≡ true
+  pub rows-hold : rowsHold s ≡ true
+  pub disks-hold : disksHold n ≡ true
+  pub room : bytesNeeded (record { size = z; rows = s }) n ≤ len
+
+pub format-accepted : (z s n len : ℕ) → refusal (formatTable z s n len) ≡ 0 → FormatFacts z s n len
+unfolding formatTable
+format-accepted z s n len e =
+    let a = held 8 (sizeHolds z) _ (omega arith) e in
+    let b = held 8 (rowsHold s) _ (omega arith) (a .1) in
+    let c = held 8 (disksHold n) _ (omega arith) (b .1) in
+    let d = passed 2 (tooShort (record { size = z; rows = s }) n len) [] (omega arith) (c .1) in
+    record { size-holds = a .0; rows-hold = b .0; disks-hold = c .0; room = long-enough _ n len (d .0) }
+
+pub record RestartFacts (o : Observations) : Type 0 where
+  pub record-room : recordBytes ≤ o .byteCount
+  pub is-record : isSoundRecord (o .sector) ≡ true
+  pub room : bytesNeeded (geometry (stateRead (o .sector))) (disks (stateRead (o .sector))) ≤ o .byteCount
+
+pub restart-accepted : (o : Observations) → refusal (restartTable o) ≡ 0 → RestartFacts o
+unfolding restartTable
+restart-accepted o e =
+    let u = stateRead (o .sector) in
+    let a = passed 2 (ltb (o .byteCount) recordBytes) _ (omega arith) e in
+    let b = held 13 (isSoundRecord (o .sector)) _ (omega arith) (a .1) in
+    let c = passed 2 (tooShort (geometry u) (disks u) (o .byteCount)) [] (omega arith) (b .1) in
+    record {
+      record-room = ltb-false (o .byteCount) recordBytes (a .0);
+      is-record = b .0;
+      room = long-enough (geometry u) (disks u) (o .byteCount) (c .0);
+    }
+
+pub record GrowFacts (v : Volume) (count len : ℕ) : Type 0 where
+  pub is-sound : sound v ≡ true
+  pub not-growing : v .growing ≡ 0
+  pub one-more : v .growths < mostGrowths
+  pub more-disks : disks v < count
+  pub disks-most : count ≤ mostDisks
+  pub room : bytesNeeded (geometry v) count ≤ len
+
+pub grow-accepted : (v : Volume) (count len : ℕ) → refusal (growTable v count len) ≡ 0 → GrowFacts v count len
+unfolding growTable
+grow-accepted v count len e =
+    let a = held 1 (sound v) _ (omega arith) e in
+    let b = held 6 (eqb (v .growing) 0) _ (omega arith) (a .1) in
+    let c = passed 9 (eqb (v .growths) mostGrowths) _ (omega arith) (b .1) in
+    let d = passed 8 (leb count (disks v)) _ (omega arith) (c .1) in
+    let f = passed 8 (ltb mostDisks count) _ (omega arith) (d .1) in
+    let g = passed 2 (tooShort (geometry v) count len) [] (omega arith) (f .1) in
+    record {
+      is-sound = a .0;
+      not-growing = eqb-true (v .growing) 0 (b .0);
+      one-more = omega (arith, growths-of-limits v (sound-limits v (a .0)), eqb-false (v .growths) mostGrowths (c .0));
+      more-disks = leb-false count (disks v) (d .0);
+      disks-most = ltb-false mostDisks count (f .0);
+      room = long-enough (geometry v) count len (g .0);
+    }
+
+-- ---- read and write
+
+pub record ReadFacts (v : Volume) (x n len : ℕ) : Type 0 where
+  pub is-sound : sound v ≡ true
+  pub room : bytesNeeded (geometry v) (disks v) ≤ len
+  pub block-open : x < openBlocks (tallyOf v)
+  pub piece-whole : n ≡ v .size
+
+abbrev afterPiece : (v : Volume) (x n len : ℕ) (table : List (ℕ × Bool)) → List (ℕ × Bool)
+afterPiece v x n len table =
+    (1, not (sound v))
+    ∷ (2, tooShort (geometry v) (disks v) len)
+    ∷ (3, leb (openBlocks (tallyOf v)) x)
+    ∷ (4, not (eqb n (v .size)))
+    ∷ table
+
+-- the tests of a read, whatever comes after them
+read-tests : (v : Volume) (x n len : ℕ) (table : List (ℕ × Bool)) → refusal (afterPiece v x n len table) ≡ 0
+    → ReadFacts v x n len × (refusal table ≡ 0)
+read-tests v x n len table e =
+    let a = held 1 (sound v) _ (omega arith) e in
+    let b = passed 2 (tooShort (geometry v) (disks v) len) _ (omega arith) (a .1) in
+    let c = passed 3 (leb (openBlocks (tallyOf v)) x) _ (omega arith) (b .1) in
+    let d = held 4 (eqb n (v .size)) table (omega arith) (c .1) in (
+      record {
+        is-sound = a .0;
+        room = long-enough (geometry v) (disks v) len (b .0);
+        block-open = leb-false (openBlocks (tallyOf v)) x (c .0);
+        piece-whole = eqb-true n (v .size) (d .0);
+      },
+      d .1,
+    )
+
+pub read-accepted : (v : Volume) (x n len : ℕ) → refusal (readTable v x n len) ≡ 0 → ReadFacts v x n len
+unfolding readTable
+read-accepted v x n len e = read-tests v x n len [] e .0
+
+pub write-accepted : (v : Volume) (x n len : ℕ) → refusal (writeTable v x n len) ≡ 0 → ReadFacts v x n len × (waiting (tallyOf v) x ≡ false)
+unfolding writeTable
+write-accepted v x n len e =
+    let a = read-tests v x n len ((7, waiting (tallyOf v) x) ∷ []) e in
+    (a .0, passed 7 (waiting (tallyOf v) x) [] (omega arith) (a .1) .0)
+
+-- ---- address and holder
+
+pub record AddressFacts (v : Volume) (x : ℕ) : Type 0 where
+  pub is-sound : sound v ≡ true
+  pub block-open : x < openBlocks (tallyOf v)
+
+pub address-accepted : (v : Volume) (x : ℕ) → refusal (addressTable v x) ≡ 0 → AddressFacts v x
+unfolding addressTable
+address-accepted v x e =
+    let a = held 1 (sound v) _ (omega arith) e in
+    let b = passed 3 (leb (openBlocks (tallyOf v)) x) [] (omega arith) (a .1) in
+    record { is-sound = a .0; block-open = leb-false (openBlocks (tallyOf v)) x (b .0) }
+
+pub record HolderFacts (v : Volume) (p : Spot) : Type 0 where
+  pub is-sound : sound v ≡ true
+  pub spot-within : Within (v .rows) (historyOf v) p
+  pub block-there : (x : ℕ) × (liveBlockOf (tallyOf v) p ≡ some x)
+
+some-block : (found : Option ℕ) → isNone found ≡ false → (x : ℕ) × (found ≡ some x)
+some-block none e = clash refl e
+some-block (some x) e = (x, refl)
+
+pub holder-accepted : (v : Volume) (p : Spot) → refusal (holderTable v p) ≡ 0 → HolderFacts v p
+unfolding holderTable disks
+holder-accepted v p e =
+    let a = held 1 (sound v) _ (omega arith) e in
+    let b = passed 14 (leb (disks v) (p .disk)) _ (omega arith) (a .1) in
+    let c = passed 14 (leb (v .rows) (p .row .0)) _ (omega arith) (b .1) in
+    let d = passed 15 (isNone (liveBlockOf (tallyOf v) p)) [] (omega arith) (c .1) in
+    record {
+      is-sound = a .0;
+      spot-within = record { disk = leb-false (disks v) (p .disk) (b .0); row = leb-false (v .rows) (p .row .0) (c .0) };
+      block-there = some-block (liveBlockOf (tallyOf v) p) (d .0);
+    }

@@ -1,0 +1,67 @@
+-- What the code of read, write and address needs. Assumes nothing.
+use Prim.Native.Nat.{ℕ, _<_}
+use mathlib.Core.Path.{_≡_, refl, _∙_}
+use mathlib.Core.Bool.{Bool, true, false, cond, not}
+use mathlib.Core.Logic.{_≢_}
+use native.Mathlib.Omega.{arith}
+use lib.Dec.{eqb, leb}
+use Rattle.base.specs.Refusals.{refusal}
+use Rattle.layout.specs.declared.Spot.{Spot}
+use Rattle.layout.specs.Tally.{openBlocks, liveSpotOf, liveReasonOf, waiting}
+use Rattle.medium.specs.Medium.{Inside}
+use Rattle.volume.specs.declared.Volume.{Volume}
+use Rattle.volume.specs.declared.AddressAnswer.the-variants as address
+use Rattle.volume.specs.Calls.{judged, tooShort, readTable, writeTable, addressTable, addressReply}
+use Rattle.volume.specs.Sound.{sound}
+use Rattle.volume.specs.States.{geometry, disks, tallyOf}
+use Rattle.volume.proofs.Accepted.{ReadFacts}
+use Rattle.volume.proofs.JudgedCode.{refused-when, accepted-when}
+use Rattle.volume.proofs.LookUpLaws.{live-inside}
+use Rattle.volume.proofs.SoundLaws.{sound-facts}
+
+-- ---- address
+
+module _ (v : Volume) (x k : ℕ) where
+  pub address-refused : k ≡ refusal (addressTable v x) → k ≢ 0 → addressReply v x ≡ record { state = v; answer = address.Refused k }
+  unfolding addressReply
+  address-refused e h = refused-when (addressTable v x) (λ n. record { state = v; answer = address.Refused n }) _ k e h
+
+  pub address-found : k ≡ refusal (addressTable v x) → k ≡ 0
+      → addressReply v x ≡ record { state = v; answer = address.At (liveSpotOf (tallyOf v) x) (liveReasonOf (tallyOf v) x) }
+  unfolding addressReply
+  address-found e h = accepted-when (addressTable v x) (λ n. record { state = v; answer = address.Refused n }) _ k e h
+
+-- ---- read and write
+
+-- what storing and fetching a piece at the live spot require
+pub piece-fits : (v : Volume) (x n len : ℕ) → ReadFacts v x n len → (p : Spot) → p ≡ liveSpotOf (tallyOf v) x
+    → (0 < v .size) × (Inside (record { size = v .size; rows = v .rows }) len p × (n ≡ v .size))
+unfolding geometry
+piece-fits v x n len f p e = (
+  omega (arith, sound-facts v (f .is-sound) .size-least),
+  (rw e (live-inside v x len (f .is-sound) (f .block-open) (f .room)), f .piece-whole),
+)
+
+-- the table of a write is that of a read, and one test more
+module _ (v : Volume) (x n len : ℕ) where
+  write-table : refusal (writeTable v x n len) ≡ judged (readTable v x n len) (λ k. k) (cond (waiting (tallyOf v) x) 7 0)
+  unfolding writeTable readTable refusal
+  write-table =
+      by (not (sound v)) (tooShort (geometry v) (disks v) len) (leb (openBlocks (tallyOf v)) x) (not (eqb n (v .size)))
+      (waiting (tallyOf v) x)
+    where
+      by : (a b c d e : Bool)
+          → _≡_ {A = ℕ} (cond a 1 (cond b 2 (cond c 3 (cond d 4 (cond e 7 0)))))
+          (cond (eqb (cond a 1 (cond b 2 (cond c 3 (cond d 4 0)))) 0) (cond e 7 0) (cond a 1 (cond b 2 (cond c 3 (cond d 4 0)))))
+      by true b c d e = refl
+      by false true c d e = refl
+      by false false true d e = refl
+      by false false false true e = refl
+      by false false false false e = refl
+
+  pub refused-as-read : (k : ℕ) → k ≡ refusal (readTable v x n len) → k ≢ 0 → refusal (writeTable v x n len) ≡ k
+  refused-as-read k e h = write-table ∙ refused-when (readTable v x n len) (λ k. k) _ k e h
+
+  pub refused-waiting : (k : ℕ) → k ≡ refusal (readTable v x n len) → k ≡ 0
+      → refusal (writeTable v x n len) ≡ cond (waiting (tallyOf v) x) 7 0
+  refused-waiting k e h = write-table ∙ accepted-when (readTable v x n len) (λ k. k) _ k e h

@@ -1,0 +1,16 @@
+pub mod SoundLaws
+pub mod NumberLists
+pub mod RecordLaws
+pub mod Accepted
+pub mod StatesSound
+pub mod RefusalLaws
+pub mod LookUpLaws
+pub mod StoresFit
+pub mod Theorems
+pub mod ByteBounds
+pub mod JudgedCode
+pub mod RecordCode
+pub mod LiveCode
+pub mod CallsCode
+pub mod BlockCode
+pub mod HolderCode

@@ -1,0 +1,127 @@
+-- Looking up the blocks of a sound state: a live spot lies in the medium, address and holder are inverse to each other, and after a
+-- finished growth 15 never occurs. Assumes nothing.
+use Prim.Native.Nat.{ℕ, _≤_, _<_}
+use mathlib.Core.Path.{_≡_, refl, sym, ap, _∙_}
+use mathlib.Core.Bool.{Bool, true, false, cond, not}
+use mathlib.Core.List.{[], _∷_}
+use mathlib.Core.Logic.{_≢_}
+use mathlib.Core.Option.{Option, none, some}
+use native.Mathlib.Omega.{arith}
+use lib.Dec.{eqb, leb}
+use borrow.Author.Tests.{eqb-false, eq-eqb, lt-leb, not-false}
+use Rattle.base.specs.Refusals.{refusal}
+use Rattle.base.proofs.Booleans.{clash}
+use Rattle.layout.specs.declared.Block.{Block}
+use Rattle.layout.specs.declared.Reason.{Reason}
+use Rattle.layout.specs.declared.Spot.{Spot}
+use Rattle.layout.specs.History.{Within}
+use Rattle.layout.specs.Laws.{LookUps}
+use Rattle.layout.specs.Tally.{notGrowing, growing, openBlocks, liveSpotOf, liveBlockOf, liveReasonOf}
+use Rattle.layout.proofs.HistoryCode.{newest-old}
+use Rattle.layout.proofs.Theorems as layout
+use Rattle.medium.specs.Medium.{bytesNeeded, Inside}
+use Rattle.medium.proofs.Theorems.{medium-laws}
+use Rattle.volume.specs.declared.Volume.{Volume}
+use Rattle.volume.specs.declared.AddressAnswer.the-variants as address
+use Rattle.volume.specs.declared.HolderAnswer.the-variants as holder
+use Rattle.volume.specs.Answers.{addressNumber, spotTold, holderNumber, blockTold}
+use Rattle.volume.specs.Calls.{addressTable, addressReply, isNone, blockFound, holderTable, holderReply}
+use Rattle.volume.specs.Sound.{sound}
+use Rattle.volume.specs.States.{geometry, historyOf, disks, modeOf, tallyOf}
+use Rattle.volume.proofs.Accepted.{address-accepted, holder-accepted}
+use Rattle.volume.proofs.RefusalLaws.{address-refuses, holder-refuses}
+use Rattle.volume.proofs.SoundLaws.{sound-facts}
+
+-- the mode of a state that grows
+growing-number : (g : ℕ) → modeOf g ≡ growing → eqb g 0 ≡ false
+unfolding modeOf
+growing-number g e = by (eqb g 0) e
+  where
+    by : (t : Bool) → cond t notGrowing growing ≡ growing → t ≡ false
+    by true e = cc
+    by false e = refl
+
+pub look-ups-of : (v : Volume) → sound v ≡ true → LookUps (tallyOf v)
+unfolding tallyOf historyOf
+look-ups-of v e =
+    let f = sound-facts v e in
+    layout.look-ups (tallyOf v) (f .limits .rise)
+    (λ m.
+    let g = f .while-growing (eqb-false (v .growing) 0 (growing-number (v .growing) m)) in
+    newest-old (v .rows) (v .growths) (v .counts) (g .has-growth) (f .limits))
+
+pub live-inside : (v : Volume) (x len : ℕ) → sound v ≡ true → x < openBlocks (tallyOf v) → bytesNeeded (geometry v) (disks v) ≤ len
+    → Inside (geometry v) len (liveSpotOf (tallyOf v) x)
+unfolding tallyOf geometry disks
+live-inside v x len e h k =
+    let w = look-ups-of v e .live-within x h in
+    let i = medium-laws .inside (geometry v) (disks v) (liveSpotOf (tallyOf v) x) (w .disk) (w .row) in
+    record { row = i .row; fits = omega (arith, i .fits) }
+
+-- ---- address and holder
+
+found-some : (v : Volume) (p : Spot) (x : ℕ) → sound v ≡ true → Within (v .rows) (historyOf v) p → liveBlockOf (tallyOf v) p ≡ some x
+    → refusal (holderTable v p) ≡ 0
+unfolding holderTable disks refusal
+found-some v p x e w f =
+    rw (e, lt-leb (disks v) (p .disk) (w .disk), lt-leb (v .rows) (p .row .0) (w .row), f)
+
+is-open : (v : Volume) (x : ℕ) → sound v ≡ true → x < openBlocks (tallyOf v) → refusal (addressTable v x) ≡ 0
+unfolding addressTable refusal
+is-open v x e h = rw (e, lt-leb (openBlocks (tallyOf v)) x h)
+
+-- the answers of accepted look-ups
+address-is : (v : Volume) (x : ℕ) → refusal (addressTable v x) ≡ 0
+    → addressReply v x .answer ≡ address.At (liveSpotOf (tallyOf v) x) (liveReasonOf (tallyOf v) x)
+unfolding addressReply
+address-is v x e = rw (eq-eqb (refusal (addressTable v x)) 0 e)
+
+holder-is : (v : Volume) (p : Spot) → refusal (holderTable v p) ≡ 0
+    → holderReply v p .answer ≡ holder.Has (record { 0 = blockFound (liveBlockOf (tallyOf v) p) })
+unfolding holderReply
+holder-is v p e = rw (eq-eqb (refusal (holderTable v p)) 0 e)
+
+pub holder-of-address : (v : Volume) (x : Block) (p : Spot) (reason : Reason) → addressReply v (x .0) .answer ≡ address.At p reason
+    → holderReply v p .answer ≡ holder.Has x
+unfolding addressNumber spotTold tallyOf
+holder-of-address v x p reason e =
+    let r : refusal (addressTable v (x .0)) ≡ 0 = sym (address-refuses v (x .0)) ∙ ap addressNumber e in
+    let f = address-accepted v (x .0) r in
+    let at : liveSpotOf (tallyOf v) (x .0) ≡ p = ap spotTold (sym (address-is v (x .0) r) ∙ e) in
+    let look = look-ups-of v (f .is-sound) in
+    let b : liveBlockOf (tallyOf v) p ≡ some (x .0) = rw at at (look .block-of-live (x .0) (f .block-open)) in
+    let w : Within (v .rows) (historyOf v) p = rw at at (look .live-within (x .0) (f .block-open)) in
+    holder-is v p (found-some v p (x .0) (f .is-sound) w b) ∙ ap (λ (found : Option ℕ). holder.Has (record { 0 = blockFound found })) b
+
+pub address-of-holder : (v : Volume) (p : Spot) (x : Block) → holderReply v p .answer ≡ holder.Has x
+    → (reason : Reason) × (addressReply v (x .0) .answer ≡ address.At p reason)
+unfolding holderNumber blockTold tallyOf
+address-of-holder v p x e =
+    let r : refusal (holderTable v p) ≡ 0 = sym (holder-refuses v p) ∙ ap holderNumber e in
+    let f = holder-accepted v p r in
+    let y = f .block-there .0 in
+    let same : y ≡ x .0 = sym (ap blockFound (f .block-there .1)) ∙ ap blockTold (sym (holder-is v p r) ∙ e) in
+    let b : liveBlockOf (tallyOf v) p ≡ some (x .0) = f .block-there .1 ∙ ap some same in
+    let l = look-ups-of v (f .is-sound) .live-of-block p (x .0) (f .spot-within) b in (
+      liveReasonOf (tallyOf v) (x .0),
+      address-is v (x .0) (is-open v (x .0) (f .is-sound) (l .0)) ∙ ap (λ (q : Spot). address.At q (liveReasonOf (tallyOf v) (x .0))) (l .1),
+    )
+
+-- 15 is told only of a spot where no block lives
+fifteen : (a b c d : Bool) → refusal ((1, a) ∷ (14, b) ∷ (14, c) ∷ (15, d) ∷ []) ≡ 15 → (a ≡ false) × (d ≡ true)
+unfolding refusal
+fifteen true b c d e = absurd (omega arith)
+fifteen false true c d e = absurd (omega arith)
+fifteen false false true d e = absurd (omega arith)
+fifteen false false false true e = (refl, refl)
+fifteen false false false false e = absurd (omega arith)
+
+none-there : (found : Option ℕ) → isNone found ≡ true → found ≡ none
+none-there none e = refl
+none-there (some x) e = clash e refl
+
+pub at-rest-no-15 : (v : Volume) (p : Spot) → v .growing ≡ 0 → holderNumber (holderReply v p .answer) ≢ 15
+unfolding holderTable tallyOf modeOf
+at-rest-no-15 v p g e =
+    let q = fifteen (not (sound v)) (leb (disks v) (p .disk)) (leb (v .rows) (p .row .0)) (isNone (liveBlockOf (tallyOf v) p)) (sym (holder-refuses v p) ∙ e) in
+    look-ups-of v (not-false (sound v) (q .0)) .each-spot-taken (rw g) p (none-there (liveBlockOf (tallyOf v) p) (q .1))

@@ -1,0 +1,84 @@
+-- A call that its table refuses tells the table's number, hands its state back, stores nothing, leaves the piece and has no figures.
+-- Assumes nothing.
+use Prim.Native.Nat.{ℕ}
+use mathlib.Core.Path.{_≡_, refl, sym, _∙_}
+use mathlib.Core.Bool.{Bool}
+use mathlib.Core.List.{List, []}
+use lib.Dec.{eqb}
+use lib.ListN.{length}
+use borrow.Author.Tests.{eqb-true, eqb-false}
+use Rattle.base.specs.Refusals.{refusal}
+use Rattle.base.proofs.Booleans.{cond-cases}
+use Rattle.layout.specs.declared.Spot.{Spot}
+use Rattle.medium.specs.Medium.{Observations}
+use Rattle.volume.specs.declared.Volume.{Volume}
+use Rattle.volume.specs.declared.AddressAnswer.the-variants as address
+use Rattle.volume.specs.declared.AddressReply.{AddressReply}
+use Rattle.volume.specs.declared.HolderAnswer.the-variants as holder
+use Rattle.volume.specs.declared.HolderReply.{HolderReply}
+use Rattle.volume.specs.Answers.{number, callsTold, addressNumber, holderNumber}
+use Rattle.volume.specs.Calls.{Outcome, refused, reporting, judged, formatTable, formatOutcome, restartTable, restartOutcome, growTable, growOutcome, writeTable, writeOutcome, readTable, readOutcome, addressTable, addressReply, holderTable, holderReply}
+use Rattle.volume.specs.Laws.{Refuses}
+use Rattle.volume.specs.States.{zeros}
+
+-- what holds of the refusal where there is one, and of what is accepted where there is none, holds of what is judged
+pub judged-cases : {A : Type 0} (P : A → Type 0) (table : List (ℕ × Bool)) (refusing : ℕ → A) (accepted : A)
+    → (refusal table ≡ 0 → P accepted) → ((refusal table ≡ 0 → ⊥) → P (refusing (refusal table))) → P (judged table refusing accepted)
+judged-cases P table refusing accepted f g =
+    cond-cases P (eqb (refusal table) 0) (λ e. f (eqb-true (refusal table) 0 e)) (λ e. g (eqb-false (refusal table) 0 e))
+
+judged-refuses : (table : List (ℕ × Bool)) (v : Volume) (piece : List ℕ) (accepted : Outcome) → number (accepted .reply .answer) ≡ 0
+    → Refuses table v piece (judged table (λ k. refused v k piece) accepted)
+unfolding refused number callsTold
+judged-refuses table v piece accepted a =
+    judged-cases (Refuses table v piece) table (λ k. refused v k piece) accepted
+    (λ e.
+    record {
+      number-told = a ∙ sym e;
+      state-kept = λ f. absurd (f e);
+      nothing-stored = λ f. absurd (f e);
+      piece-kept = λ f. absurd (f e);
+      no-figures = λ f. absurd (f e);
+    })
+    (λ f.
+    record {
+      number-told = refl;
+      state-kept = λ _. refl;
+      nothing-stored = λ _. refl;
+      piece-kept = λ _. refl;
+      no-figures = λ _. refl;
+    })
+
+pub format-refuses : (z s n : ℕ) (o : Observations) → Refuses (formatTable z s n (o .byteCount)) zeros [] (formatOutcome z s n o)
+unfolding formatOutcome number
+format-refuses z s n o = judged-refuses (formatTable z s n (o .byteCount)) zeros [] _ refl
+
+pub restart-refuses : (o : Observations) → Refuses (restartTable o) zeros [] (restartOutcome o)
+unfolding restartOutcome reporting number
+restart-refuses o = judged-refuses (restartTable o) zeros [] _ refl
+
+pub grow-refuses : (v : Volume) (count : ℕ) (o : Observations) → Refuses (growTable v count (o .byteCount)) v [] (growOutcome v count o)
+unfolding growOutcome reporting number
+grow-refuses v count o = judged-refuses (growTable v count (o .byteCount)) v [] _ refl
+
+pub write-refuses : (v : Volume) (x : ℕ) (piece : List ℕ) (o : Observations)
+    → Refuses (writeTable v x (length piece) (o .byteCount)) v piece (writeOutcome v x piece o)
+unfolding writeOutcome number
+write-refuses v x piece o = judged-refuses (writeTable v x (length piece) (o .byteCount)) v piece _ refl
+
+pub read-refuses : (v : Volume) (x : ℕ) (piece : List ℕ) (o : Observations)
+    → Refuses (readTable v x (length piece) (o .byteCount)) v piece (readOutcome v x piece o)
+unfolding readOutcome number
+read-refuses v x piece o = judged-refuses (readTable v x (length piece) (o .byteCount)) v piece _ refl
+
+pub address-refuses : (v : Volume) (x : ℕ) → addressNumber (addressReply v x .answer) ≡ refusal (addressTable v x)
+unfolding addressReply addressNumber
+address-refuses v x =
+    judged-cases (λ (r : AddressReply). addressNumber (r .answer) ≡ refusal (addressTable v x)) (addressTable v x)
+    (λ k. record { state = v; answer = address.Refused k }) _ (λ e. sym e) (λ f. refl)
+
+pub holder-refuses : (v : Volume) (p : Spot) → holderNumber (holderReply v p .answer) ≡ refusal (holderTable v p)
+unfolding holderReply holderNumber
+holder-refuses v p =
+    judged-cases (λ (r : HolderReply). holderNumber (r .answer) ≡ refusal (holderTable v p)) (holderTable v p)
+    (λ k. record { state = v; answer = holder.Refused k }) _ (λ e. sym e) (λ f. refl)

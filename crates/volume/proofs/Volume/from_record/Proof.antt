@@ -1,0 +1,81 @@
+-- `from_record` meets its contract. Assumes nothing.
+use mathlib.Core.Path.{_≡_}
+use lib.ListN.{length}
+use borrow.Author.Needs.{needs}
+use Rattle.volume.specs.Records.{stateOf}
+use Rattle.volume.proofs.RecordCode.{counts-listed}
+use Rattle.volume.proofs.Volume.from_record.Statement.{statement}
+use Rattle.volume.proofs.Volume.from_record.Tie as tie
+
+array-read-new-state : tie.Need-array-read-new-state
+array-read-new-state c = search needs
+
+array-read-t11 : tie.Need-array-read-t11
+array-read-t11 c = search needs
+
+array-read-t14 : tie.Need-array-read-t14
+array-read-t14 c = search needs
+
+array-read-t17 : tie.Need-array-read-t17
+array-read-t17 c = search needs
+
+array-read-t20 : tie.Need-array-read-t20
+array-read-t20 c = search needs
+
+array-read-t23 : tie.Need-array-read-t23
+array-read-t23 c = search needs
+
+array-read-with-growth : tie.Need-array-read-with-growth
+array-read-with-growth c = search needs
+
+array-read-new-state-2 : tie.Need-array-read-new-state-2
+array-read-new-state-2 c = search needs
+
+array-read-new-state-3 : tie.Need-array-read-new-state-3
+array-read-new-state-3 c = search needs
+
+array-read-new-state-4 : tie.Need-array-read-new-state-4
+array-read-new-state-4 c = search needs
+
+new-state-requires : tie.Need-new-state-requires
+new-state-requires c κs = search needs
+
+array-read-with-growth-2 : tie.Need-array-read-with-growth-2
+array-read-with-growth-2 c = search needs
+
+array-read-with-growth-3 : tie.Need-array-read-with-growth-3
+array-read-with-growth-3 c = search needs
+
+array-read-with-growth-4 : tie.Need-array-read-with-growth-4
+array-read-with-growth-4 c = search needs
+
+with-growth-requires : tie.Need-with-growth-requires
+with-growth-requires c κs = search needs
+
+returns : tie.Need-returns
+unfolding stateOf
+returns c =
+    let l = c .before .before .args .t1 in
+    let e : length l ≡ 13 = search needs in
+    rw (counts-listed l e) (rw (c .before .new-state .ensures) at (c .with-growth .ensures))
+
+pub from-record-spec : {M : Type 1} → statement M
+from-record-spec =
+    tie.close
+    (tie.spec
+    array-read-new-state
+    array-read-t11
+    array-read-t14
+    array-read-t17
+    array-read-t20
+    array-read-t23
+    array-read-with-growth
+    array-read-new-state-2
+    array-read-new-state-3
+    array-read-new-state-4
+    new-state-requires
+    array-read-with-growth-2
+    array-read-with-growth-3
+    array-read-with-growth-4
+    with-growth-requires
+    returns)

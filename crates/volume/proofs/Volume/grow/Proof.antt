@@ -1,0 +1,68 @@
+-- `grow` meets its contract. Assumes nothing.
+use mathlib.Core.Path.{_≡_, refl, sym, _∙_}
+use mathlib.Core.List.{[]}
+use lib.ListN.{length}
+use borrow.Author.Needs.{needs}
+use Rattle.base.specs.Refusals.{refusal}
+use Rattle.medium.specs.Medium.{observe}
+use Rattle.volume.specs.Calls.{growTable, reporting, growOutcome}
+use Rattle.volume.proofs.Accepted.{grow-accepted}
+use Rattle.volume.proofs.CallsCode.{record-room, record-stored}
+use Rattle.volume.proofs.JudgedCode.{refused-reply, refused-stores, accepted-reply, accepted-stores}
+use Rattle.volume.proofs.StatesSound.{grown-sound}
+use Rattle.volume.proofs.Volume.grow.Statement.{statement}
+use Rattle.volume.proofs.Volume.grow.Tie as tie
+
+grow-refusal-requires : tie.Need-grow-refusal-requires
+grow-refusal-requires c κs = search needs
+
+refuse-requires : tie.Need-refuse-requires
+refuse-requires c κs = search needs
+
+returns : tie.Need-returns
+unfolding growOutcome observe
+returns c =
+    let v = c .before .before .before .before .args .self in
+    let e = c .before .before .grow-refusal .ensures in
+    let h = c .before .if1 .taken in
+    (refused-reply _ v [] _ _ e h v _ refl (c .refuse .ensures), refused-stores _ v [] _ _ e h _ _)
+
+-- the table refuses nothing
+clear : (c : tie.Else1) → let a = c .before .before .before .args in refusal (growTable (a .self) (a .count) (length (a .medium .now))) ≡ 0
+clear c = sym (c .before .grow-refusal .ensures) ∙ c .if1 .left
+
+grown-requires : tie.Need-grown-requires
+grown-requires c κs = grow-accepted _ _ _ (clear c) .one-more
+
+store-record-requires : tie.Need-store-record-requires
+store-record-requires c κs = record-room _ _ _ (grow-accepted _ _ _ (clear (c .before .before)) .room)
+
+report-requires : tie.Need-report-requires
+report-requires c κs = rw (c .before .before .before .before .grown .ensures) (grown-sound _ _ _ (clear (c .before .before .before .before .before)))
+
+same-length : tie.Need-same-length
+same-length c = search needs
+
+returns-2 : tie.Need-returns-2
+unfolding growOutcome reporting observe
+returns-2 c =
+    let v = c .before .before .before .before .before .before .before .before .before .args .self in
+    let e = c .before .before .before .before .before .before .before .grow-refusal .ensures in
+    let h = c .before .before .before .before .before .before .if1 .left in
+    let n = c .before .before .before .before .before .grown .ensures in (
+      accepted-reply _ v [] _ _ e h _ (rw n at (c .report .ensures)),
+      accepted-stores _ v [] _ _ e h _ _ _ (record-stored _ _ _ _ _ n (c .before .before .before .store-record .ensures)),
+    )
+
+pub grow-spec : {M : Type 1} → statement M
+grow-spec =
+    tie.close
+    (tie.spec
+    grow-refusal-requires
+    refuse-requires
+    returns
+    grown-requires
+    store-record-requires
+    report-requires
+    same-length
+    returns-2)

@@ -1,0 +1,110 @@
+-- `grow_refusal` meets its contract. Assumes nothing.
+use mathlib.Core.Path.{_≡_, sym, _∙_}
+use mathlib.Core.Bool.{true, false}
+use lib.Dec.{eqb, leb}
+use borrow.Author.Needs.{needs}
+use borrow.Author.Tests.{le-ltb, lt-ltb, le-leb, lt-leb, eq-eqb, ne-eqb, not-true, not-false}
+use Rattle.base.specs.Refusals.{refusal}
+use Rattle.layout.specs.Limits.{mostGrowths}
+use Rattle.volume.specs.Calls.{growTable}
+use Rattle.volume.specs.Sound.{sound}
+use Rattle.volume.specs.States.{disks}
+use Rattle.volume.proofs.Volume.grow_refusal.Statement.{statement}
+use Rattle.volume.proofs.Volume.grow_refusal.Tie as tie
+
+is-sound-requires : tie.Need-is-sound-requires
+is-sound-requires c κs = search needs
+
+-- the tests that let the code go on
+passes : (c : tie.Else1) → sound (c .before .before .args .self) ≡ true
+passes c = sym (c .before .is-sound .ensures) ∙ not-false _ (c .if1 .left)
+
+at-rest : (c : tie.Else2) → eqb (c .before .before .before .before .args .self .growing) 0 ≡ true
+at-rest c = eq-eqb _ _ (c .if2 .left)
+
+room-left : (c : tie.Else3) → eqb (c .before .before .before .before .before .before .args .self .growths) mostGrowths ≡ false
+room-left c = ne-eqb _ _ (c .if3 .left)
+
+rises : (c : tie.Else4)
+    → let a = c .before .before .before .before .before .before .before .before .args in leb (a .count) (disks (a .self)) ≡ false
+rises c = lt-leb _ _ (rw (c .before .disk-count .ensures) at (c .if4 .left))
+
+returns : tie.Need-returns
+unfolding refusal growTable
+returns c =
+    let e : sound (c .before .before .args .self) ≡ false = sym (c .before .is-sound .ensures) ∙ not-true _ (c .if1 .taken) in
+    simp e
+
+returns-2 : tie.Need-returns-2
+unfolding refusal growTable
+returns-2 c = simp (passes (c .before .before), ne-eqb _ _ (c .if2 .taken))
+
+returns-3 : tie.Need-returns-3
+unfolding refusal growTable
+returns-3 c = simp (passes (c .before .before .before .before), at-rest (c .before .before), eq-eqb _ _ (c .if3 .taken))
+
+disk-count-requires : tie.Need-disk-count-requires
+disk-count-requires c κs = passes (c .before .before .before .before)
+
+returns-4 : tie.Need-returns-4
+unfolding refusal growTable
+returns-4 c =
+    simp (
+      passes (c .before .before .before .before .before .before),
+      at-rest (c .before .before .before .before),
+      room-left (c .before .before),
+      le-leb _ _ (rw (c .before .disk-count .ensures) at (c .if4 .taken)),
+    )
+
+returns-5 : tie.Need-returns-5
+unfolding refusal growTable
+returns-5 c =
+    simp (
+      passes (c .before .before .before .before .before .before .before),
+      at-rest (c .before .before .before .before .before),
+      room-left (c .before .before .before),
+      rises (c .before),
+      lt-ltb _ _ (c .if5 .taken),
+    )
+
+is-short-requires : tie.Need-is-short-requires
+is-short-requires c κs = (passes (c .before .before .before .before .before .before .before), c .if5 .left)
+
+returns-6 : tie.Need-returns-6
+unfolding refusal growTable
+returns-6 c =
+    simp (
+      passes (c .before .before .before .before .before .before .before .before .before),
+      at-rest (c .before .before .before .before .before .before .before),
+      room-left (c .before .before .before .before .before),
+      rises (c .before .before .before),
+      le-ltb _ _ (c .before .before .if5 .left),
+      sym (c .before .is-short .ensures) ∙ c .if6 .taken,
+    )
+
+returns-7 : tie.Need-returns-7
+unfolding refusal growTable
+returns-7 c =
+    simp (
+      passes (c .before .before .before .before .before .before .before .before .before),
+      at-rest (c .before .before .before .before .before .before .before),
+      room-left (c .before .before .before .before .before),
+      rises (c .before .before .before),
+      le-ltb _ _ (c .before .before .if5 .left),
+      sym (c .before .is-short .ensures) ∙ c .if6 .left,
+    )
+
+pub grow-refusal-spec : {M : Type 1} → statement M
+grow-refusal-spec =
+    tie.close
+    (tie.spec
+    is-sound-requires
+    returns
+    returns-2
+    returns-3
+    disk-count-requires
+    returns-4
+    returns-5
+    is-short-requires
+    returns-6
+    returns-7)

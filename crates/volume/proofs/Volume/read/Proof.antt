@@ -1,0 +1,61 @@
+-- `read` meets its contract. Assumes nothing.
+use mathlib.Core.Path.{refl, sym, _∙_}
+use lib.ListN.{length}
+use borrow.Author.Needs.{needs}
+use Rattle.medium.specs.Medium.{observe}
+use Rattle.volume.specs.Calls.{readOutcome}
+use Rattle.volume.specs.States.{geometry}
+use Rattle.volume.proofs.Accepted.{ReadFacts, read-accepted}
+use Rattle.volume.proofs.BlockCode.{piece-fits}
+use Rattle.volume.proofs.JudgedCode.{refused-reply, refused-piece, accepted-reply, accepted-piece}
+use Rattle.volume.proofs.Volume.read.Statement.{statement}
+use Rattle.volume.proofs.Volume.read.Tie as tie
+
+read-refusal-requires : tie.Need-read-refusal-requires
+read-refusal-requires c κs = search needs
+
+refuse-requires : tie.Need-refuse-requires
+refuse-requires c κs = search needs
+
+returns : tie.Need-returns
+unfolding readOutcome observe
+returns c =
+    let a = c .before .before .before .before .before .args in
+    let e = c .before .before .read-refusal .ensures in
+    let h = c .before .if1 .taken in
+    (refused-reply _ (a .self) (a .piece .now) _ _ e h (a .self) _ refl (c .refuse .ensures), refused-piece _ (a .self) (a .piece .now) _ _ e h)
+
+accepted : (c : tie.Else1)
+    → let a = c .before .before .before .before .args in ReadFacts (a .self) (a .x .0) (length (a .piece .now)) (length (a .medium .now))
+accepted c = read-accepted _ _ _ _ (sym (c .before .read-refusal .ensures) ∙ c .if1 .left)
+
+live-spot-requires : tie.Need-live-spot-requires
+live-spot-requires c κs = (accepted c .is-sound, accepted c .block-open)
+
+fetch-block-requires : tie.Need-fetch-block-requires
+fetch-block-requires c κs = piece-fits _ _ _ _ (accepted (c .before .before)) _ (c .before .live-spot .ensures)
+
+same-length : tie.Need-same-length
+same-length c = search needs
+
+returns-2 : tie.Need-returns-2
+unfolding readOutcome observe geometry
+returns-2 c =
+    let a = c .before .before .before .before .before .before .before .before .before .args in
+    let e = c .before .before .before .before .before .before .read-refusal .ensures in
+    let h = c .before .before .before .before .before .if1 .left in (
+      accepted-reply _ (a .self) (a .piece .now) _ _ e h _ refl,
+      accepted-piece _ (a .self) (a .piece .now) _ _ e h _ (rw (c .before .before .before .before .live-spot .ensures) at (c .before .before .fetch-block .ensures)),
+    )
+
+pub read-spec : {M : Type 1} → statement M
+read-spec =
+    tie.close
+    (tie.spec
+    read-refusal-requires
+    refuse-requires
+    returns
+    live-spot-requires
+    fetch-block-requires
+    same-length
+    returns-2)

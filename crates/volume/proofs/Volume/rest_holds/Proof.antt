@@ -1,0 +1,34 @@
+-- `rest_holds` meets its contract. Assumes nothing.
+use mathlib.Core.Path.{sym, _∙_}
+use borrow.Author.Needs.{needs}
+use borrow.Author.Tests.{eq-eqb, ne-eqb, not-true, not-false}
+use Rattle.marks.specs.Marks.{noMarks}
+use Rattle.volume.specs.Sound.{restHolds}
+use Rattle.volume.proofs.Volume.rest_holds.Statement.{statement}
+use Rattle.volume.proofs.Volume.rest_holds.Tie as tie
+
+returns : tie.Need-returns
+unfolding restHolds
+returns c = simp (ne-eqb _ _ (c .if1 .taken))
+
+is-within-requires : tie.Need-is-within-requires
+is-within-requires c κs = search needs
+
+returns-2 : tie.Need-returns-2
+unfolding restHolds noMarks
+returns-2 c =
+    let e = sym (c .before .is-within .ensures) ∙ not-true _ (c .if2 .taken) in
+    simp (eq-eqb _ _ (c .before .before .before .if1 .left), e)
+
+is-within-requires-2 : tie.Need-is-within-requires-2
+is-within-requires-2 c κs = search needs
+
+returns-3 : tie.Need-returns-3
+unfolding restHolds noMarks
+returns-3 c =
+    let e = sym (c .before .before .before .is-within .ensures) ∙ not-false _ (c .before .before .if2 .left) in
+    simp (eq-eqb _ _ (c .before .before .before .before .before .if1 .left), e) (c .is-within2 .ensures)
+
+pub rest-holds-spec : {M : Type 1} → statement M
+rest-holds-spec =
+    tie.close (tie.spec returns is-within-requires returns-2 is-within-requires-2 returns-3)

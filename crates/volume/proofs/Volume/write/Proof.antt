@@ -1,0 +1,61 @@
+-- `write` meets its contract. Assumes nothing.
+use mathlib.Core.Path.{refl, sym, _∙_}
+use lib.ListN.{length}
+use borrow.Author.Needs.{needs}
+use Rattle.medium.specs.Medium.{observe}
+use Rattle.volume.specs.Calls.{writeOutcome}
+use Rattle.volume.specs.States.{geometry}
+use Rattle.volume.proofs.Accepted.{ReadFacts, write-accepted}
+use Rattle.volume.proofs.BlockCode.{piece-fits}
+use Rattle.volume.proofs.JudgedCode.{refused-reply, refused-stores, accepted-reply, accepted-stores}
+use Rattle.volume.proofs.Volume.write.Statement.{statement}
+use Rattle.volume.proofs.Volume.write.Tie as tie
+
+write-refusal-requires : tie.Need-write-refusal-requires
+write-refusal-requires c κs = search needs
+
+refuse-requires : tie.Need-refuse-requires
+refuse-requires c κs = search needs
+
+returns : tie.Need-returns
+unfolding writeOutcome observe
+returns c =
+    let a = c .before .before .before .before .before .args in
+    let e = c .before .before .write-refusal .ensures in
+    let h = c .before .if1 .taken in
+    (refused-reply _ (a .self) (a .piece .now) _ _ e h (a .self) _ refl (c .refuse .ensures), refused-stores _ (a .self) (a .piece .now) _ _ e h _ _)
+
+accepted : (c : tie.Else1)
+    → let a = c .before .before .before .before .args in ReadFacts (a .self) (a .x .0) (length (a .piece .now)) (length (a .medium .now))
+accepted c = write-accepted _ _ _ _ (sym (c .before .write-refusal .ensures) ∙ c .if1 .left) .0
+
+live-spot-requires : tie.Need-live-spot-requires
+live-spot-requires c κs = (accepted c .is-sound, accepted c .block-open)
+
+store-block-requires : tie.Need-store-block-requires
+store-block-requires c κs = piece-fits _ _ _ _ (accepted (c .before .before)) _ (c .before .live-spot .ensures)
+
+same-length : tie.Need-same-length
+same-length c = search needs
+
+returns-2 : tie.Need-returns-2
+unfolding writeOutcome observe geometry
+returns-2 c =
+    let a = c .before .before .before .before .before .before .before .before .before .args in
+    let e = c .before .before .before .before .before .before .write-refusal .ensures in
+    let h = c .before .before .before .before .before .if1 .left in (
+      accepted-reply _ (a .self) (a .piece .now) _ _ e h _ refl,
+      accepted-stores _ (a .self) (a .piece .now) _ _ e h _ _ _ (rw (c .before .before .before .before .live-spot .ensures) at (c .before .before .store-block .ensures)),
+    )
+
+pub write-spec : {M : Type 1} → statement M
+write-spec =
+    tie.close
+    (tie.spec
+    write-refusal-requires
+    refuse-requires
+    returns
+    live-spot-requires
+    store-block-requires
+    same-length
+    returns-2)
