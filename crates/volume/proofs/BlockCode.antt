@@ -1,4 +1,4 @@
--- What the code of read, write and address needs. Assumes nothing.
+-- What the code of read and write needs. Assumes nothing.
 use Prim.Native.Nat.{ℕ, _<_}
 use mathlib.Core.Path.{_≡_, refl, _∙_}
 use mathlib.Core.Bool.{Bool, true, false, cond, not}
@@ -7,31 +7,16 @@ use native.Mathlib.Omega.{arith}
 use lib.Dec.{eqb, leb}
 use Rattle.base.specs.Refusals.{refusal}
 use Rattle.layout.specs.declared.Spot.{Spot}
-use Rattle.layout.specs.Tally.{openBlocks, liveSpotOf, liveReasonOf, waiting}
+use Rattle.layout.specs.Tally.{openBlocks, liveSpotOf, waiting}
 use Rattle.medium.specs.Medium.{Inside}
 use Rattle.volume.specs.declared.Volume.{Volume}
-use Rattle.volume.specs.declared.AddressAnswer.the-variants as address
-use Rattle.volume.specs.Calls.{judged, tooShort, readTable, writeTable, addressTable, addressReply}
+use Rattle.volume.specs.Calls.{judged, tooShort, readTable, writeTable}
 use Rattle.volume.specs.Sound.{sound}
 use Rattle.volume.specs.States.{geometry, disks, tallyOf}
 use Rattle.volume.proofs.Accepted.{ReadFacts}
-use Rattle.volume.proofs.JudgedCode.{refused-when, accepted-when}
+use Rattle.volume.proofs.Judged.{refused-when, accepted-when}
 use Rattle.volume.proofs.LookUpLaws.{live-inside}
 use Rattle.volume.proofs.SoundLaws.{sound-facts}
-
--- ---- address
-
-module _ (v : Volume) (x k : ℕ) where
-  pub address-refused : k ≡ refusal (addressTable v x) → k ≢ 0 → addressReply v x ≡ record { state = v; answer = address.Refused k }
-  unfolding addressReply
-  address-refused e h = refused-when (addressTable v x) (λ n. record { state = v; answer = address.Refused n }) _ k e h
-
-  pub address-found : k ≡ refusal (addressTable v x) → k ≡ 0
-      → addressReply v x ≡ record { state = v; answer = address.At (liveSpotOf (tallyOf v) x) (liveReasonOf (tallyOf v) x) }
-  unfolding addressReply
-  address-found e h = accepted-when (addressTable v x) (λ n. record { state = v; answer = address.Refused n }) _ k e h
-
--- ---- read and write
 
 -- what storing and fetching a piece at the live spot require
 pub piece-fits : (v : Volume) (x n len : ℕ) → ReadFacts v x n len → (p : Spot) → p ≡ liveSpotOf (tallyOf v) x

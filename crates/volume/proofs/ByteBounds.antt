@@ -1,10 +1,10 @@
--- The bytes that a volume within the limits needs do not wrap. Assumes nothing.
+-- The bytes that a volume needs: within the limits their number does not wrap, and the record is among them. Assumes nothing.
 use Prim.Native.Nat.{ℕ, _*_, _≤_, _<_, _^_}
 use native.Mathlib.Nat.{mul-le-mul}
 use native.Mathlib.Omega.{arith}
 use Rattle.layout.specs.Limits.{mostDisks, mostRows}
 use Rattle.medium.specs.declared.Geometry.{Geometry}
-use Rattle.medium.specs.Medium.{bytesNeeded}
+use Rattle.medium.specs.Medium.{recordBytes, bytesNeeded}
 use Rattle.volume.specs.Sound.{mostSize}
 
 pub bytes-bound : (g : Geometry) (n : ℕ) → g .size ≤ mostSize → g .rows ≤ mostRows → n ≤ mostDisks → bytesNeeded g n < 2 ^ 64
@@ -12,3 +12,8 @@ unfolding bytesNeeded
 bytes-bound g n z s d =
     let h : n * g .rows * g .size ≤ mostDisks * mostRows * mostSize = mul-le-mul (mul-le-mul d s) z in
     omega (arith, h)
+
+-- a medium with room for the disks has room for the record
+pub record-room : (g : Geometry) (n byteCount : ℕ) → bytesNeeded g n ≤ byteCount → recordBytes ≤ byteCount
+unfolding bytesNeeded
+record-room g n byteCount h = omega (arith, h)

@@ -28,11 +28,6 @@ bytes-within z s n a b d =
     let f = size-facts z a in
     (omega (arith, f .least), bytes-bound (record { size = z; rows = s }) n (f .most) (from-one s mostRows b .1) (from-one n mostDisks d .1))
 
--- a medium with room for the disks has room for the record
-pub record-room : (g : Geometry) (n byteCount : ℕ) → bytesNeeded g n ≤ byteCount → recordBytes ≤ byteCount
-unfolding bytesNeeded
-record-room g n byteCount h = omega (arith, h)
-
 -- a sound state has no more disks than may be
 pub disks-most : (v : Volume) → sound v ≡ true → disks v ≤ mostDisks
 unfolding disks

@@ -3,12 +3,12 @@ pub mod NumberLists
 pub mod RecordLaws
 pub mod Accepted
 pub mod StatesSound
+pub mod Judged
 pub mod RefusalLaws
 pub mod LookUpLaws
+pub mod ByteBounds
 pub mod StoresFit
 pub mod Theorems
-pub mod ByteBounds
-pub mod JudgedCode
 pub mod RecordCode
 pub mod LiveCode
 pub mod CallsCode

@@ -11,8 +11,6 @@ use lib.Dec.{eqb, leb}
 use borrow.Author.Tests.{eqb-false, eq-eqb, lt-leb, not-false}
 use Rattle.base.specs.Refusals.{refusal}
 use Rattle.base.proofs.Booleans.{clash}
-use Rattle.layout.specs.declared.Block.{Block}
-use Rattle.layout.specs.declared.Reason.{Reason}
 use Rattle.layout.specs.declared.Spot.{Spot}
 use Rattle.layout.specs.History.{Within}
 use Rattle.layout.specs.Laws.{LookUps}
@@ -23,12 +21,12 @@ use Rattle.medium.specs.Medium.{bytesNeeded, Inside}
 use Rattle.medium.proofs.Theorems.{medium-laws}
 use Rattle.volume.specs.declared.Volume.{Volume}
 use Rattle.volume.specs.declared.AddressAnswer.the-variants as address
-use Rattle.volume.specs.declared.HolderAnswer.the-variants as holder
 use Rattle.volume.specs.Answers.{addressNumber, spotTold, holderNumber, blockTold}
 use Rattle.volume.specs.Calls.{addressTable, addressReply, isNone, blockFound, holderTable, holderReply}
 use Rattle.volume.specs.Sound.{sound}
 use Rattle.volume.specs.States.{geometry, historyOf, disks, modeOf, tallyOf}
 use Rattle.volume.proofs.Accepted.{address-accepted, holder-accepted}
+use Rattle.volume.proofs.Judged.{refused-when, accepted-when}
 use Rattle.volume.proofs.RefusalLaws.{address-refuses, holder-refuses}
 use Rattle.volume.proofs.SoundLaws.{sound-facts}
 
@@ -70,42 +68,49 @@ is-open : (v : Volume) (x : ℕ) → sound v ≡ true → x < openBlocks (tallyO
 unfolding addressTable refusal
 is-open v x e h = rw (e, lt-leb (openBlocks (tallyOf v)) x h)
 
--- the answers of accepted look-ups
-address-is : (v : Volume) (x : ℕ) → refusal (addressTable v x) ≡ 0
-    → addressReply v x .answer ≡ address.At (liveSpotOf (tallyOf v) x) (liveReasonOf (tallyOf v) x)
-unfolding addressReply
-address-is v x e = rw (eq-eqb (refusal (addressTable v x)) 0 e)
+-- the replies of address, where k is the number of its table
+module _ (v : Volume) (x k : ℕ) where
+  pub address-refused : k ≡ refusal (addressTable v x) → k ≢ 0 → addressReply v x ≡ record { state = v; answer = address.Refused k }
+  unfolding addressReply
+  address-refused e h = refused-when (addressTable v x) (λ n. record { state = v; answer = address.Refused n }) _ k e h
 
-holder-is : (v : Volume) (p : Spot) → refusal (holderTable v p) ≡ 0
-    → holderReply v p .answer ≡ holder.Has (record { 0 = blockFound (liveBlockOf (tallyOf v) p) })
-unfolding holderReply
-holder-is v p e = rw (eq-eqb (refusal (holderTable v p)) 0 e)
+  pub address-found : k ≡ refusal (addressTable v x) → k ≡ 0
+      → addressReply v x ≡ record { state = v; answer = address.At (liveSpotOf (tallyOf v) x) (liveReasonOf (tallyOf v) x) }
+  unfolding addressReply
+  address-found e h = accepted-when (addressTable v x) (λ n. record { state = v; answer = address.Refused n }) _ k e h
 
-pub holder-of-address : (v : Volume) (x : Block) (p : Spot) (reason : Reason) → addressReply v (x .0) .answer ≡ address.At p reason
-    → holderReply v p .answer ≡ holder.Has x
-unfolding addressNumber spotTold tallyOf
-holder-of-address v x p reason e =
-    let r : refusal (addressTable v (x .0)) ≡ 0 = sym (address-refuses v (x .0)) ∙ ap addressNumber e in
-    let f = address-accepted v (x .0) r in
-    let at : liveSpotOf (tallyOf v) (x .0) ≡ p = ap spotTold (sym (address-is v (x .0) r) ∙ e) in
+-- the spot and the block that are told
+spot-told : (v : Volume) (x : ℕ) → refusal (addressTable v x) ≡ 0 → spotTold (addressReply v x .answer) ≡ liveSpotOf (tallyOf v) x
+unfolding spotTold
+spot-told v x e = rw (address-found v x (refusal (addressTable v x)) refl e)
+
+block-told : (v : Volume) (p : Spot) → refusal (holderTable v p) ≡ 0 → blockTold (holderReply v p .answer) ≡ blockFound (liveBlockOf (tallyOf v) p)
+unfolding holderReply blockTold
+block-told v p e = rw (eq-eqb (refusal (holderTable v p)) 0 e)
+
+pub holder-of-address : (v : Volume) (x : ℕ) → addressNumber (addressReply v x .answer) ≡ 0
+    → (let p = spotTold (addressReply v x .answer) in (holderNumber (holderReply v p .answer) ≡ 0) × (blockTold (holderReply v p .answer) ≡ x))
+unfolding tallyOf
+holder-of-address v x e =
+    let r : refusal (addressTable v x) ≡ 0 = sym (address-refuses v x .number-told) ∙ e in
+    let f = address-accepted v x r in
+    let p = liveSpotOf (tallyOf v) x in
     let look = look-ups-of v (f .is-sound) in
-    let b : liveBlockOf (tallyOf v) p ≡ some (x .0) = rw at at (look .block-of-live (x .0) (f .block-open)) in
-    let w : Within (v .rows) (historyOf v) p = rw at at (look .live-within (x .0) (f .block-open)) in
-    holder-is v p (found-some v p (x .0) (f .is-sound) w b) ∙ ap (λ (found : Option ℕ). holder.Has (record { 0 = blockFound found })) b
+    let b : liveBlockOf (tallyOf v) p ≡ some x = look .block-of-live x (f .block-open) in
+    let n : refusal (holderTable v p) ≡ 0 = found-some v p x (f .is-sound) (look .live-within x (f .block-open)) b in
+    rw (spot-told v x r) (holder-refuses v p .number-told ∙ n, block-told v p n ∙ ap blockFound b)
 
-pub address-of-holder : (v : Volume) (p : Spot) (x : Block) → holderReply v p .answer ≡ holder.Has x
-    → (reason : Reason) × (addressReply v (x .0) .answer ≡ address.At p reason)
-unfolding holderNumber blockTold tallyOf
-address-of-holder v p x e =
-    let r : refusal (holderTable v p) ≡ 0 = sym (holder-refuses v p) ∙ ap holderNumber e in
+pub address-of-holder : (v : Volume) (p : Spot) → holderNumber (holderReply v p .answer) ≡ 0
+    → (let x = blockTold (holderReply v p .answer) in (addressNumber (addressReply v x .answer) ≡ 0) × (spotTold (addressReply v x .answer) ≡ p))
+unfolding tallyOf
+address-of-holder v p e =
+    let r : refusal (holderTable v p) ≡ 0 = sym (holder-refuses v p .number-told) ∙ e in
     let f = holder-accepted v p r in
-    let y = f .block-there .0 in
-    let same : y ≡ x .0 = sym (ap blockFound (f .block-there .1)) ∙ ap blockTold (sym (holder-is v p r) ∙ e) in
-    let b : liveBlockOf (tallyOf v) p ≡ some (x .0) = f .block-there .1 ∙ ap some same in
-    let l = look-ups-of v (f .is-sound) .live-of-block p (x .0) (f .spot-within) b in (
-      liveReasonOf (tallyOf v) (x .0),
-      address-is v (x .0) (is-open v (x .0) (f .is-sound) (l .0)) ∙ ap (λ (q : Spot). address.At q (liveReasonOf (tallyOf v) (x .0))) (l .1),
-    )
+    let x = f .block-there .0 in
+    let l = look-ups-of v (f .is-sound) .live-of-block p x (f .spot-within) (f .block-there .1) in
+    let n : refusal (addressTable v x) ≡ 0 = is-open v x (f .is-sound) (l .0) in
+    rw (block-told v p r ∙ ap blockFound (f .block-there .1))
+    (address-refuses v x .number-told ∙ n, spot-told v x n ∙ l .1)
 
 -- 15 is told only of a spot where no block lives
 fifteen : (a b c d : Bool) → refusal ((1, a) ∷ (14, b) ∷ (14, c) ∷ (15, d) ∷ []) ≡ 15 → (a ≡ false) × (d ≡ true)
@@ -123,5 +128,5 @@ none-there (some x) e = clash e refl
 pub at-rest-no-15 : (v : Volume) (p : Spot) → v .growing ≡ 0 → holderNumber (holderReply v p .answer) ≢ 15
 unfolding holderTable tallyOf modeOf
 at-rest-no-15 v p g e =
-    let q = fifteen (not (sound v)) (leb (disks v) (p .disk)) (leb (v .rows) (p .row .0)) (isNone (liveBlockOf (tallyOf v) p)) (sym (holder-refuses v p) ∙ e) in
+    let q = fifteen (not (sound v)) (leb (disks v) (p .disk)) (leb (v .rows) (p .row .0)) (isNone (liveBlockOf (tallyOf v) p)) (sym (holder-refuses v p .number-told) ∙ e) in
     look-ups-of v (not-false (sound v) (q .0)) .each-spot-taken (rw g) p (none-there (liveBlockOf (tallyOf v) p) (q .1))

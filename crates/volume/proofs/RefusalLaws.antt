@@ -4,28 +4,22 @@ use Prim.Native.Nat.{ℕ}
 use mathlib.Core.Path.{_≡_, refl, sym, _∙_}
 use mathlib.Core.Bool.{Bool}
 use mathlib.Core.List.{List, []}
-use lib.Dec.{eqb}
+use mathlib.Core.Logic.{_≢_}
 use lib.ListN.{length}
-use borrow.Author.Tests.{eqb-true, eqb-false}
 use Rattle.base.specs.Refusals.{refusal}
-use Rattle.base.proofs.Booleans.{cond-cases}
 use Rattle.layout.specs.declared.Spot.{Spot}
+use Rattle.layout.specs.Reasons.{growthTold}
 use Rattle.medium.specs.Medium.{Observations}
 use Rattle.volume.specs.declared.Volume.{Volume}
 use Rattle.volume.specs.declared.AddressAnswer.the-variants as address
 use Rattle.volume.specs.declared.AddressReply.{AddressReply}
 use Rattle.volume.specs.declared.HolderAnswer.the-variants as holder
 use Rattle.volume.specs.declared.HolderReply.{HolderReply}
-use Rattle.volume.specs.Answers.{number, callsTold, addressNumber, holderNumber}
+use Rattle.volume.specs.Answers.{number, callsTold, addressNumber, spotTold, reasonTold, holderNumber, blockTold}
 use Rattle.volume.specs.Calls.{Outcome, refused, reporting, judged, formatTable, formatOutcome, restartTable, restartOutcome, growTable, growOutcome, writeTable, writeOutcome, readTable, readOutcome, addressTable, addressReply, holderTable, holderReply}
-use Rattle.volume.specs.Laws.{Refuses}
+use Rattle.volume.specs.Laws.{Refuses, AddressRefuses, HolderRefuses}
 use Rattle.volume.specs.States.{zeros}
-
--- what holds of the refusal where there is one, and of what is accepted where there is none, holds of what is judged
-pub judged-cases : {A : Type 0} (P : A → Type 0) (table : List (ℕ × Bool)) (refusing : ℕ → A) (accepted : A)
-    → (refusal table ≡ 0 → P accepted) → ((refusal table ≡ 0 → ⊥) → P (refusing (refusal table))) → P (judged table refusing accepted)
-judged-cases P table refusing accepted f g =
-    cond-cases P (eqb (refusal table) 0) (λ e. f (eqb-true (refusal table) 0 e)) (λ e. g (eqb-false (refusal table) 0 e))
+use Rattle.volume.proofs.Judged.{judged-cases}
 
 judged-refuses : (table : List (ℕ × Bool)) (v : Volume) (piece : List ℕ) (accepted : Outcome) → number (accepted .reply .answer) ≡ 0
     → Refuses table v piece (judged table (λ k. refused v k piece) accepted)
@@ -71,14 +65,37 @@ pub read-refuses : (v : Volume) (x : ℕ) (piece : List ℕ) (o : Observations)
 unfolding readOutcome number
 read-refuses v x piece o = judged-refuses (readTable v x (length piece) (o .byteCount)) v piece _ refl
 
-pub address-refuses : (v : Volume) (x : ℕ) → addressNumber (addressReply v x .answer) ≡ refusal (addressTable v x)
-unfolding addressReply addressNumber
-address-refuses v x =
-    judged-cases (λ (r : AddressReply). addressNumber (r .answer) ≡ refusal (addressTable v x)) (addressTable v x)
-    (λ k. record { state = v; answer = address.Refused k }) _ (λ e. sym e) (λ f. refl)
+module _ (v : Volume) (x : ℕ) where
+  abbrev no-address : ℕ → AddressReply
+  no-address k = record { state = v; answer = address.Refused k }
 
-pub holder-refuses : (v : Volume) (p : Spot) → holderNumber (holderReply v p .answer) ≡ refusal (holderTable v p)
-unfolding holderReply holderNumber
-holder-refuses v p =
-    judged-cases (λ (r : HolderReply). holderNumber (r .answer) ≡ refusal (holderTable v p)) (holderTable v p)
-    (λ k. record { state = v; answer = holder.Refused k }) _ (λ e. sym e) (λ f. refl)
+  pub address-refuses : AddressRefuses v x
+  unfolding addressReply addressNumber spotTold reasonTold growthTold
+  address-refuses =
+      record {
+        number-told = judged-cases (λ (r : AddressReply). addressNumber (r .answer) ≡ refusal (addressTable v x)) (addressTable v x) no-address _ (λ e. sym e) (λ f. refl);
+        state-kept = judged-cases (λ (r : AddressReply). r .state ≡ v) (addressTable v x) no-address _ (λ e. refl) (λ f. refl);
+        no-spot =
+            judged-cases (λ (r : AddressReply). refusal (addressTable v x) ≢ 0 → spotTold (r .answer) ≡ record { disk = 0; row = record { 0 = 0 } })
+            (addressTable v x) no-address _
+            (λ e f. absurd (f e)) (λ f g. refl);
+        no-growth =
+            judged-cases (λ (r : AddressReply). refusal (addressTable v x) ≢ 0 → growthTold (reasonTold (r .answer)) ≡ 0) (addressTable v x) no-address _ (λ e f. absurd (f e)) (λ f g. refl);
+      }
+
+module _ (v : Volume) (p : Spot) where
+  abbrev no-holder : ℕ → HolderReply
+  no-holder k = record { state = v; answer = holder.Refused k }
+
+  pub holder-refuses : HolderRefuses v p
+  unfolding holderReply holderNumber blockTold
+  holder-refuses =
+      record {
+        number-told =
+            judged-cases (λ (r : HolderReply). holderNumber (r .answer) ≡ refusal (holderTable v p)) (holderTable v p) no-holder _
+            (λ e. sym e) (λ f. refl);
+        state-kept = judged-cases (λ (r : HolderReply). r .state ≡ v) (holderTable v p) no-holder _ (λ e. refl) (λ f. refl);
+        no-block =
+            judged-cases (λ (r : HolderReply). refusal (holderTable v p) ≢ 0 → blockTold (r .answer) ≡ 0) (holderTable v p) no-holder _
+            (λ e f. absurd (f e)) (λ f g. refl);
+      }

@@ -3,7 +3,6 @@ use Prim.Native.Nat.{ℕ, _≤_}
 use mathlib.Core.Path.{_≡_}
 use mathlib.Core.Bool.{Bool}
 use mathlib.Core.List.{List, []}
-use native.Mathlib.Omega.{arith}
 use lib.ListN.{length}
 use Rattle.base.specs.Refusals.{refusal}
 use Rattle.medium.specs.declared.Geometry.{Geometry}
@@ -13,13 +12,14 @@ use Rattle.volume.specs.Calls.{Outcome, refused, reporting, judged, form
 use Rattle.volume.specs.Records.{recordOf}
 use Rattle.volume.specs.States.{geometry, newState, zeros, grown}
 use Rattle.volume.proofs.Accepted.{format-accepted, grow-accepted, write-accepted}
+use Rattle.volume.proofs.ByteBounds.{record-room}
+use Rattle.volume.proofs.Judged.{judged-cases}
 use Rattle.volume.proofs.LookUpLaws.{live-inside}
 use Rattle.volume.proofs.RecordLaws.{record-length}
-use Rattle.volume.proofs.RefusalLaws.{judged-cases}
 
 record-fits : (g : Geometry) (n len : ℕ) (v : Volume) → bytesNeeded g n ≤ len → StoreFits g len (recordStore (recordOf v))
-unfolding StoreFits bytesNeeded
-record-fits g n len v h = (record-length v, omega arith)
+unfolding StoreFits
+record-fits g n len v h = (record-length v, record-room g n len h)
 
 -- a refused call stores nothing
 judged-fits : (g : Geometry) (len : ℕ) (table : List (ℕ × Bool)) (v : Volume) (piece : List ℕ) (accepted : Outcome)

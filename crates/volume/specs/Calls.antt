@@ -1,7 +1,7 @@
 -- Document 01, "Calls" and "Looking up spots": for each call the table of its refusals, in the order written, and what it hands back,
 -- stores and shows. Calls see a medium through its observations. Assumes nothing.
 use Prim.Native.Nat.{ℕ}
-use mathlib.Core.Bool.{Bool, true, false, cond, not, _&&_}
+use mathlib.Core.Bool.{Bool, true, false, cond, not}
 use mathlib.Core.List.{List, [], _∷_}
 use mathlib.Core.Option.{Option, none, some}
 use lib.Dec.{eqb, leb, ltb}

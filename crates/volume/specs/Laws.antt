@@ -6,22 +6,19 @@ use mathlib.Core.List.{List, []}
 use mathlib.Core.Logic.{_≢_}
 use lib.ListN.{length, getD}
 use Rattle.base.specs.Refusals.{refusal}
-use Rattle.layout.specs.declared.Block.{Block}
-use Rattle.layout.specs.declared.Reason.{Reason}
 use Rattle.layout.specs.declared.Spot.{Spot}
 use Rattle.layout.specs.History.{oldCount, addedCount}
 use Rattle.layout.specs.Laws.{LookUps}
 use Rattle.layout.specs.Limits.{Limits}
+use Rattle.layout.specs.Reasons.{growthTold}
 use Rattle.layout.specs.Windows.{windows, movingIn}
 use Rattle.marks.specs.Marks.{markCount, noMarks, within}
 use Rattle.medium.specs.Medium.{recordBytes, Observations, noStore, StoreFits}
 use Rattle.volume.specs.declared.Volume.{Volume}
-use Rattle.volume.specs.declared.AddressAnswer.the-variants as address
-use Rattle.volume.specs.declared.HolderAnswer.the-variants as holder
-use Rattle.volume.specs.Answers.{number, callsTold, addressNumber, holderNumber}
+use Rattle.volume.specs.Answers.{number, callsTold, addressNumber, spotTold, reasonTold, holderNumber, blockTold}
 use Rattle.volume.specs.Calls.{Outcome, formatTable, formatOutcome, restartTable, restartOutcome, growTable, growOutcome, writeTable, writeOutcome, readTable, readOutcome, addressTable, addressReply, holderTable, holderReply}
 use Rattle.volume.specs.Records.{recordOf, stateRead, isSoundRecord}
-use Rattle.volume.specs.Sound.{sizeStep, mostSize, sizeHolds, rowsHold, disksHold, movingOf, sound}
+use Rattle.volume.specs.Sound.{sizeStep, mostSize, movingOf, sound}
 use Rattle.volume.specs.States.{geometry, historyOf, tallyOf, newState, zeros, grown, recordedOnly}
 
 -- ---- what a sound state is
@@ -61,6 +58,18 @@ pub record Refuses (table : List (ℕ × Bool)) (v : Volume) (piece : List ℕ) 
   pub piece-kept : refusal table ≢ 0 → out .piece ≡ piece
   pub no-figures : refusal table ≢ 0 → callsTold (out .reply .answer) ≡ 0
 
+-- of a look-up, which stores nothing: the number told is the table's, the state is handed back, a refusal has no figures
+pub record AddressRefuses (v : Volume) (x : ℕ) : Type 0 where
+  pub number-told : addressNumber (addressReply v x .answer) ≡ refusal (addressTable v x)
+  pub state-kept : addressReply v x .state ≡ v
+  pub no-spot : refusal (addressTable v x) ≢ 0 → spotTold (addressReply v x .answer) ≡ record { disk = 0; row = record { 0 = 0 } }
+  pub no-growth : refusal (addressTable v x) ≢ 0 → growthTold (reasonTold (addressReply v x .answer)) ≡ 0
+
+pub record HolderRefuses (v : Volume) (p : Spot) : Type 0 where
+  pub number-told : holderNumber (holderReply v p .answer) ≡ refusal (holderTable v p)
+  pub state-kept : holderReply v p .state ≡ v
+  pub no-block : refusal (holderTable v p) ≢ 0 → blockTold (holderReply v p .answer) ≡ 0
+
 -- ---- all laws
 
 pub record VolumeLaws : Type 0 where
@@ -93,12 +102,12 @@ pub record VolumeLaws : Type 0 where
       → Refuses (writeTable v x (length piece) (o .byteCount)) v piece (writeOutcome v x piece o)
   pub read-refuses : (v : Volume) (x : ℕ) (piece : List ℕ) (o : Observations)
       → Refuses (readTable v x (length piece) (o .byteCount)) v piece (readOutcome v x piece o)
-  pub address-refuses : (v : Volume) (x : ℕ) → addressNumber (addressReply v x .answer) ≡ refusal (addressTable v x)
-  pub holder-refuses : (v : Volume) (p : Spot) → holderNumber (holderReply v p .answer) ≡ refusal (holderTable v p)
+  pub address-refuses : (v : Volume) (x : ℕ) → AddressRefuses v x
+  pub holder-refuses : (v : Volume) (p : Spot) → HolderRefuses v p
   -- address and holder are inverse to each other in every stage of a growth, and after a finished one 15 never occurs
   pub look-ups : (v : Volume) → sound v ≡ true → LookUps (tallyOf v)
-  pub holder-of-address : (v : Volume) (x : Block) (p : Spot) (reason : Reason) → addressReply v (x .0) .answer ≡ address.At p reason
-      → holderReply v p .answer ≡ holder.Has x
-  pub address-of-holder : (v : Volume) (p : Spot) (x : Block) → holderReply v p .answer ≡ holder.Has x
-      → (reason : Reason) × (addressReply v (x .0) .answer ≡ address.At p reason)
+  pub holder-of-address : (v : Volume) (x : ℕ) → addressNumber (addressReply v x .answer) ≡ 0
+      → (let p = spotTold (addressReply v x .answer) in (holderNumber (holderReply v p .answer) ≡ 0) × (blockTold (holderReply v p .answer) ≡ x))
+  pub address-of-holder : (v : Volume) (p : Spot) → holderNumber (holderReply v p .answer) ≡ 0
+      → (let x = blockTold (holderReply v p .answer) in (addressNumber (addressReply v x .answer) ≡ 0) × (spotTold (addressReply v x .answer) ≡ p))
   pub at-rest-no-15 : (v : Volume) (p : Spot) → v .growing ≡ 0 → holderNumber (holderReply v p .answer) ≢ 15

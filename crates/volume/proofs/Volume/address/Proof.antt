@@ -2,7 +2,7 @@
 use mathlib.Core.Path.{sym, _∙_}
 use borrow.Author.Needs.{needs}
 use Rattle.volume.proofs.Accepted.{AddressFacts, address-accepted}
-use Rattle.volume.proofs.BlockCode.{address-refused, address-found}
+use Rattle.volume.proofs.LookUpLaws.{address-refused, address-found}
 use Rattle.volume.proofs.Volume.address.Statement.{statement}
 use Rattle.volume.proofs.Volume.address.Tie as tie
 

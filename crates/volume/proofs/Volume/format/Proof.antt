@@ -9,8 +9,9 @@ use Rattle.volume.specs.declared.Answer.the-variants.{Done}
 use Rattle.volume.specs.Calls.{formatTable, formatOutcome}
 use Rattle.volume.specs.States.{zeros}
 use Rattle.volume.proofs.Accepted.{format-accepted}
-use Rattle.volume.proofs.CallsCode.{record-room, record-stored}
-use Rattle.volume.proofs.JudgedCode.{refused-reply, refused-stores, accepted-reply, accepted-stores}
+use Rattle.volume.proofs.ByteBounds.{record-room}
+use Rattle.volume.proofs.CallsCode.{record-stored}
+use Rattle.volume.proofs.Judged.{refused-reply, refused-stores, accepted-reply, accepted-stores}
 use Rattle.volume.proofs.Volume.format.Statement.{statement}
 use Rattle.volume.proofs.Volume.format.Tie as tie
 

@@ -7,8 +7,9 @@ use Rattle.base.specs.Refusals.{refusal}
 use Rattle.medium.specs.Medium.{observe}
 use Rattle.volume.specs.Calls.{growTable, reporting, growOutcome}
 use Rattle.volume.proofs.Accepted.{grow-accepted}
-use Rattle.volume.proofs.CallsCode.{record-room, record-stored}
-use Rattle.volume.proofs.JudgedCode.{refused-reply, refused-stores, accepted-reply, accepted-stores}
+use Rattle.volume.proofs.ByteBounds.{record-room}
+use Rattle.volume.proofs.CallsCode.{record-stored}
+use Rattle.volume.proofs.Judged.{refused-reply, refused-stores, accepted-reply, accepted-stores}
 use Rattle.volume.proofs.StatesSound.{grown-sound}
 use Rattle.volume.proofs.Volume.grow.Statement.{statement}
 use Rattle.volume.proofs.Volume.grow.Tie as tie

@@ -7,7 +7,7 @@ use Rattle.volume.specs.Calls.{readOutcome}
 use Rattle.volume.specs.States.{geometry}
 use Rattle.volume.proofs.Accepted.{ReadFacts, read-accepted}
 use Rattle.volume.proofs.BlockCode.{piece-fits}
-use Rattle.volume.proofs.JudgedCode.{refused-reply, refused-piece, accepted-reply, accepted-piece}
+use Rattle.volume.proofs.Judged.{refused-reply, refused-piece, accepted-reply, accepted-piece}
 use Rattle.volume.proofs.Volume.read.Statement.{statement}
 use Rattle.volume.proofs.Volume.read.Tie as tie
 

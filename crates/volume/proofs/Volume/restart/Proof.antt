@@ -14,7 +14,7 @@ use Rattle.volume.specs.Records.{stateRead, isSoundRecord}
 use Rattle.volume.specs.Sound.{sound}
 use Rattle.volume.specs.States.{geometry, disks, zeros}
 use Rattle.volume.proofs.CallsCode.{disks-most, unread, read-back, below-record, not-sound-record, short-or-taken}
-use Rattle.volume.proofs.JudgedCode.{refused-reply, accepted-reply}
+use Rattle.volume.proofs.Judged.{refused-reply, accepted-reply}
 use Rattle.volume.proofs.Volume.restart.Statement.{statement}
 use Rattle.volume.proofs.Volume.restart.Tie as tie
 

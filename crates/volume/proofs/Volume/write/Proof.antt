@@ -7,7 +7,7 @@ use Rattle.volume.specs.Calls.{writeOutcome}
 use Rattle.volume.specs.States.{geometry}
 use Rattle.volume.proofs.Accepted.{ReadFacts, write-accepted}
 use Rattle.volume.proofs.BlockCode.{piece-fits}
-use Rattle.volume.proofs.JudgedCode.{refused-reply, refused-stores, accepted-reply, accepted-stores}
+use Rattle.volume.proofs.Judged.{refused-reply, refused-stores, accepted-reply, accepted-stores}
 use Rattle.volume.proofs.Volume.write.Statement.{statement}
 use Rattle.volume.proofs.Volume.write.Tie as tie
 

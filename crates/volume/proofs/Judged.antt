@@ -4,14 +4,22 @@ use mathlib.Core.Path.{_≡_, sym, _∙_}
 use mathlib.Core.Bool.{Bool}
 use mathlib.Core.List.{List}
 use mathlib.Core.Logic.{_≢_}
-use borrow.Author.Tests.{eq-eqb, ne-eqb}
+use lib.Dec.{eqb}
+use borrow.Author.Tests.{eq-eqb, ne-eqb, eqb-true, eqb-false}
 use Rattle.base.specs.Refusals.{refusal}
+use Rattle.base.proofs.Booleans.{cond-cases}
 use Rattle.medium.specs.declared.Geometry.{Geometry}
 use Rattle.medium.specs.Medium.{apply}
 use Rattle.volume.specs.declared.Volume.{Volume}
 use Rattle.volume.specs.declared.Answer.the-variants.{Refused}
 use Rattle.volume.specs.declared.Reply.{Reply}
 use Rattle.volume.specs.Calls.{Outcome, refused, judged}
+
+-- what holds of the refusal where there is one, and of what is accepted where there is none, holds of what is judged
+pub judged-cases : {A : Type 0} (P : A → Type 0) (table : List (ℕ × Bool)) (refusing : ℕ → A) (accepted : A)
+    → (refusal table ≡ 0 → P accepted) → ((refusal table ≡ 0 → ⊥) → P (refusing (refusal table))) → P (judged table refusing accepted)
+judged-cases P table refusing accepted f g =
+    cond-cases P (eqb (refusal table) 0) (λ e. f (eqb-true (refusal table) 0 e)) (λ e. g (eqb-false (refusal table) 0 e))
 
 pub refused-when : {A : Type 0} (table : List (ℕ × Bool)) (refusing : ℕ → A) (accepted : A) (k : ℕ) → k ≡ refusal table → k ≢ 0
     → judged table refusing accepted ≡ refusing k
