@@ -1,13 +1,14 @@
 -- What the code that looks for a block of a growth under way meets. Assumes nothing.
 use Prim.Native.Nat.{ℕ, zero, suc, _+_, _-_, _*_, _/_, _≤_, _<_}
-use mathlib.Core.Path.{_≡_, sym, _∙_, ap}
-use mathlib.Core.Bool.{Bool, true, false, and-false, and-self-left}
+use mathlib.Core.Path.{_≡_, refl, sym, _∙_, ap}
+use mathlib.Core.Bool.{Bool, true, false, cond, and-false, and-self-left}
 use mathlib.Core.List.{List}
 use native.Mathlib.Nat.{mul-le-mul}
 use native.Mathlib.Omega.{arith}
 use lib.Dec.{eqb}
 use lib.ListN.{getD}
-use borrow.Author.Tests.{lt-ltb, le-ltb, eq-eqb, ne-eqb}
+use borrow.Author.Tests.{lt-ltb, le-ltb, ltb-true, eq-eqb, ne-eqb}
+use Rattle.base.proofs.Booleans.{and-left}
 use Rattle.layout.specs.declared.Block.{Block}
 use Rattle.layout.specs.declared.GrowthDisks.{GrowthDisks}
 use Rattle.layout.specs.declared.Spot.{Spot}
@@ -24,7 +25,9 @@ use Rattle.layout.proofs.NewestCode.{old-is, added-is, newest-grows}
 use Rattle.layout.proofs.Theorems.{disks-sum, spots-and-blocks}
 use Rattle.layout.proofs.WindowsCode.{marks-most}
 use Rattle.marks.specs.declared.LiveBlock.the-variants.{Lives, Nothing}
-use Rattle.marks.specs.Marks.{asLiveBlock, markCount}
+use Rattle.marks.specs.declared.OldSpot.{OldSpot}
+use Rattle.marks.specs.declared.OldSpot.the-variants.{Moving, NotMoving}
+use Rattle.marks.specs.Marks.{markCount, movingFrom, asLiveBlock}
 
 -- ---- before the newest growth
 
@@ -82,47 +85,84 @@ module _ {s t : ℕ} {l : List ℕ} {g : GrowthDisks} (r : ReadGrowth s t l g) w
       (limits-before s t l (r .limits) (r .grown), block-before s t l (r .limits) (r .grown) _ (rw old-read at h))
 
   -- a block that is no old one
-  pub not-old : {x : ℕ} → g .old * s ≤ x → moving s (history t l) x ≡ false
-  unfolding moving
+  pub not-old : {x : ℕ} → g .old * s ≤ x → NotMoving ≡ movingFrom s (history t l) x
+  unfolding moving movingFrom
   not-old h = rw (le-ltb _ _ (rw old-read at h))
 
 -- ---- the old spot of block x, which the code has found
 
-pub record FoundSpot (s t : ℕ) (l : List ℕ) (g : GrowthDisks) (x : ℕ) (p : Spot) : Type 0 where
-  pub read : ReadGrowth s t l g
-  pub old : x < g .old * s
-  pub spot : p ≡ spotOf s (history (t - 1) l) x
-
-module _ {s t : ℕ} {l : List ℕ} {g : GrowthDisks} {x : ℕ} {p : Spot} (f : FoundSpot s t l g x p) where
-  old-block : x < oldCount (history t l) * s
-  old-block = rw (old-read (f .read)) at (f .old)
-
-  spot-is : p ≡ oldSpot s (history t l) x
-  unfolding oldSpot
-  spot-is = f .spot ∙ ap (λ (h : List ℕ). spotOf s h x) (history-before t l (f .read .grown))
-
+module _ {s t : ℕ} {l : List ℕ} {g : GrowthDisks} (r : ReadGrowth s t l g) {x : ℕ} {p : Spot} (h : x < g .old * s)
+    (e : p ≡ spotOf s (history (t - 1) l) x) where
   pub on-old-disk : p .disk < g .old
   on-old-disk =
-      let a = spot-asks (f .read) (f .old) in
+      let a = spot-asks r h in
       let w = spots-and-blocks s (history (t - 1) l) (a .0 .rise) .spot-within x (a .1) in
-      rw (f .spot, old-read (f .read), ← disks-before s t l (f .read .limits) (f .read .grown)) (w .disk)
+      rw (e, old-read r, ← disks-before s t l (r .limits) (r .grown)) (w .disk)
 
-  pub moving-found : moving s (history t l) x ≡ movesFrom (g .old) (g .added) p
+  spot-found : p ≡ oldSpot s (history t l) x
+  unfolding oldSpot
+  spot-found = e ∙ ap (λ (k : List ℕ). spotOf s k x) (history-before t l (r .grown))
+
+  moving-found : moving s (history t l) x ≡ movesFrom (g .old) (g .added) p
   unfolding moving
-  moving-found = rw (lt-ltb _ _ old-block, old-read (f .read), added-read (f .read), spot-is)
+  moving-found = rw (lt-ltb _ _ (rw (old-read r) at h), old-read r, added-read r, spot-found)
 
-  pub window-found : p .row .0 / (g .old + g .added) ≡ windowOf s (history t l) x
+  pub found-moving : movesFrom (g .old) (g .added) p ≡ true → Moving p ≡ movingFrom s (history t l) x
+  unfolding movingFrom
+  found-moving k = rw (moving-found, k, spot-found)
+
+  pub found-unmoving : movesFrom (g .old) (g .added) p ≡ false → NotMoving ≡ movingFrom s (history t l) x
+  unfolding movingFrom
+  found-unmoving k = rw (moving-found, k)
+
+-- ---- the old spot of block x, which `moving_from` has answered
+
+-- what the two arms of `let OldSpot::Moving(p)` know
+choice-moving : (b : Bool) (q p : Spot) → cond b (Moving q) NotMoving ≡ Moving p → (b ≡ true) × (p ≡ q)
+choice-moving true q p e = (refl, cc)
+choice-moving false q p e = (cc, cc)
+
+choice-unmoving : (b : Bool) (q : Spot) → cond b (Moving q) NotMoving ≡ NotMoving → b ≡ false
+choice-unmoving true q e = cc
+choice-unmoving false q e = refl
+
+pub told-unmoving : (s : ℕ) (h : List ℕ) (x : ℕ) (a : OldSpot) → a ≡ movingFrom s h x → a ≡ NotMoving → moving s h x ≡ false
+unfolding movingFrom
+told-unmoving s h x a e f = choice-unmoving (moving s h x) (oldSpot s h x) (sym e ∙ f)
+
+pub record MovingSpot (s t : ℕ) (l : List ℕ) (g : GrowthDisks) (x : ℕ) (p : Spot) : Type 0 where
+  pub read : ReadGrowth s t l g
+  pub moves : moving s (history t l) x ≡ true
+  pub spot : p ≡ oldSpot s (history t l) x
+
+pub told-moving : {s t : ℕ} {l : List ℕ} {g : GrowthDisks} {x : ℕ} {p : Spot} (a : OldSpot) → ReadGrowth s t l g → a ≡ movingFrom s (history t l) x
+    → a ≡ Moving p → MovingSpot s t l g x p
+unfolding movingFrom
+told-moving {s} {t} {l} {x = x} {p = p} a r e f =
+    let k = choice-moving (moving s (history t l) x) (oldSpot s (history t l) x) p (sym e ∙ f) in
+    record { read = r; moves = k .0; spot = k .1 }
+
+module _ {s t : ℕ} {l : List ℕ} {g : GrowthDisks} {x : ℕ} {p : Spot} (f : MovingSpot s t l g x p) where
+  -- what finding its mark asks
+  pub mark-asks : Grows (g .old) (g .added) × ((p .disk < g .old) × (movesFrom (g .old) (g .added) p ≡ true))
+  unfolding moving oldSpot
+  mark-asks =
+      let h : x < g .old * s = rw (old-read (f .read)) (ltb-true _ _ (and-left _ _ (f .moves))) in
+      let e : p ≡ spotOf s (history (t - 1) l) x = rw (history-before t l (f .read .grown)) (f .spot) in
+      (grows-read (f .read), (on-old-disk (f .read) h e, sym (moving-found (f .read) h e) ∙ f .moves))
+
+  pub window-told : p .row .0 / (g .old + g .added) ≡ windowOf s (history t l) x
   unfolding windowOf windowOfRow
-  window-found = rw (old-read (f .read), added-read (f .read), spot-is)
+  window-told = rw (old-read (f .read), added-read (f .read), f .spot)
 
-  pub mark-found : markOfSpot (g .old) (g .added) p ≡ markOf s (history t l) x
+  pub mark-told : markOfSpot (g .old) (g .added) p ≡ markOf s (history t l) x
   unfolding markOf
-  mark-found = rw (old-read (f .read), added-read (f .read), spot-is)
+  mark-told = rw (old-read (f .read), added-read (f .read), f .spot)
 
-  pub mark-small : movesFrom (g .old) (g .added) p ≡ true → markOfSpot (g .old) (g .added) p < markCount
-  mark-small e =
-      let k = grows-read (f .read) in
-      omega (arith, mark-below (g .old) (g .added) (k .old) (k .added) p on-old-disk e, marks-most (g .old) (g .added) (k .most))
+  pub mark-small : markOfSpot (g .old) (g .added) p < markCount
+  mark-small =
+      let k = mark-asks in
+      omega (arith, mark-below (g .old) (g .added) (k .0 .old) (k .0 .added) p (k .1 .0) (k .1 .1), marks-most (g .old) (g .added) (k .0 .most))
 
 -- ---- marked blocks, and blocks at their new spots
 
@@ -139,9 +179,10 @@ module _ (s : ℕ) (h : List ℕ) (w x : ℕ) where
   unfolding markedBlocks movingIn
   other-unmarked marks e = rw (ne-eqb _ _ e, and-false (moving s h x))
 
-  pub marked-here : (marks : List Bool) → moving s h x ≡ true → windowOf s h x ≡ w → getD marks (markOf s h x) false ≡ markedBlocks s h w marks x
+  pub marked-here : (marks : List Bool) (j : ℕ) → j ≡ markOf s h x → moving s h x ≡ true → windowOf s h x ≡ w
+      → getD marks j false ≡ markedBlocks s h w marks x
   unfolding markedBlocks movingIn
-  marked-here marks e f = rw (e, eq-eqb _ _ f)
+  marked-here marks j k e f = rw (k, e, eq-eqb _ _ f)
 
   pub passed-new : (recorded : ℕ → Bool) → moving s h x ≡ true → windowOf s h x < w → true ≡ atNewSpot s h (recordedBy s h w recorded) x
   unfolding atNewSpot recordedBy

@@ -1,12 +1,14 @@
 -- Document 01, "Medium, state, record": sets of 64 marks, and the counts after N[t]. Assumes nothing.
 use Prim.Native.Nat.{ℕ, _*_}
-use mathlib.Core.Bool.{Bool, false, not, _&&_, _||_}
+use mathlib.Core.Bool.{Bool, false, cond, not, _&&_, _||_}
 use mathlib.Core.List.{List}
 use mathlib.Core.Option.{Option, none, some}
 use lib.Dec.{eqb, leb, ltb}
 use lib.ListN.{getD, replicate}
 use Rattle.base.specs.Below.{every, table}
-use Rattle.layout.specs.Windows.{rowExists}
+use Rattle.layout.specs.Windows.{rowExists, oldSpot, moving}
+use Rattle.marks.specs.declared.OldSpot.{OldSpot}
+use Rattle.marks.specs.declared.OldSpot.the-variants.{Moving, NotMoving}
 use Rattle.marks.specs.declared.LiveBlock.{LiveBlock}
 use Rattle.marks.specs.declared.LiveBlock.the-variants.{Lives, Nothing}
 
@@ -28,6 +30,10 @@ movingMarks m n s w = table (λ j. ltb j (m * n) && rowExists m n s w j) markCou
 -- "counts after N[t] are 0"
 unfoldable pub zerosAfter : (counts : List ℕ) (t : ℕ) → Bool
 zerosAfter counts t = every (λ i. leb i t || eqb (getD counts i 0) 0) 8
+
+-- where block x moves from in the newest growth, as the code answers it
+unfoldable pub movingFrom : (s : ℕ) (h : List ℕ) (x : ℕ) → OldSpot
+movingFrom s h x = cond (moving s h x) (Moving (oldSpot s h x)) NotMoving
 
 -- a block that lives at a spot, or none, as the code answers it
 unfoldable pub asLiveBlock : (found : Option ℕ) → LiveBlock

@@ -6,10 +6,28 @@ ghost use Rattle.layout.specs.Limits.{Limits};
 ghost use Rattle.layout.specs.Live.{atNewSpot, liveSpot, liveBlock};
 ghost use Rattle.layout.specs.Tally.{recordedBy};
 ghost use Rattle.layout.specs.Windows.{markedBlocks};
-ghost use Rattle.marks.specs.Marks.{asLiveBlock};
+ghost use Rattle.marks.specs.Marks.{movingFrom, asLiveBlock};
 use super::LiveBlock;
+use super::OldSpot;
 use layout::Block;
 use layout::Spot;
+
+// Where x moves from in the newest growth.
+fn moving_from(counts: [usize; 8], t: usize, s: usize, x: Block) -> OldSpot
+    requires { ⌜ Limits s (history t counts) ⌝ }
+    requires { ⌜ 0 < t ⌝ }
+    ensures { λ r. ⌜ r ≡ movingFrom s (history t counts) (x .0) ⌝ }
+{
+    let g = layout::newest_growth(counts, t);
+    if g.old * s <= x.0 {
+        return OldSpot::NotMoving;
+    }
+    let p = layout::spot_of(counts, t - 1, s, x);
+    if layout::moves_from(g.old, g.added, p) {
+        return OldSpot::Moving(p);
+    }
+    OldSpot::NotMoving
+}
 
 // Is x a moving block of window w with its mark set?
 pub fn is_marked(
@@ -24,21 +42,15 @@ pub fn is_marked(
     requires { ⌜ 0 < t ⌝ }
     ensures { λ r. ⌜ r ≡ markedBlocks s (history t counts) w marks (x .0) ⌝ }
 {
+    let OldSpot::Moving(p) = moving_from(counts, t, s, x) else {
+        return false;
+    };
     let g = layout::newest_growth(counts, t);
-    let m = g.old;
-    let n = g.added;
-    if m * s <= x.0 {
-        return false;
-    }
-    let p = layout::spot_of(counts, t - 1, s, x);
-    if !layout::moves_from(m, n, p) {
-        return false;
-    }
     let row = p.row;
-    if row.0 / (m + n) != w {
+    if row.0 / (g.old + g.added) != w {
         return false;
     }
-    let j = layout::mark_of_spot(m, n, p);
+    let j = layout::mark_of_spot(g.old, g.added, p);
     marks[j]
 }
 
@@ -55,18 +67,12 @@ pub fn at_new_spot(
     requires { ⌜ 0 < t ⌝ }
     ensures { λ r. ⌜ r ≡ atNewSpot s (history t counts) (recordedBy s (history t counts) w (markedBlocks s (history t counts) w recorded)) (x .0) ⌝ }
 {
+    let OldSpot::Moving(p) = moving_from(counts, t, s, x) else {
+        return false;
+    };
     let g = layout::newest_growth(counts, t);
-    let m = g.old;
-    let n = g.added;
-    if m * s <= x.0 {
-        return false;
-    }
-    let p = layout::spot_of(counts, t - 1, s, x);
-    if !layout::moves_from(m, n, p) {
-        return false;
-    }
     let row = p.row;
-    if row.0 / (m + n) < w {
+    if row.0 / (g.old + g.added) < w {
         return true;
     }
     is_marked(counts, t, s, w, recorded, x)

@@ -11,10 +11,17 @@ pub use blocks::is_marked;
 pub use blocks::live_block;
 pub use blocks::live_spot;
 use layout::Block;
+use layout::Spot;
 pub use sets::counts_rise;
 pub use sets::is_within;
 pub use sets::moving_marks;
 pub use sets::zeros_after;
+
+// The old spot of a block that moves in the newest growth, or that the block does not move.
+enum OldSpot {
+    Moving(Spot),
+    NotMoving,
+}
 
 // The block that lives at a spot, or that none does.
 pub enum LiveBlock {

@@ -8,6 +8,7 @@ use lib.Dec.{eqb, leb}
 use Rattle.base.specs.Refusals.{refusal}
 use Rattle.layout.specs.declared.Spot.{Spot}
 use Rattle.layout.specs.Tally.{openBlocks, liveSpotOf, waiting}
+use Rattle.medium.specs.declared.Geometry.{Geometry}
 use Rattle.medium.specs.Medium.{Inside}
 use Rattle.volume.specs.declared.Volume.{Volume}
 use Rattle.volume.specs.Calls.{judged, tooShort, readTable, writeTable}
@@ -19,13 +20,14 @@ use Rattle.volume.proofs.LookUpLaws.{live-inside}
 use Rattle.volume.proofs.SoundLaws.{sound-facts}
 
 -- what storing and fetching a piece at the live spot require
-pub piece-fits : (v : Volume) (x n len : ℕ) → ReadFacts v x n len → (p : Spot) → p ≡ liveSpotOf (tallyOf v) x
-    → (0 < v .size) × (Inside (record { size = v .size; rows = v .rows }) len p × (n ≡ v .size))
+pub piece-fits : (v : Volume) (x n len : ℕ) → ReadFacts v x n len → (g : Geometry) → g ≡ geometry v → (p : Spot) → p ≡ liveSpotOf (tallyOf v) x
+    → (0 < g .size) × (Inside g len p × (n ≡ g .size))
 unfolding geometry
-piece-fits v x n len f p e = (
-  omega (arith, sound-facts v (f .is-sound) .size-least),
-  (rw e (live-inside v x len (f .is-sound) (f .block-open) (f .room)), f .piece-whole),
-)
+piece-fits v x n len f g same p e =
+    rw same (
+      omega (arith, sound-facts v (f .is-sound) .size-least),
+      (rw e (live-inside v x len (f .is-sound) (f .block-open) (f .room)), f .piece-whole),
+    )
 
 -- the table of a write is that of a read, and one test more
 module _ (v : Volume) (x n len : ℕ) where

@@ -21,6 +21,7 @@ use Rattle.layout.proofs.HistoryCode.{history-disks, growths-most}
 use Rattle.marks.specs.declared.LiveBlock.the-variants.{Lives}
 use Rattle.marks.specs.Marks.{asLiveBlock}
 use Rattle.marks.proofs.BlocksCode.{history-before, limits-before, block-before, block-now}
+use Rattle.medium.specs.declared.Geometry.{Geometry}
 use Rattle.medium.specs.Medium.{bytesNeeded}
 use Rattle.volume.specs.declared.Volume.{Volume}
 use Rattle.volume.specs.Calls.{tooShort}
@@ -54,19 +55,19 @@ module _ (v : Volume) (e : sound v ≡ true) where
   blocks-most = blocks-bound (v .rows) (v .growths) (v .counts) history-limits
 
   -- what counting the bytes of so many disks asks
-  pub bytes-asked : (n : ℕ) → n ≤ mostDisks → (0 < v .size) × (bytesNeeded (record { size = v .size; rows = v .rows }) n < 2 ^ 64)
-  bytes-asked n h =
+  pub bytes-asked : (g : Geometry) → g ≡ geometry v → (n : ℕ) → n ≤ mostDisks → (0 < g .size) × (bytesNeeded g n < 2 ^ 64)
+  unfolding geometry
+  bytes-asked g same n h =
       let f = sound-facts v e in
-      (omega (arith, f .size-least), bytes-bound (record { size = v .size; rows = v .rows }) n (f .size-most) (f .limits .rows-most) h)
+      rw same (omega (arith, f .size-least), bytes-bound (geometry v) n (f .size-most) (f .limits .rows-most) h)
 
 pub disks-read : (v : Volume) → getD (v .counts) (v .growths) 0 ≡ disks v
 unfolding disks historyOf
 disks-read v = sym (history-disks (v .growths) (v .counts))
 
-pub short-told : (v : Volume) (n len needed : ℕ) → needed ≡ bytesNeeded (record { size = v .size; rows = v .rows }) n
-    → ltb len needed ≡ tooShort (geometry v) n len
-unfolding tooShort geometry
-short-told v n len needed e = ap (ltb len) e
+pub short-told : (v : Volume) (g : Geometry) → g ≡ geometry v → (n len needed : ℕ) → needed ≡ bytesNeeded g n → ltb len needed ≡ tooShort (geometry v) n len
+unfolding tooShort
+short-told v g same n len needed e = ap (ltb len) (rw same at e)
 
 -- ---- at rest
 

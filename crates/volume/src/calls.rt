@@ -178,10 +178,7 @@ impl Volume {
             return self.refuse(k);
         }
         let p = self.live_spot(x);
-        let g = Geometry {
-            size: self.size,
-            rows: self.rows,
-        };
+        let g = self.geometry();
         medium::store_block(medium, g, p, piece);
         Reply {
             state: self,
@@ -199,10 +196,7 @@ impl Volume {
             return self.refuse(k);
         }
         let p = self.live_spot(x);
-        let g = Geometry {
-            size: self.size,
-            rows: self.rows,
-        };
+        let g = self.geometry();
         medium::fetch_block(medium, g, p, piece);
         Reply {
             state: self,

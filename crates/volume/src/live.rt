@@ -17,6 +17,16 @@ use marks::LiveBlock;
 use medium::Geometry;
 
 impl Volume {
+    // Z and s, as the medium takes them.
+    pub(crate) fn geometry(self) -> Geometry
+        ensures { λ r. ⌜ r ≡ geometry self ⌝ }
+    {
+        Geometry {
+            size: self.size,
+            rows: self.rows,
+        }
+    }
+
     // N[t].
     pub(crate) fn disk_count(self) -> usize
         requires { ⌜ sound self ≡ true ⌝ }
@@ -33,10 +43,7 @@ impl Volume {
         requires { ⌜ disks ≤ mostDisks ⌝ }
         ensures { λ r. ⌜ r ≡ tooShort (geometry self) disks len ⌝ }
     {
-        let g = Geometry {
-            size: self.size,
-            rows: self.rows,
-        };
+        let g = self.geometry();
         len < medium::bytes_needed(g, disks)
     }
 

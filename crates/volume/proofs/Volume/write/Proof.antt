@@ -4,7 +4,6 @@ use lib.ListN.{length}
 use borrow.Author.Needs.{needs}
 use Rattle.medium.specs.Medium.{observe}
 use Rattle.volume.specs.Calls.{writeOutcome}
-use Rattle.volume.specs.States.{geometry}
 use Rattle.volume.proofs.Accepted.{ReadFacts, write-accepted}
 use Rattle.volume.proofs.BlockCode.{piece-fits}
 use Rattle.volume.proofs.Judged.{refused-reply, refused-stores, accepted-reply, accepted-stores}
@@ -32,20 +31,23 @@ accepted c = write-accepted _ _ _ _ (sym (c .before .write-refusal .ensures) ∙
 live-spot-requires : tie.Need-live-spot-requires
 live-spot-requires c κs = (accepted c .is-sound, accepted c .block-open)
 
+geometry-requires : tie.Need-geometry-requires
+geometry-requires c κs = search needs
+
 store-block-requires : tie.Need-store-block-requires
-store-block-requires c κs = piece-fits _ _ _ _ (accepted (c .before .before)) _ (c .before .live-spot .ensures)
+store-block-requires c κs = piece-fits _ _ _ _ (accepted (c .before .before .before)) _ (c .before .geometry .ensures) _ (c .before .before .live-spot .ensures)
 
 same-length : tie.Need-same-length
 same-length c = search needs
 
 returns-2 : tie.Need-returns-2
-unfolding writeOutcome observe geometry
+unfolding writeOutcome observe
 returns-2 c =
-    let a = c .before .before .before .before .before .before .before .before .before .args in
-    let e = c .before .before .before .before .before .before .write-refusal .ensures in
-    let h = c .before .before .before .before .before .if1 .left in (
+    let a = c .before .before .before .before .before .before .before .before .before .before .args in
+    let e = c .before .before .before .before .before .before .before .write-refusal .ensures in
+    let h = c .before .before .before .before .before .before .if1 .left in (
       accepted-reply _ (a .self) (a .piece .now) _ _ e h _ refl,
-      accepted-stores _ (a .self) (a .piece .now) _ _ e h _ _ _ (rw (c .before .before .before .before .live-spot .ensures) at (c .before .before .store-block .ensures)),
+      accepted-stores _ (a .self) (a .piece .now) _ _ e h _ _ _ (rw (c .before .before .before .before .before .live-spot .ensures, c .before .before .before .before .geometry .ensures) at (c .before .before .store-block .ensures)),
     )
 
 pub write-spec : {M : Type 1} → statement M
@@ -56,6 +58,7 @@ write-spec =
     refuse-requires
     returns
     live-spot-requires
+    geometry-requires
     store-block-requires
     same-length
     returns-2)
