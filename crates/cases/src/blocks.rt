@@ -9,6 +9,7 @@ use layout::Change;
 use layout::Part;
 use layout::Row;
 use layout::Spot;
+use volume::Volume;
 
 // What put a block on its spot: format, or the newest growth. `Nothing`: there is no such block.
 pub enum Kind {
@@ -25,13 +26,13 @@ pub enum Kind {
 pub fn within(counts: [usize; 8], t: usize, s: usize) -> bool
     ensures { λ r. ⌜ (r ≡ true → Limits s (history t counts)) ⌝ }
 {
-    if s < 1 {
+    if s < Volume::LEAST_ROWS {
         return false;
     }
-    if 1_000_000 < s {
+    if Volume::MOST_ROWS < s {
         return false;
     }
-    if 7 < t {
+    if Volume::MOST_GROWTHS < t {
         return false;
     }
     if counts[0] < 1 {
@@ -44,7 +45,7 @@ pub fn within(counts: [usize; 8], t: usize, s: usize) -> bool
         }
         k += 1;
     }
-    counts[t] <= 16
+    counts[t] <= Volume::MOST_DISKS
 }
 
 // The blocks of the volume; 0 outside the limits.

@@ -1,12 +1,21 @@
-// Runs the layout, the record and the medium on cases and writes a line for each. What it must write is in the file stdout.
+// Runs the layout, the record, the medium and the volume's calls on cases and writes a line for each. What it must write is in the
+// file stdout.
 mod blocks;
 mod buffers;
+mod calls;
 mod columns;
 mod counts;
+mod damaged;
+mod found;
+mod growth;
+mod lookups;
 mod print;
 mod records;
+mod refused;
+mod replies;
 mod show;
 mod spots;
+mod states;
 mod windows;
 
 use print::text;
@@ -157,6 +166,33 @@ fn largest_volume() {
     grown_marks(8, 16, 1_000_000, 62_499);
 }
 
+fn refusals() {
+    refused::refused_formats();
+    refused::refused_restarts();
+    refused::refused_growths();
+    refused::refused_writes();
+    refused::refused_reads();
+    refused::refused_lookups();
+    refused::two_faults();
+    refused::two_faults_more();
+}
+
+fn growths() {
+    growth::growth_on_medium();
+    found::during_growth();
+    found::after_growth();
+    growth::next_growth();
+    found::after_next_growth();
+}
+
+fn damages() {
+    damaged::damaged_sizes();
+    damaged::damaged_counts();
+    damaged::damaged_bytes();
+    damaged::damaged_rest();
+    damaged::unsound_records();
+}
+
 fn main() {
     document_blocks();
     document_more();
@@ -174,4 +210,7 @@ fn main() {
     records::damaged_numbers();
     records::damaged_rest();
     spots::blocks_on_medium();
+    refusals();
+    growths();
+    damages();
 }

@@ -15,6 +15,13 @@ pub fn labelled(s: &[u8], n: usize) {
     number(n);
 }
 
+// A number between words.
+pub fn counted(before: &[u8], n: usize, after: &[u8]) {
+    text(before);
+    number(n);
+    text(after);
+}
+
 // The next count of a history.
 fn next_count(n: usize) {
     labelled(b" to", n);

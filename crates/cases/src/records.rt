@@ -18,7 +18,7 @@ fn worked_marks() -> [bool; 64] {
 }
 
 // Writes the record; nothing if the page is too short.
-fn write_worked(page: &mut [u8]) {
+pub fn write_worked(page: &mut [u8]) {
     if page.len() < 512 {
         return;
     }
@@ -50,7 +50,7 @@ fn show_numbers(numbers: [usize; 13]) {
 }
 
 // The marks that are set.
-fn show_set(marks: [bool; 64]) {
+pub fn show_set(marks: [bool; 64]) {
     let mut i = 0;
     while i < 64 {
         if marks[i] {

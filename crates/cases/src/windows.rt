@@ -7,6 +7,7 @@ ghost use Rattle.layout.specs.Limits.{Limits, Grows, mostRows};
 ghost use Rattle.layout.specs.Windows.{windows};
 use super::blocks::within;
 use layout::GrowthDisks;
+use volume::Volume;
 
 // The windows of the newest growth; 0 outside the limits and where there was no growth.
 pub fn growth_windows(counts: [usize; 8], t: usize, s: usize) -> usize
@@ -57,10 +58,10 @@ fn grows(m: usize, n: usize) -> bool
     if n < 1 {
         return false;
     }
-    if 16 < m {
+    if Volume::MOST_DISKS < m {
         return false;
     }
-    n <= 16 - m
+    n <= Volume::MOST_DISKS - m
 }
 
 // Is j a mark of window w whose row exists.
@@ -70,7 +71,7 @@ fn mark_exists(m: usize, n: usize, s: usize, w: usize, j: usize) -> bool
     if !grows(m, n) {
         return false;
     }
-    if 1_000_000 < w {
+    if Volume::MOST_ROWS < w {
         return false;
     }
     if m * n <= j {

@@ -1,0 +1,75 @@
+// Section 12, on a medium: a volume formatted, grown and restarted, and blocks saved and read back.
+use super::buffers::same_bytes;
+use super::calls::show_format;
+use super::calls::show_grow;
+use super::calls::show_read;
+use super::calls::show_restart;
+use super::calls::show_write;
+use super::lookups::show_address;
+use super::print::counted;
+use super::print::text;
+use super::records::write_worked;
+use super::states::five_disks;
+use volume::Volume;
+
+// Saves 512 times one byte as block x.
+fn save(v: Volume, medium: &mut [u8], x: usize, byte: u8) {
+    let block = [byte; 512];
+    let piece: &[u8] = &block;
+    show_write(v, medium, x, piece);
+}
+
+// Reads block x, and tells how many bytes are this one.
+fn load(v: Volume, medium: &[u8], x: usize, byte: u8) {
+    let block = [byte; 512];
+    let mut space = [0u8; 512];
+    let expected: &[u8] = &block;
+    let piece: &mut [u8] = &mut space;
+    show_read(v, medium, x, piece);
+    let same = same_bytes(expected, piece, 0, 512);
+    counted(b"the piece has ", same, b" bytes as saved\n");
+}
+
+// Before the growth.
+fn saved_blocks(medium: &mut [u8]) {
+    let v = show_format(medium, 512, 5, 3);
+    save(v, medium, 0, 1);
+    save(v, medium, 1, 2);
+    save(v, medium, 14, 3);
+    show_grow(v, medium, 5);
+}
+
+// At its start.
+fn growing_blocks(medium: &[u8]) {
+    let v = show_restart(b"the record that grow stored", medium);
+    load(v, medium, 0, 1);
+    load(v, medium, 14, 3);
+    load(v, medium, 15, 4);
+}
+
+// With blocks 0 and 3 recorded, though nothing was copied to their new spots.
+fn recorded_blocks(medium: &mut [u8]) {
+    write_worked(medium);
+    let v = show_restart(b"the worked record", medium);
+    save(v, medium, 0, 4);
+    load(v, medium, 0, 4);
+    load(v, medium, 1, 2);
+    load(v, medium, 14, 3);
+}
+
+pub fn growth_on_medium() {
+    text(b"12. During a growth from 3 disks to 5, s = 5, Z = 512, and after it\n");
+    let mut space = [0u8; 13_312];
+    let medium: &mut [u8] = &mut space;
+    saved_blocks(medium);
+    growing_blocks(medium);
+    recorded_blocks(medium);
+}
+
+// 12, continued: a second growth begins.
+pub fn next_growth() {
+    let mut space = [0u8; 15_872];
+    let medium: &mut [u8] = &mut space;
+    let v = show_grow(five_disks(), medium, 6);
+    show_address(v, 16);
+}

@@ -1,0 +1,89 @@
+// Words for states, and for what a call hands back and leaves as it was.
+use super::buffers::first_changed;
+use super::buffers::last_changed;
+use super::print::labelled;
+use super::print::show_history;
+use super::print::text;
+use super::records::show_set;
+use super::states::same_marks;
+use super::states::same_state;
+use volume::Answer;
+use volume::Reply;
+use volume::Volume;
+
+// The marks that are set, after a word.
+fn show_marks(word: &[u8], marks: [bool; 64]) {
+    text(word);
+    if same_marks(marks, [false; 64]) {
+        text(b" none");
+    }
+    show_set(marks);
+}
+
+// The stage of a growth. Recorded marks are told if there are any, copied ones if they differ.
+fn show_stage(v: Volume) {
+    let recorded = v.recorded;
+    let copied = v.copied;
+    text(b", growing");
+    if v.window != 0 {
+        labelled(b", w", v.window);
+    }
+    if !same_marks(recorded, [false; 64]) {
+        show_marks(b", recorded marks", recorded);
+    }
+    if !same_marks(recorded, copied) {
+        show_marks(b", copied marks", copied);
+    }
+}
+
+// A state with 512-byte blocks.
+pub fn show_state(v: Volume) {
+    let counts = v.counts;
+    show_history(counts, v.growths, v.rows);
+    if Volume::MOST_GROWTHS < v.growths {
+        labelled(b", t", v.growths);
+    }
+    if v.growing != 0 {
+        show_stage(v);
+    }
+    if !v.is_sound() {
+        text(b", not sound");
+    }
+}
+
+fn show_answer(answer: Answer) {
+    match answer {
+        Answer::Refused(k) => labelled(b": refusal", k),
+        Answer::Done => text(b": done"),
+        Answer::CallsLeft(n) => labelled(b": advance calls left", n),
+    }
+}
+
+// The state handed back; in these words if it is the expected one.
+pub fn show_state_after(state: Volume, expected: Volume, words: &[u8]) {
+    text(b", state ");
+    if same_state(state, expected) {
+        text(words);
+        return;
+    }
+    show_state(state);
+}
+
+// The answer, and the state.
+pub fn show_reply(reply: Reply, expected: Volume, words: &[u8]) {
+    let answer = reply.answer;
+    let state = reply.state;
+    show_answer(answer);
+    show_state_after(state, expected, words);
+}
+
+// Which bytes changed.
+pub fn show_bytes(name: &[u8], before: &[u8], after: &[u8]) {
+    text(name);
+    if first_changed(before, after) == after.len() {
+        text(b" as it was");
+        return;
+    }
+    labelled(b" changed from byte", first_changed(before, after));
+    labelled(b" to", last_changed(before, after));
+}

@@ -1,0 +1,130 @@
+// States of volumes with 512-byte blocks, made by hand, and two states compared.
+use volume::Volume;
+
+// The marks from `from` up to, not including, `end`.
+fn marks_from(from: usize, end: usize) -> [bool; 64] {
+    let mut marks = [false; 64];
+    let mut j = 0;
+    while j < 64 {
+        if from <= j {
+            marks[j] = j < end;
+        }
+        j += 1;
+    }
+    marks
+}
+
+// t growths, none under way, with 5 rows.
+pub fn resting(counts: [usize; 8], t: usize) -> Volume {
+    Volume {
+        size: 512,
+        rows: 5,
+        growths: t,
+        counts,
+        growing: 0,
+        window: 0,
+        recorded: [false; 64],
+        copied: [false; 64],
+    }
+}
+
+// In window 0 of growth t, with 5 rows, so many first marks recorded and so many copied.
+pub fn in_growth(counts: [usize; 8], t: usize, recorded: usize, copied: usize) -> Volume {
+    let first_recorded = marks_from(0, recorded);
+    let first_copied = marks_from(0, copied);
+    Volume {
+        size: 512,
+        rows: 5,
+        growths: t,
+        counts,
+        growing: 1,
+        window: 0,
+        recorded: first_recorded,
+        copied: first_copied,
+    }
+}
+
+// In window w of the growth from 3 disks to 5, with the marks from `from` up to, not including, `end` recorded.
+pub fn in_window(rows: usize, w: usize, from: usize, end: usize) -> Volume {
+    let recorded = marks_from(from, end);
+    let copied = marks_from(from, end);
+    Volume {
+        size: 512,
+        rows,
+        growths: 1,
+        counts: [3, 5, 0, 0, 0, 0, 0, 0],
+        growing: 1,
+        window: w,
+        recorded,
+        copied,
+    }
+}
+
+// Grown from 3 disks.
+pub fn five_disks() -> Volume {
+    resting([3, 5, 0, 0, 0, 0, 0, 0], 1)
+}
+
+// Growing from 3 disks to 5.
+pub fn three_to_five(recorded: usize, copied: usize) -> Volume {
+    in_growth([3, 5, 0, 0, 0, 0, 0, 0], 1, recorded, copied)
+}
+
+fn same_counts(a: [usize; 8], b: [usize; 8]) -> bool {
+    let mut k = 0;
+    while k < 8 {
+        if a[k] != b[k] {
+            return false;
+        }
+        k += 1;
+    }
+    true
+}
+
+pub fn same_marks(a: [bool; 64], b: [bool; 64]) -> bool {
+    let mut j = 0;
+    while j < 64 {
+        if a[j] != b[j] {
+            return false;
+        }
+        j += 1;
+    }
+    true
+}
+
+// Are the numbers of both the same?
+fn same_numbers(a: Volume, b: Volume) -> bool {
+    if a.size != b.size {
+        return false;
+    }
+    if a.rows != b.rows {
+        return false;
+    }
+    if a.growths != b.growths {
+        return false;
+    }
+    if a.growing != b.growing {
+        return false;
+    }
+    a.window == b.window
+}
+
+// Are all fields of both the same?
+pub fn same_state(a: Volume, b: Volume) -> bool {
+    if !same_numbers(a, b) {
+        return false;
+    }
+    let counts = a.counts;
+    let other_counts = b.counts;
+    if !same_counts(counts, other_counts) {
+        return false;
+    }
+    let recorded = a.recorded;
+    let other_recorded = b.recorded;
+    if !same_marks(recorded, other_recorded) {
+        return false;
+    }
+    let copied = a.copied;
+    let other_copied = b.copied;
+    same_marks(copied, other_copied)
+}
