@@ -6,6 +6,7 @@ use super::print::text;
 use super::replies::show_bytes;
 use super::replies::show_reply;
 use super::replies::show_state;
+use super::states::zeros;
 use layout::Block;
 use volume::Volume;
 
@@ -23,7 +24,7 @@ pub fn show_format(medium: &mut [u8], size: usize, rows: usize, disks: usize) ->
     labelled(b", rows", rows);
     labelled(b", disks", disks);
     let reply = Volume::format(medium, size, rows, disks);
-    show_reply(reply, Volume::zeros(), b"of zeros");
+    show_reply(reply, zeros(), b"of zeros");
     end_line(before, medium);
     let state = reply.state;
     state
@@ -37,7 +38,7 @@ pub fn show_restart(record: &[u8], medium: &[u8]) -> Volume {
     text(record);
     text(b": restart");
     let reply = Volume::restart(medium);
-    show_reply(reply, Volume::zeros(), b"of zeros");
+    show_reply(reply, zeros(), b"of zeros");
     end_line(before, medium);
     let state = reply.state;
     state

@@ -9,6 +9,7 @@ use super::states::five_disks;
 use super::states::in_window;
 use super::states::resting;
 use super::states::three_to_five;
+use super::states::zeros;
 use volume::Volume;
 
 // Z, s, t, N[0] to N[7], growing and w.
@@ -44,7 +45,7 @@ fn write_state(page: &mut [u8], v: Volume) {
 // Restarts, and ends the line.
 fn end_line(medium: &[u8]) {
     let reply = Volume::restart(medium);
-    show_reply(reply, Volume::zeros(), b"of zeros");
+    show_reply(reply, zeros(), b"of zeros");
     text(b"\n");
 }
 

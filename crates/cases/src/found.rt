@@ -4,6 +4,7 @@ use super::lookups::show_holder;
 use super::print::counted;
 use super::replies::show_state;
 use super::states::five_disks;
+use super::states::in_window;
 use super::states::resting;
 use super::states::three_to_five;
 use layout::Block;
@@ -125,6 +126,17 @@ pub fn during_growth() {
     show_holder(v, 0, 4);
     show_blocks(v);
     show_spots(v, 25);
+}
+
+// 12, continued: of 7 rows, in window 1. Blocks 0, 15 and 18 move, in windows 0, 1 and 1, and 15 is recorded.
+pub fn in_second_window() {
+    let v = in_window(7, 1, 0, 1);
+    show_address(v, 0);
+    show_address(v, 15);
+    show_address(v, 18);
+    show_holder(v, 3, 0);
+    show_holder(v, 0, 5);
+    show_holder(v, 0, 6);
 }
 
 // 12, continued.

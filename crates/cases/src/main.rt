@@ -173,6 +173,7 @@ fn refusals() {
     refused::refused_writes();
     refused::refused_reads();
     refused::refused_lookups();
+    refused::refused_marks();
     refused::two_faults();
     refused::two_faults_more();
 }
@@ -180,6 +181,7 @@ fn refusals() {
 fn growths() {
     growth::growth_on_medium();
     found::during_growth();
+    found::in_second_window();
     found::after_growth();
     growth::next_growth();
     found::after_next_growth();

@@ -13,6 +13,7 @@ use super::print::text;
 use super::records::write_worked;
 use super::states::in_growth;
 use super::states::resting;
+use super::states::resting_with;
 use super::states::three_to_five;
 use volume::Volume;
 
@@ -151,6 +152,12 @@ pub fn refused_lookups() {
     show_holder(v, 5, 0);
     show_holder(v, 0, 5);
     show_holder(three_to_five(1, 1), 0, 0);
+}
+
+// 11, continued: marks in a state that is not growing.
+pub fn refused_marks() {
+    show_address(resting_with(1, 0), 0);
+    show_address(resting_with(0, 1), 0);
 }
 
 // 11, continued.

@@ -20,11 +20,10 @@ fn show_marks(word: &[u8], marks: [bool; 64]) {
     show_set(marks);
 }
 
-// The stage of a growth. Recorded marks are told if there are any, copied ones if they differ.
+// w if it is not 0, the recorded marks if there are any, and the copied ones if they differ.
 fn show_stage(v: Volume) {
     let recorded = v.recorded;
     let copied = v.copied;
-    text(b", growing");
     if v.window != 0 {
         labelled(b", w", v.window);
     }
@@ -44,8 +43,9 @@ pub fn show_state(v: Volume) {
         labelled(b", t", v.growths);
     }
     if v.growing != 0 {
-        show_stage(v);
+        text(b", growing");
     }
+    show_stage(v);
     if !v.is_sound() {
         text(b", not sound");
     }

@@ -14,6 +14,20 @@ fn marks_from(from: usize, end: usize) -> [bool; 64] {
     marks
 }
 
+// The state of zeros, without the volume's own function for it.
+pub fn zeros() -> Volume {
+    Volume {
+        size: 0,
+        rows: 0,
+        growths: 0,
+        counts: [0; 8],
+        growing: 0,
+        window: 0,
+        recorded: [false; 64],
+        copied: [false; 64],
+    }
+}
+
 // t growths, none under way, with 5 rows.
 pub fn resting(counts: [usize; 8], t: usize) -> Volume {
     Volume {
@@ -68,6 +82,13 @@ pub fn five_disks() -> Volume {
 // Growing from 3 disks to 5.
 pub fn three_to_five(recorded: usize, copied: usize) -> Volume {
     in_growth([3, 5, 0, 0, 0, 0, 0, 0], 1, recorded, copied)
+}
+
+// As that, but not growing.
+pub fn resting_with(recorded: usize, copied: usize) -> Volume {
+    let mut v = three_to_five(recorded, copied);
+    v.growing = 0;
+    v
 }
 
 fn same_counts(a: [usize; 8], b: [usize; 8]) -> bool {
