@@ -1,13 +1,13 @@
 // A line for each call on a medium: what the call is given, its answer, the state, and what changed.
-use super::buffers::put_bytes;
-use super::print::counted;
-use super::print::labelled;
-use super::print::text;
 use super::replies::show_bytes;
 use super::replies::show_reply;
 use super::replies::show_state;
 use super::states::zeros;
 use layout::Block;
+use printing::counted;
+use printing::labelled;
+use printing::put_bytes;
+use printing::text;
 use volume::Volume;
 
 // What changed on the medium, and the end of the line.

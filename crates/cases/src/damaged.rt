@@ -1,8 +1,4 @@
-// Section 13. Restart on a medium with room for 6 rows. Its record is that of a state made by hand, whole or damaged.
-use super::buffers::put_bytes;
-use super::print::counted;
-use super::print::labelled;
-use super::print::text;
+// Section 3. Restart on a medium with room for 6 rows. Its record is that of a state made by hand, whole or damaged.
 use super::replies::show_reply;
 use super::replies::show_state;
 use super::states::five_disks;
@@ -10,6 +6,10 @@ use super::states::in_window;
 use super::states::resting;
 use super::states::three_to_five;
 use super::states::zeros;
+use printing::counted;
+use printing::labelled;
+use printing::put_bytes;
+use printing::text;
 use volume::Volume;
 
 // Z, s, t, N[0] to N[7], growing and w.
@@ -123,7 +123,7 @@ fn other_byte(name: &[u8], at: usize, byte: u8) {
 
 // Columns 0 to 2 are Z, s and t.
 pub fn damaged_sizes() {
-    text(b"13. Restart on the worked record, and on it with one field damaged\n");
+    text(b"3. Restart on the worked record, and on it with one field damaged\n");
     whole(three_to_five(2, 2));
     worked(0, 0);
     worked(0, 511);
@@ -137,7 +137,7 @@ pub fn damaged_sizes() {
     blank(2);
 }
 
-// 13, continued. Columns 3 to 10 are the counts, 11 is growing, 12 is w. R is 1.
+// 3, continued. Columns 3 to 10 are the counts, 11 is growing, 12 is w. R is 1.
 pub fn damaged_counts() {
     worked(3, 0);
     worked(3, 5);
@@ -153,7 +153,7 @@ pub fn damaged_counts() {
     blank(12);
 }
 
-// 13, continued. The marks of blocks are those below m n = 6.
+// 3, continued. The marks of blocks are those below m n = 6.
 pub fn damaged_bytes() {
     other_byte(b"s with a leading zero", 18, b'0');
     other_byte(b"mark 6, of no block", 136, b'1');
@@ -164,7 +164,7 @@ pub fn damaged_bytes() {
     other_byte(b"the line feed", 511, b' ');
 }
 
-// 13, continued: not growing, with a count after N[0] and with w = 1.
+// 3, continued: not growing, with a count after N[0] and with w = 1.
 pub fn damaged_rest() {
     text(b"with 5 disks, not growing, and one field damaged\n");
     whole(five_disks());
@@ -177,7 +177,7 @@ fn whole_window(rows: usize, w: usize, from: usize, end: usize) {
     whole(in_window(rows, w, from, end));
 }
 
-// 13, continued. A mark of no block, all six moving blocks recorded, w = R. Of 1 row and of window 1 of 6 rows only mark 0 has a row.
+// 3, continued. A mark of no block, all six moving blocks recorded, w = R. Of 1 row and of window 1 of 6 rows only mark 0 has a row.
 pub fn unsound_records() {
     text(b"whole records of other states, sound and not sound\n");
     whole(resting([1, 2, 3, 4, 5, 6, 7, 8], 8));

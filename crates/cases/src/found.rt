@@ -1,7 +1,6 @@
-// Section 12, blocks and spots: looked up during a growth and after it, and found again.
+// Section 2, blocks and spots: looked up during a growth and after it, and found again.
 use super::lookups::show_address;
 use super::lookups::show_holder;
-use super::print::counted;
 use super::replies::show_state;
 use super::states::five_disks;
 use super::states::in_window;
@@ -10,6 +9,7 @@ use super::states::three_to_five;
 use layout::Block;
 use layout::Row;
 use layout::Spot;
+use printing::counted;
 use volume::AddressAnswer;
 use volume::HolderAnswer;
 use volume::Volume;
@@ -112,7 +112,7 @@ fn show_spots(v: Volume, spots: usize) {
     counted(b"", spots_with(v, spots, 15), b" refused with 15\n");
 }
 
-// 12, continued: blocks 0 and 3 are recorded.
+// 2, continued: blocks 0 and 3 are recorded.
 pub fn during_growth() {
     let v = three_to_five(2, 2);
     show_address(v, 0);
@@ -128,7 +128,7 @@ pub fn during_growth() {
     show_spots(v, 25);
 }
 
-// 12, continued: of 7 rows, in window 1. Blocks 0, 15 and 18 move, in windows 0, 1 and 1, and 15 is recorded.
+// 2, continued: of 7 rows, in window 1. Blocks 0, 15 and 18 move, in windows 0, 1 and 1, and 15 is recorded.
 pub fn in_second_window() {
     let v = in_window(7, 1, 0, 1);
     show_address(v, 0);
@@ -139,7 +139,7 @@ pub fn in_second_window() {
     show_holder(v, 0, 6);
 }
 
-// 12, continued.
+// 2, continued.
 pub fn after_growth() {
     let v = five_disks();
     show_blocks(v);
@@ -150,7 +150,7 @@ pub fn after_growth() {
     show_address(v, 16);
 }
 
-// 12, continued.
+// 2, continued.
 pub fn after_next_growth() {
     let v = resting([3, 5, 6, 0, 0, 0, 0, 0], 2);
     show_blocks(v);

@@ -1,15 +1,15 @@
-// Section 12, on a medium: a volume formatted, grown and restarted, and blocks saved and read back.
-use super::buffers::same_bytes;
+// Section 2, on a medium: a volume formatted, grown and restarted, and blocks saved and read back.
 use super::calls::show_format;
 use super::calls::show_grow;
 use super::calls::show_read;
 use super::calls::show_restart;
 use super::calls::show_write;
 use super::lookups::show_address;
-use super::print::counted;
-use super::print::text;
-use super::records::write_worked;
 use super::states::five_disks;
+use printing::counted;
+use printing::same_bytes;
+use printing::text;
+use printing::write_worked;
 use volume::Volume;
 
 // Saves 512 times one byte as block x.
@@ -58,7 +58,7 @@ fn recorded_blocks(medium: &mut [u8]) {
 }
 
 pub fn growth_on_medium() {
-    text(b"12. During a growth from 3 disks to 5, s = 5, Z = 512, and after it\n");
+    text(b"2. During a growth from 3 disks to 5, s = 5, Z = 512, and after it\n");
     let mut space = [0u8; 13_312];
     let medium: &mut [u8] = &mut space;
     saved_blocks(medium);
@@ -66,7 +66,7 @@ pub fn growth_on_medium() {
     recorded_blocks(medium);
 }
 
-// 12, continued: a second growth begins.
+// 2, continued: a second growth begins.
 pub fn next_growth() {
     let mut space = [0u8; 15_872];
     let medium: &mut [u8] = &mut space;

@@ -1,6 +1,4 @@
 // A line for each address and holder.
-use super::print::labelled;
-use super::print::text;
 use super::replies::show_state;
 use super::replies::show_state_after;
 use layout::Block;
@@ -8,6 +6,8 @@ use layout::Part;
 use layout::Reason;
 use layout::Row;
 use layout::Spot;
+use printing::labelled;
+use printing::text;
 use volume::AddressAnswer;
 use volume::HolderAnswer;
 use volume::Volume;

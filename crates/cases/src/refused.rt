@@ -1,6 +1,5 @@
-// Section 11. Each call is lent the first `length` bytes of a medium, and of a piece the first `size`. Most are given a state in the
+// Section 1. Each call is lent the first `length` bytes of a medium, and of a piece the first `size`. Most are given a state in the
 // growth from 3 disks to 5, with so many first marks recorded and so many copied.
-use super::buffers::number_bytes;
 use super::calls::show_format;
 use super::calls::show_grow;
 use super::calls::show_read;
@@ -8,13 +7,14 @@ use super::calls::show_restart;
 use super::calls::show_write;
 use super::lookups::show_address;
 use super::lookups::show_holder;
-use super::print::counted;
-use super::print::text;
-use super::records::write_worked;
 use super::states::in_growth;
 use super::states::resting;
 use super::states::resting_with;
 use super::states::three_to_five;
+use printing::counted;
+use printing::number_bytes;
+use printing::text;
+use printing::write_worked;
 use volume::Volume;
 
 // The start of a line.
@@ -35,7 +35,7 @@ fn refused_format(size: usize, rows: usize, disks: usize, length: usize) {
 
 pub fn refused_formats() {
     text(
-        b"11. Refusals: what the call is given, the number, and whether state, medium and piece are as they were\n",
+        b"1. Refusals: what the call is given, the number, and whether state, medium and piece are as they were\n",
     );
     refused_format(0, 5, 3, 8192);
     refused_format(511, 5, 3, 8192);
@@ -56,7 +56,7 @@ fn refused_restart(record: &[u8], medium: &[u8], length: usize) {
     show_restart(record, &medium[0..length]);
 }
 
-// 11, continued.
+// 1, continued.
 pub fn refused_restarts() {
     let empty = [0u8; 13_312];
     let mut space = [0u8; 13_312];
@@ -78,7 +78,7 @@ fn refused_grow(v: Volume, count: usize, length: usize) {
     show_grow(v, &mut medium[0..length], count);
 }
 
-// 11, continued.
+// 1, continued.
 pub fn refused_growths() {
     let three = resting([3, 0, 0, 0, 0, 0, 0, 0], 0);
     refused_grow(three_to_five(1, 0), 6, 15_872);
@@ -106,7 +106,7 @@ fn refused_write(recorded: usize, copied: usize, x: usize, size: usize, length: 
     show_write(v, &mut medium[0..length], x, &piece[0..size]);
 }
 
-// 11, continued.
+// 1, continued.
 pub fn refused_writes() {
     refused_write(1, 0, 0, 512, 13_312);
     refused_write(0, 0, 0, 512, 13_311);
@@ -133,7 +133,7 @@ fn refused_read(recorded: usize, copied: usize, x: usize, size: usize, length: u
     show_read(v, &medium[0..length], x, &mut piece[0..size]);
 }
 
-// 11, continued.
+// 1, continued.
 pub fn refused_reads() {
     refused_read(1, 0, 0, 512, 13_312);
     refused_read(0, 0, 0, 512, 13_311);
@@ -142,7 +142,7 @@ pub fn refused_reads() {
     refused_read(0, 0, 0, 513, 13_312);
 }
 
-// 11, continued.
+// 1, continued.
 pub fn refused_lookups() {
     let unsound = three_to_five(1, 0);
     let v = three_to_five(0, 0);
@@ -154,13 +154,13 @@ pub fn refused_lookups() {
     show_holder(three_to_five(1, 1), 0, 0);
 }
 
-// 11, continued: marks in a state that is not growing.
+// 1, continued: marks in a state that is not growing.
 pub fn refused_marks() {
     show_address(resting_with(1, 0), 0);
     show_address(resting_with(0, 1), 0);
 }
 
-// 11, continued.
+// 1, continued.
 pub fn two_faults() {
     text(b"two faults at once: the first in the order of the checks is told\n");
     refused_format(511, 5, 3, 8191);
@@ -174,7 +174,7 @@ pub fn two_faults() {
     refused_grow(resting([3, 0, 0, 0, 0, 0, 0, 0], 0), 17, 13_311);
 }
 
-// 11, continued: two faults at once.
+// 1, continued: two faults at once.
 pub fn two_faults_more() {
     refused_write(1, 0, 0, 512, 13_311);
     refused_write(0, 0, 15, 512, 13_311);

@@ -1,12 +1,12 @@
 // Words for states, and for what a call hands back and leaves as it was.
-use super::buffers::first_changed;
-use super::buffers::last_changed;
-use super::print::labelled;
-use super::print::show_history;
-use super::print::text;
-use super::records::show_set;
 use super::states::same_marks;
 use super::states::same_state;
+use printing::first_changed;
+use printing::labelled;
+use printing::last_changed;
+use printing::show_history;
+use printing::show_set;
+use printing::text;
 use volume::Answer;
 use volume::Reply;
 use volume::Volume;

@@ -1,0 +1,40 @@
+-- `mark_exists` meets its contract. Assumes nothing.
+use native.Mathlib.Omega.{arith}
+use borrow.Author.Tests.{not-false}
+use borrow.Author.Needs.{needs}
+use Rattle.layout.specs.Limits.{Grows}
+use Rattle.layout.proofs.WindowsCode.{marks-most}
+use Rattle.parts.proofs.Guards.{failed}
+use Rattle.parts.proofs.windows.mark_exists.Statement.{statement}
+use Rattle.parts.proofs.windows.mark_exists.Tie as tie
+
+grows-requires : tie.Need-grows-requires
+grows-requires c κs = search needs
+
+returns : tie.Need-returns
+returns c = failed
+
+returns-2 : tie.Need-returns-2
+returns-2 c = failed
+
+known : (c : tie.Else2) → Grows (c .before .before .before .args .m) (c .before .before .before .args .n)
+known c = c .before .before .grows .ensures (not-false _ (c .before .if1 .left))
+
+mul-if3 : tie.Need-mul-if3
+mul-if3 c = omega (arith, marks-most _ _ (known c .most))
+
+returns-3 : tie.Need-returns-3
+returns-3 c = failed
+
+row-exists-requires : tie.Need-row-exists-requires
+row-exists-requires c κs =
+    let g = known (c .before) in
+    (g, (omega arith, omega (arith, marks-most _ _ (g .most))))
+
+returns-4 : tie.Need-returns-4
+returns-4 c = λ e. (known (c .before .before), omega arith, omega arith)
+
+pub mark-exists-spec : {M : Type 1} → statement M
+mark-exists-spec =
+    tie.close
+    (tie.spec grows-requires returns returns-2 mul-if3 returns-3 row-exists-requires returns-4)
