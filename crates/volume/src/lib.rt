@@ -2,7 +2,7 @@
 // takes the state and hands the next one back, beside the answer.
 //
 // The calls, `is_sound`, `zeros` and the limits are offered to others and take any input. What has a
-// `requires` is private.
+// `requires` is seen in this crate alone.
 mod calls;
 mod live;
 mod lookup;
