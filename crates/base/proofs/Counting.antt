@@ -109,7 +109,7 @@ sum-most f (suc n) b h = omega (arith, sum-most f n b h, h n, suc-mul n b)
 -- ---- counting along a one to one map
 
 -- one less passes
-count-less : (p q : ℕ → Bool) (n x : ℕ) → x < n → p x ≡ true → q x ≡ false → ((i : ℕ) → (i ≡ x → ⊥) → p i ≡ q i) → count p n ≡ suc (count q n)
+pub count-less : (p q : ℕ → Bool) (n x : ℕ) → x < n → p x ≡ true → q x ≡ false → ((i : ℕ) → (i ≡ x → ⊥) → p i ≡ q i) → count p n ≡ suc (count q n)
 unfolding count
 count-less p q zero x h a b f = absurd (omega arith)
 count-less p q (suc n) x h a b f =

@@ -1,4 +1,5 @@
 pub mod Booleans
 pub mod Counting
 pub mod Lists
+pub mod Lowest
 pub mod Refusals

@@ -1,16 +1,16 @@
 -- Document 01, "The plain volume and the cut": the tally, which follows the growth, and "The live spot" worked out from it.
 -- Blocks are numbers here; nothing is known of a state, a record or a medium. Assumes nothing.
-use Prim.Native.Nat.{ℕ, _*_}
+use Prim.Native.Nat.{ℕ, suc, _*_}
 use mathlib.Core.Bool.{Bool, false, cond, not, _&&_, _||_}
 use mathlib.Core.List.{List}
 use mathlib.Core.Option.{Option, some}
 use lib.Dec.{ltb, eqb}
 use Rattle.layout.specs.declared.Reason.{Reason}
 use Rattle.layout.specs.declared.Spot.{Spot}
-use Rattle.layout.specs.History.{diskCount, earlier, oldCount, spotOf, blockAt}
+use Rattle.layout.specs.History.{diskCount, earlier, oldCount, addedCount, spotOf, blockAt}
 use Rattle.layout.specs.Live.{atNewSpot, liveSpot, liveBlock}
 use Rattle.layout.specs.Reasons.{reasonOf}
-use Rattle.layout.specs.Windows.{windowOf, callsLeft}
+use Rattle.layout.specs.Windows.{windows, windowOf, movingIn, nextOfWindow, allCopied, callsLeft}
 
 -- whether a growth runs
 pub data Mode : Type 0 where
@@ -63,3 +63,25 @@ waiting t x = byMode (t .mode) false (t .copied x && not (t .recorded x))
 -- "the advance calls left, U + R - w, and 0 when not growing"
 unfoldable pub callsLeftOf : (t : Tally) → ℕ
 callsLeftOf t = byMode (t .mode) 0 (callsLeft (t .rows) (t .counts) (t .window) (t .copied))
+
+-- ---- what is left to copy
+
+-- a moving block of window w
+unfoldable pub movesNow : (t : Tally) (x : ℕ) → Bool
+movesNow t x = movingIn (t .rows) (t .counts) (t .window) x
+
+-- the spot that a copy of x is stored to: the new one
+unfoldable pub targetOf : (t : Tally) (x : ℕ) → Spot
+targetOf t x = spotOf (t .rows) (t .counts) x
+
+-- the block that the next advance copies, or none
+unfoldable pub nextBlock : (t : Tally) → Option ℕ
+nextBlock t = nextOfWindow (t .rows) (t .counts) (t .window) (t .copied)
+
+-- the copied blocks are "all moving blocks of window w"
+unfoldable pub windowFull : (t : Tally) → Bool
+windowFull t = allCopied (t .rows) (t .counts) (t .window) (t .copied)
+
+-- "at w = R the growth is finished": w is the last window
+unfoldable pub lastWindow : (t : Tally) → Bool
+lastWindow t = eqb (suc (t .window)) (windows (oldCount (t .counts)) (addedCount (t .counts)) (t .rows))

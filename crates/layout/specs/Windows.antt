@@ -1,13 +1,15 @@
 -- Document 01: the windows of a growth, the marks of their moving blocks, and the advance calls left. Assumes nothing.
 use Prim.Native.Nat.{ℕ, suc, _+_, _-_, _*_, _/_, _%_, min}
-use mathlib.Core.Bool.{Bool, false, cond, not, _&&_}
+use mathlib.Core.Bool.{Bool, false, cond, not, _&&_, _||_}
 use mathlib.Core.List.{List}
+use mathlib.Core.Option.{Option}
 use lib.Dec.{ltb, eqb}
 use lib.ListN.{getD}
+use Rattle.layout.specs.declared.Part.{Part}
 use Rattle.layout.specs.declared.Row.{Row}
 use Rattle.layout.specs.declared.Spot.{Spot}
-use Rattle.base.specs.Below.{count, sum}
-use Rattle.layout.specs.Growth.{rowInWindow, movesFrom}
+use Rattle.base.specs.Below.{count, every, lowest, sum}
+use Rattle.layout.specs.Growth.{partOf, rowInWindow, movesFrom}
 use Rattle.layout.specs.History.{earlier, oldCount, addedCount, spotOf, blockAt}
 
 -- ---- a growth from m disks by n
@@ -60,6 +62,18 @@ blockOfMark s h w j = blockAt s (earlier h) (spotOfMark (oldCount h) (addedCount
 -- a set of marks of window w, read as a set of blocks
 unfoldable pub markedBlocks : (s : ℕ) (h : List ℕ) (w : ℕ) (marks : List Bool) (x : ℕ) → Bool
 markedBlocks s h w marks x = movingIn s h w x && getD marks (markOf s h x) false
+
+-- "its head, body or tail", of a moving block
+unfoldable pub partMoved : (s : ℕ) (h : List ℕ) (x : ℕ) → Part
+partMoved s h x = partOf (oldCount h) (addedCount h) (rowInWindow (oldCount h) (addedCount h) (oldSpot s h x .row))
+
+-- "the block with the lowest mark among the moving blocks of window w not copied", or none
+unfoldable pub nextOfWindow : (s : ℕ) (h : List ℕ) (w : ℕ) (copied : ℕ → Bool) → Option ℕ
+nextOfWindow s h w copied = lowest (markOf s h) (λ x. movingIn s h w x && not (copied x)) (oldCount h * s)
+
+-- all moving blocks of window w are copied
+unfoldable pub allCopied : (s : ℕ) (h : List ℕ) (w : ℕ) (copied : ℕ → Bool) → Bool
+allCopied s h w copied = every (λ x. not (movingIn s h w x) || copied x) (oldCount h * s)
 
 -- the moving blocks of window w
 unfoldable pub movesOfWindow : (s : ℕ) (h : List ℕ) (w : ℕ) → ℕ

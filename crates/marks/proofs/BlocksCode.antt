@@ -37,7 +37,7 @@ history-before zero l o = absurd (omega arith)
 history-before (suc j) l o = let e : suc j - 1 ≡ j = omega arith in rw e
 
 module _ (s t : ℕ) (l : List ℕ) (a : Limits s (history t l)) (o : 0 < t) where
-  disks-before : diskCount (history (t - 1) l) ≡ oldCount (history t l)
+  pub disks-before : diskCount (history (t - 1) l) ≡ oldCount (history t l)
   unfolding oldCount
   disks-before = ap diskCount (history-before t l o)
 
@@ -64,13 +64,13 @@ pub record ReadGrowth (s t : ℕ) (l : List ℕ) (g : GrowthDisks) : Type 0 wher
   pub growth : g ≡ newestGrowth (history t l)
 
 module _ {s t : ℕ} {l : List ℕ} {g : GrowthDisks} (r : ReadGrowth s t l g) where
-  some-old : 0 < oldCount (history t l)
+  pub some-old : 0 < oldCount (history t l)
   some-old = newest-old s t l (r .grown) (r .limits)
 
   pub old-read : g .old ≡ oldCount (history t l)
   old-read = old-is s (history t l) (r .limits) some-old g (r .growth)
 
-  added-read : g .added ≡ addedCount (history t l)
+  pub added-read : g .added ≡ addedCount (history t l)
   added-read = added-is s (history t l) (r .limits) some-old g (r .growth)
 
   pub grows-read : Grows (g .old) (g .added)
@@ -99,7 +99,7 @@ module _ {s t : ℕ} {l : List ℕ} {g : GrowthDisks} (r : ReadGrowth s t l g) {
       let w = spots-and-blocks s (history (t - 1) l) (a .0 .rise) .spot-within x (a .1) in
       rw (e, old-read r, ← disks-before s t l (r .limits) (r .grown)) (w .disk)
 
-  spot-found : p ≡ oldSpot s (history t l) x
+  pub spot-found : p ≡ oldSpot s (history t l) x
   unfolding oldSpot
   spot-found = e ∙ ap (λ (k : List ℕ). spotOf s k x) (history-before t l (r .grown))
 

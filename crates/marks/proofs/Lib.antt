@@ -1,3 +1,4 @@
 pub mod BlocksCode
+pub mod CopiesCode
 pub mod MarkSets
 pub mod SetsCode

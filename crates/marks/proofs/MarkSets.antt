@@ -3,19 +3,21 @@ use Prim.Native.Nat.{ℕ, zero, suc, _*_, _<_}
 use mathlib.Core.Path.{_≡_, refl, sym, _∙_}
 use mathlib.Core.Bool.{Bool, true, false, not, _&&_, _||_}
 use mathlib.Core.List.{List}
+use native.Mathlib.Decide.{ℕ-discrete}
 use native.Mathlib.Omega.{arith}
 use lib.Dec.{eqb, ltb}
-use lib.ListN.{length, getD, getD-replicate, length-replicate}
-use lib.Seq.{ext-getD}
+use lib.ListN.{length, getD, set, getD-replicate, length-replicate}
+use lib.Seq.{getD-set-same, getD-set-other, ext-getD}
 use borrow.Author.Tests.{ltb-true, lt-ltb, eqb-true, eq-eqb}
 use Rattle.base.specs.Below.{every}
-use Rattle.base.proofs.Booleans.{and-left, and-right, and-both, clash, by-test}
+use Rattle.base.proofs.Booleans.{and-left, and-right, and-both, clash, by-test, same-test}
 use Rattle.base.proofs.Counting.{every-use, every-make}
 use Rattle.base.proofs.Lists.{length-table, getD-table}
 use Rattle.layout.specs.History.{oldCount, addedCount}
 use Rattle.layout.specs.Laws.{Marks}
 use Rattle.layout.specs.Limits.{Limits}
-use Rattle.layout.specs.Windows.{windows, rowExists, moving, windowOf, movingIn, markOf, blockOfMark, markedBlocks}
+use Rattle.layout.specs.Windows.{windows, rowExists, moving, windowOf, movingIn, markOf, blockOfMark, markedBlocks, allCopied}
+use Rattle.layout.proofs.NextBlocks.{all-copied-use, all-copied-make}
 use Rattle.layout.proofs.Theorems.{marks-and-blocks, marks-fit}
 use Rattle.marks.specs.Marks.{markCount, noMarks, within, movingMarks}
 
@@ -68,13 +70,37 @@ none-at j h = getD-replicate markCount j false false h
 pub none-within : (b : List Bool) → within noMarks b ≡ true
 none-within b = within-make noMarks b (λ j h e. clash e (none-at j h))
 
-pub within-none : (a : List Bool) → length a ≡ markCount → within a noMarks ≡ true → a ≡ noMarks
-unfolding noMarks
-within-none a l e =
-    ext-getD false a noMarks (l ∙ sym (length-replicate markCount false))
+-- two sets of marks that are within one another are one
+pub within-both : (a b : List Bool) → length a ≡ markCount → length b ≡ markCount → within a b ≡ true → within b a ≡ true → a ≡ b
+within-both a b k l e f =
+    ext-getD false a b (k ∙ sym l)
     (λ j h.
-    let k : j < markCount = rw l at h in
-    by-test (getD a j false) (λ t. clash (within-use a noMarks e j k t) (none-at j k)) (λ f. f ∙ sym (none-at j k)))
+    let i : j < markCount = rw k at h in
+    same-test (getD a j false) (getD b j false) (within-use a b e j i) (within-use b a f j i))
+
+pub none-length : length noMarks ≡ markCount
+unfolding noMarks
+none-length = length-replicate markCount false
+
+pub within-none : (a : List Bool) → length a ≡ markCount → within a noMarks ≡ true → a ≡ noMarks
+within-none a l e = within-both a noMarks l none-length e (none-within a)
+
+-- one mark more, in the set that is within and in the other
+pub set-within : (a b : List Bool) (i : ℕ) → within a b ≡ true → getD b i false ≡ true → within (set a i true) b ≡ true
+set-within a b i e f =
+    within-make (set a i true) b
+    (λ j h g. elim (ℕ-discrete j i) [
+      | yes q ↦ rw q f
+      | no q ↦ within-use a b e j h (sym (getD-set-other a i j true false q) ∙ g)
+    ])
+
+pub within-set : (a b : List Bool) (i : ℕ) → i < length b → within a b ≡ true → within a (set b i true) ≡ true
+within-set a b i k e =
+    within-make a (set b i true)
+    (λ j h g. elim (ℕ-discrete j i) [
+      | yes q ↦ rw q (getD-set-same b i true false k)
+      | no q ↦ getD-set-other b i j true false q ∙ within-use a b e j h g
+    ])
 
 -- ---- the marks of the moving blocks of window w
 
@@ -91,11 +117,11 @@ unfolding movingMarks
 moving-at m n s w j h = getD-table false (movingAt m n s w) markCount j h
 
 module _ (s : ℕ) (h : List ℕ) (l : Limits s h) (g : 0 < oldCount h) where
-  marks-law : Marks s h
+  pub marks-law : Marks s h
   marks-law = marks-and-blocks s h (l .rise) g
 
   -- a moving block of the window has one of them
-  its-mark : (w x : ℕ) → movingIn s h w x ≡ true
+  pub its-mark : (w x : ℕ) → movingIn s h w x ≡ true
       → (markOf s h x < markCount) × (getD (movingMarks (oldCount h) (addedCount h) s w) (markOf s h x) false ≡ true)
   unfolding movingIn
   its-mark w x e =
@@ -105,6 +131,13 @@ module _ (s : ℕ) (h : List ℕ) (l : Limits s h) (g : 0 < oldCount h) where
       let k : markOf s h x < markCount = omega (arith, below, marks-fit s h l g) in
       let there = and-both (lt-ltb (markOf s h x) (oldCount h * addedCount h) below) (rw win at (marks-law .mark-row x mv)) in
       (k, moving-at (oldCount h) (addedCount h) s w (markOf s h x) k ∙ there)
+
+  -- where a set of marks is within another, the blocks of the one are among those of the other
+  pub marked-within : (w : ℕ) (a b : List Bool) → within a b ≡ true → (x : ℕ) → markedBlocks s h w a x ≡ true → markedBlocks s h w b x ≡ true
+  unfolding markedBlocks
+  marked-within w a b e x f =
+      let m = and-left (movingIn s h w x) (getD a (markOf s h x) false) f in
+      and-both m (within-use a b e (markOf s h x) (its-mark w x m .0) (and-right (movingIn s h w x) (getD a (markOf s h x) false) f))
 
   -- where all of them are set, each moving block of the window is marked
   pub all-marked : (w : ℕ) (marks : List Bool) → within (movingMarks (oldCount h) (addedCount h) s w) marks ≡ true
@@ -127,6 +160,15 @@ module _ (s : ℕ) (h : List ℕ) (l : Limits s h) (g : 0 < oldCount h) where
       let x = blockOfMark s h w j in
       let f : (moving s h x && eqb (windowOf s h x) w) ≡ true = and-both (b .0) (eq-eqb (windowOf s h x) w (b .1)) in
       (x, f, rw (f, b .2, r .3))
+
+  -- all of them are set exactly where all moving blocks of the window are marked
+  pub all-by-marks : (w : ℕ) (marks : List Bool)
+      → within (movingMarks (oldCount h) (addedCount h) s w) marks ≡ allCopied s h w (markedBlocks s h w marks)
+  all-by-marks w marks =
+      let copied : ℕ → Bool = markedBlocks s h w marks in
+      same-test _ _ (λ e. all-copied-make s h w copied (all-marked w marks e))
+      (λ e. by-test (within (movingMarks (oldCount h) (addedCount h) s w) marks) (λ t. t)
+      (λ f. let r = one-unmarked w marks f in clash (all-copied-use s h w copied e (r .0) (r .1)) (r .2)))
 
   -- a window of the growth has some of them
   pub some-moving : (w : ℕ) → w < windows (oldCount h) (addedCount h) s → within (movingMarks (oldCount h) (addedCount h) s w) noMarks ≡ false

@@ -5,12 +5,14 @@ use mathlib.Core.List.{List}
 use mathlib.Core.Option.{Option, none, some}
 use lib.Dec.{eqb, leb, ltb}
 use lib.ListN.{getD, replicate}
-use Rattle.base.specs.Below.{every, table}
-use Rattle.layout.specs.Windows.{rowExists, oldSpot, moving}
+use Rattle.base.specs.Below.{every, first, table}
+use Rattle.layout.specs.Windows.{rowExists, oldSpot, moving, partMoved}
 use Rattle.marks.specs.declared.OldSpot.{OldSpot}
 use Rattle.marks.specs.declared.OldSpot.the-variants.{Moving, NotMoving}
 use Rattle.marks.specs.declared.LiveBlock.{LiveBlock}
 use Rattle.marks.specs.declared.LiveBlock.the-variants.{Lives, Nothing}
+use Rattle.marks.specs.declared.NextCopy.{NextCopy}
+use Rattle.marks.specs.declared.NextCopy.the-variants.{CopyOf, AllCopied}
 
 -- "two sets of 64 marks"
 abbrev pub markCount : ℕ
@@ -39,3 +41,12 @@ movingFrom s h x = cond (moving s h x) (Moving (oldSpot s h x)) NotMoving
 unfoldable pub asLiveBlock : (found : Option ℕ) → LiveBlock
 asLiveBlock none = Nothing
 asLiveBlock (some x) = Lives (record { 0 = x })
+
+-- "the lowest unset copied mark of window w", or m·n
+unfoldable pub firstUnmarked : (m n s w : ℕ) (marks : List Bool) → ℕ
+firstUnmarked m n s w marks = first (λ j. rowExists m n s w j && not (getD marks j false)) (m * n)
+
+-- the block to copy next with its part, or none, as the code answers it
+unfoldable pub asNextCopy : (s : ℕ) (h : List ℕ) (found : Option ℕ) → NextCopy
+asNextCopy s h none = AllCopied
+asNextCopy s h (some x) = CopyOf (record { 0 = x }) (partMoved s h x)

@@ -13,7 +13,7 @@ use layout::Block;
 use layout::Spot;
 
 // Where x moves from in the newest growth.
-fn moving_from(counts: [usize; 8], t: usize, s: usize, x: Block) -> OldSpot
+pub(crate) fn moving_from(counts: [usize; 8], t: usize, s: usize, x: Block) -> OldSpot
     requires { ⌜ Limits s (history t counts) ⌝ }
     requires { ⌜ 0 < t ⌝ }
     ensures { λ r. ⌜ r ≡ movingFrom s (history t counts) (x .0) ⌝ }

@@ -4,13 +4,19 @@
 // The functions here serve the crates above and are not offered to others: their `requires` are the
 // limits of a sound volume.
 mod blocks;
+mod copies;
 mod sets;
 
 pub use blocks::at_new_spot;
 pub use blocks::is_marked;
 pub use blocks::live_block;
 pub use blocks::live_spot;
+pub use copies::all_copied;
+pub use copies::moves_now;
+pub use copies::next_copy;
+pub use copies::with_mark;
 use layout::Block;
+use layout::Part;
 use layout::Spot;
 pub use sets::counts_rise;
 pub use sets::is_within;
@@ -27,4 +33,10 @@ enum OldSpot {
 pub enum LiveBlock {
     Lives(Block),
     Nothing,
+}
+
+// The block of window w to copy next, with its part, or that all are copied.
+pub enum NextCopy {
+    CopyOf(Block, Part),
+    AllCopied,
 }

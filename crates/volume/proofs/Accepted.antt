@@ -3,6 +3,7 @@ use Prim.Native.Nat.{ℕ, _≤_, _<_}
 use mathlib.Core.Path.{_≡_, refl}
 use mathlib.Core.Bool.{Bool, true, false, not}
 use mathlib.Core.List.{List, [], _∷_}
+use mathlib.Core.Logic.{_≢_}
 use mathlib.Core.Option.{Option, none, some}
 use native.Mathlib.Omega.{arith}
 use lib.Dec.{eqb, leb, ltb}
@@ -13,11 +14,12 @@ use Rattle.base.proofs.Refusals.{passed}
 use Rattle.layout.specs.declared.Spot.{Spot}
 use Rattle.layout.specs.History.{Within}
 use Rattle.layout.specs.Limits.{mostDisks, mostGrowths}
-use Rattle.layout.specs.Tally.{openBlocks, liveBlockOf, waiting}
+use Rattle.layout.specs.Tally.{openBlocks, liveBlockOf, waiting, movesNow}
+use Rattle.marks.specs.Marks.{within}
 use Rattle.medium.specs.declared.Geometry.{Geometry}
 use Rattle.medium.specs.Medium.{recordBytes, bytesNeeded, Observations}
 use Rattle.volume.specs.declared.Volume.{Volume}
-use Rattle.volume.specs.Calls.{tooShort, formatTable, restartTable, growTable, writeTable, readTable, addressTable, holderTable, isNone}
+use Rattle.volume.specs.Calls.{tooShort, formatTable, restartTable, growTable, writeTable, readTable, copyTable, checkpointTable, advanceTable, addressTable, holderTable, isNone}
 use Rattle.volume.specs.Records.{stateRead, isSoundRecord}
 use Rattle.volume.specs.Sound.{sizeHolds, rowsHold, disksHold, sound}
 use Rattle.volume.specs.States.{geometry, historyOf, disks, tallyOf}
@@ -134,6 +136,53 @@ unfolding writeTable
 write-accepted v x n len e =
     let a = read-tests v x n len ((7, waiting (tallyOf v) x) ∷ []) e in
     (a .0, passed 7 (waiting (tallyOf v) x) [] (omega arith) (a .1) .0)
+
+-- ---- copy, checkpoint and advance
+
+pub record AdvanceFacts (v : Volume) (len : ℕ) : Type 0 where
+  pub is-sound : sound v ≡ true
+  pub room : bytesNeeded (geometry v) (disks v) ≤ len
+  pub is-growing : v .growing ≢ 0
+
+pub record CopyFacts (v : Volume) (x len : ℕ) : Type 0 where
+  pub advances : AdvanceFacts v len
+  pub block-open : x < openBlocks (tallyOf v)
+  pub moves : movesNow (tallyOf v) x ≡ true
+  pub not-copied : tallyOf v .copied x ≡ false
+
+abbrev afterGrowing : (v : Volume) (len : ℕ) (table : List (ℕ × Bool)) → List (ℕ × Bool)
+afterGrowing v len table = (1, not (sound v)) ∷ (2, tooShort (geometry v) (disks v) len) ∷ (5, eqb (v .growing) 0) ∷ table
+
+-- the tests of an advance, whatever comes after them
+advance-tests : (v : Volume) (len : ℕ) (table : List (ℕ × Bool)) → refusal (afterGrowing v len table) ≡ 0 → AdvanceFacts v len × (refusal table ≡ 0)
+advance-tests v len table e =
+    let a = held 1 (sound v) _ (omega arith) e in
+    let b = passed 2 (tooShort (geometry v) (disks v) len) _ (omega arith) (a .1) in
+    let c = passed 5 (eqb (v .growing) 0) table (omega arith) (b .1) in (
+      record { is-sound = a .0; room = long-enough (geometry v) (disks v) len (b .0); is-growing = eqb-false (v .growing) 0 (c .0) },
+      c .1,
+    )
+
+pub advance-accepted : (v : Volume) (len : ℕ) → refusal (advanceTable v len) ≡ 0 → AdvanceFacts v len
+unfolding advanceTable
+advance-accepted v len e = advance-tests v len [] e .0
+
+pub checkpoint-accepted : (v : Volume) (len : ℕ) → refusal (checkpointTable v len) ≡ 0
+    → AdvanceFacts v len × (within (v .copied) (v .recorded) ≡ false)
+unfolding checkpointTable
+checkpoint-accepted v len e =
+    let a = advance-tests v len ((12, within (v .copied) (v .recorded)) ∷ []) e in
+    (a .0, passed 12 (within (v .copied) (v .recorded)) [] (omega arith) (a .1) .0)
+
+pub copy-accepted : (v : Volume) (x len : ℕ) → refusal (copyTable v x len) ≡ 0 → CopyFacts v x len
+unfolding copyTable
+copy-accepted v x len e =
+    let t = tallyOf v in
+    let a = advance-tests v len ((3, leb (openBlocks t) x) ∷ (10, not (movesNow t x)) ∷ (11, t .copied x) ∷ []) e in
+    let b = passed 3 (leb (openBlocks t) x) _ (omega arith) (a .1) in
+    let c = held 10 (movesNow t x) _ (omega arith) (b .1) in
+    let d = passed 11 (t .copied x) [] (omega arith) (c .1) in
+    record { advances = a .0; block-open = leb-false (openBlocks t) x (b .0); moves = c .0; not-copied = d .0 }
 
 -- ---- address and holder
 

@@ -6,6 +6,7 @@ pub mod StatesSound
 pub mod Judged
 pub mod RefusalLaws
 pub mod LookUpLaws
+pub mod CopyLaws
 pub mod ByteBounds
 pub mod StoresFit
 pub mod Theorems
@@ -14,3 +15,4 @@ pub mod LiveCode
 pub mod CallsCode
 pub mod BlockCode
 pub mod HolderCode
+pub mod GrowthCode

@@ -31,7 +31,7 @@ use Rattle.volume.proofs.ByteBounds.{bytes-bound}
 use Rattle.volume.proofs.SoundLaws.{sound-facts}
 
 -- the history as the lower crates have it, and before the newest growth
-abbrev countsNow : (v : Volume) → List ℕ
+abbrev pub countsNow : (v : Volume) → List ℕ
 countsNow v = history (v .growths) (v .counts)
 
 abbrev countsBefore : (v : Volume) → List ℕ

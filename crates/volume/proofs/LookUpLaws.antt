@@ -15,7 +15,6 @@ use Rattle.layout.specs.declared.Spot.{Spot}
 use Rattle.layout.specs.History.{Within}
 use Rattle.layout.specs.Laws.{LookUps}
 use Rattle.layout.specs.Tally.{notGrowing, growing, openBlocks, liveSpotOf, liveBlockOf, liveReasonOf}
-use Rattle.layout.proofs.HistoryCode.{newest-old}
 use Rattle.layout.proofs.Theorems as layout
 use Rattle.medium.specs.Medium.{bytesNeeded, Inside}
 use Rattle.medium.proofs.Theorems.{medium-laws}
@@ -28,7 +27,7 @@ use Rattle.volume.specs.States.{geometry, historyOf, disks, modeOf, tall
 use Rattle.volume.proofs.Accepted.{address-accepted, holder-accepted}
 use Rattle.volume.proofs.Judged.{refused-when, accepted-when}
 use Rattle.volume.proofs.RefusalLaws.{address-refuses, holder-refuses}
-use Rattle.volume.proofs.SoundLaws.{sound-facts}
+use Rattle.volume.proofs.SoundLaws.{sound-facts, some-old}
 
 -- the mode of a state that grows
 growing-number : (g : ℕ) → modeOf g ≡ growing → eqb g 0 ≡ false
@@ -42,11 +41,8 @@ growing-number g e = by (eqb g 0) e
 pub look-ups-of : (v : Volume) → sound v ≡ true → LookUps (tallyOf v)
 unfolding tallyOf historyOf
 look-ups-of v e =
-    let f = sound-facts v e in
-    layout.look-ups (tallyOf v) (f .limits .rise)
-    (λ m.
-    let g = f .while-growing (eqb-false (v .growing) 0 (growing-number (v .growing) m)) in
-    newest-old (v .rows) (v .growths) (v .counts) (g .has-growth) (f .limits))
+    layout.look-ups (tallyOf v) (sound-facts v e .limits .rise)
+    (λ m. some-old v e (eqb-false (v .growing) 0 (growing-number (v .growing) m)))
 
 pub live-inside : (v : Volume) (x len : ℕ) → sound v ≡ true → x < openBlocks (tallyOf v) → bytesNeeded (geometry v) (disks v) ≤ len
     → Inside (geometry v) len (liveSpotOf (tallyOf v) x)

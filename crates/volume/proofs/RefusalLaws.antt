@@ -5,10 +5,12 @@ use mathlib.Core.Path.{_≡_, refl, sym, _∙_}
 use mathlib.Core.Bool.{Bool}
 use mathlib.Core.List.{List, []}
 use mathlib.Core.Logic.{_≢_}
+use mathlib.Core.Option.{Option, none, some}
 use lib.ListN.{length}
 use Rattle.base.specs.Refusals.{refusal}
 use Rattle.layout.specs.declared.Spot.{Spot}
 use Rattle.layout.specs.Reasons.{growthTold}
+use Rattle.layout.specs.Tally.{nextBlock}
 use Rattle.medium.specs.Medium.{Observations}
 use Rattle.volume.specs.declared.Volume.{Volume}
 use Rattle.volume.specs.declared.AddressAnswer.the-variants as address
@@ -16,9 +18,9 @@ use Rattle.volume.specs.declared.AddressReply.{AddressReply}
 use Rattle.volume.specs.declared.HolderAnswer.the-variants as holder
 use Rattle.volume.specs.declared.HolderReply.{HolderReply}
 use Rattle.volume.specs.Answers.{number, callsTold, addressNumber, spotTold, reasonTold, holderNumber, blockTold}
-use Rattle.volume.specs.Calls.{Outcome, refused, reporting, judged, formatTable, formatOutcome, restartTable, restartOutcome, growTable, growOutcome, writeTable, writeOutcome, readTable, readOutcome, addressTable, addressReply, holderTable, holderReply}
+use Rattle.volume.specs.Calls.{Outcome, refused, reporting, telling, judged, formatTable, formatOutcome, restartTable, restartOutcome, growTable, growOutcome, writeTable, writeOutcome, readTable, readOutcome, copyTable, copyOutcome, checkpointTable, checkpointOutcome, advanceTable, advancing, advanceOutcome, addressTable, addressReply, holderTable, holderReply}
 use Rattle.volume.specs.Laws.{Refuses, AddressRefuses, HolderRefuses}
-use Rattle.volume.specs.States.{zeros}
+use Rattle.volume.specs.States.{tallyOf, zeros}
 use Rattle.volume.proofs.Judged.{judged-cases}
 
 judged-refuses : (table : List (ℕ × Bool)) (v : Volume) (piece : List ℕ) (accepted : Outcome) → number (accepted .reply .answer) ≡ 0
@@ -64,6 +66,25 @@ pub read-refuses : (v : Volume) (x : ℕ) (piece : List ℕ) (o : Observations)
     → Refuses (readTable v x (length piece) (o .byteCount)) v piece (readOutcome v x piece o)
 unfolding readOutcome number
 read-refuses v x piece o = judged-refuses (readTable v x (length piece) (o .byteCount)) v piece _ refl
+
+pub copy-refuses : (v : Volume) (x : ℕ) (o : Observations) → Refuses (copyTable v x (o .byteCount)) v [] (copyOutcome v x o)
+unfolding copyOutcome reporting number
+copy-refuses v x o = judged-refuses (copyTable v x (o .byteCount)) v [] _ refl
+
+pub checkpoint-refuses : (v : Volume) (o : Observations) → Refuses (checkpointTable v (o .byteCount)) v [] (checkpointOutcome v o)
+unfolding checkpointOutcome reporting number
+checkpoint-refuses v o = judged-refuses (checkpointTable v (o .byteCount)) v [] _ refl
+
+-- an advance that is accepted, whatever it does
+advancing-told : (v : Volume) (next : Option ℕ) (o : Observations) → number (advancing v next o .reply .answer) ≡ 0
+unfolding advancing telling number
+advancing-told v none o = refl
+advancing-told v (some x) o = refl
+
+pub advance-refuses : (v : Volume) (o : Observations) → Refuses (advanceTable v (o .byteCount)) v [] (advanceOutcome v o)
+unfolding advanceOutcome
+advance-refuses v o =
+    judged-refuses (advanceTable v (o .byteCount)) v [] (advancing v (nextBlock (tallyOf v)) o) (advancing-told v (nextBlock (tallyOf v)) o)
 
 module _ (v : Volume) (x : ℕ) where
   abbrev no-address : ℕ → AddressReply

@@ -3,6 +3,7 @@ use Prim.Native.Nat.{ℕ, _%_, _≤_, _<_}
 use mathlib.Core.Path.{_≡_, refl, ap}
 use mathlib.Core.Bool.{Bool, true, false, not, _&&_, _||_}
 use mathlib.Core.List.{List}
+use mathlib.Core.Logic.{_≢_}
 use native.Mathlib.Omega.{arith}
 use lib.Dec.{eqb, leb, ltb}
 use lib.ListN.{length, getD}
@@ -222,6 +223,11 @@ module _ (v : Volume) (e : sound v ≡ true) where
             growth-use v l (eqb-true (v .growing) 1 (and-left (eqb (v .growing) 1) (growthHolds v) s))
             (and-right (eqb (v .growing) 1) (growthHolds v) s);
       }
+
+  -- a growth that runs has old disks
+  pub some-old : v .growing ≢ 0 → 0 < oldCount (historyOf v)
+  unfolding historyOf
+  some-old runs = newest-old (v .rows) (v .growths) (v .counts) (sound-facts .while-growing runs .has-growth) (sound-facts .limits)
 
 pub facts-sound : (v : Volume) → SoundFacts v → sound v ≡ true
 unfolding sound lengthsHold stageHolds

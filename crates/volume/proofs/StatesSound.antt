@@ -1,36 +1,36 @@
--- The states that format, restart and grow hand back are sound. Assumes nothing.
+-- The states that accepted calls hand back are sound. Assumes nothing.
 use Prim.Native.Nat.{ℕ, zero, suc, _≤_, _<_}
 use mathlib.Core.Path.{_≡_, refl, _∙_}
-use mathlib.Core.Bool.{true, false}
+use mathlib.Core.Bool.{Bool, true, false}
 use mathlib.Core.List.{List}
+use mathlib.Core.Logic.{_≢_}
 use native.Mathlib.Nat.{zero-div}
 use native.Mathlib.Numerals.{add-one}
 use native.Mathlib.Omega.{arith}
 use lib.ListN.{length, getD, set, replicate, getD-replicate, length-replicate, length-set}
 use lib.Seq.{getD-set-same, getD-set-other}
+use borrow.Author.Tests.{eqb-false}
 use Rattle.base.specs.Refusals.{refusal}
+use Rattle.base.proofs.Booleans.{cond-cases}
 use Rattle.layout.specs.History.{history, rising, oldCount, addedCount}
 use Rattle.layout.specs.Limits.{Limits, mostDisks, mostGrowths, mostRows}
-use Rattle.layout.specs.Windows.{windows, movingIn, markedBlocks}
+use Rattle.layout.specs.Tally.{movesNow, windowFull, lastWindow}
+use Rattle.layout.specs.Windows.{windows, movingIn, markOf, markedBlocks}
 use Rattle.layout.proofs.HistoryCode.{history-disks, rising-first, rising-more, limits-made, newest-old}
 use Rattle.layout.proofs.MarkSpots.{row-window}
 use Rattle.layout.proofs.Theorems.{some-added}
-use Rattle.marks.specs.Marks.{markCount, noMarks}
-use Rattle.marks.proofs.MarkSets.{none-within, one-unmarked, some-moving}
+use Rattle.marks.specs.Marks.{markCount, noMarks, within}
+use Rattle.marks.proofs.MarkSets.{within-self, none-within, none-length, set-within, within-set, its-mark, one-unmarked, all-by-marks, some-moving}
 use Rattle.medium.specs.Medium.{Observations}
 use Rattle.volume.specs.declared.Volume.{Volume}
 use Rattle.volume.specs.Calls.{formatTable, restartTable, growTable}
-use Rattle.volume.specs.Laws.{SoundFacts}
+use Rattle.volume.specs.Laws.{RestFacts, GrowthFacts, SoundFacts}
 use Rattle.volume.specs.Records.{stateRead}
-use Rattle.volume.specs.Sound.{rowsHold, disksHold, sound}
-use Rattle.volume.specs.States.{historyOf, disks, tallyOf, newState, withGrowth, grown}
+use Rattle.volume.specs.Sound.{rowsHold, disksHold, movingOf, sound}
+use Rattle.volume.specs.States.{historyOf, disks, tallyOf, newState, withGrowth, grown, inStage, withCopy, checkpointed}
 use Rattle.volume.proofs.Accepted.{GrowFacts, format-accepted, restart-accepted, grow-accepted}
 use Rattle.volume.proofs.RecordLaws.{read-sound}
-use Rattle.volume.proofs.SoundLaws.{SizeFacts, size-facts, from-one, sound-facts, facts-sound}
-
-none-length : length noMarks ≡ markCount
-unfolding noMarks
-none-length = length-replicate markCount false
+use Rattle.volume.proofs.SoundLaws.{SizeFacts, size-facts, from-one, sound-facts, some-old, facts-sound}
 
 -- ---- format
 
@@ -71,7 +71,7 @@ restart-sound o e = read-sound (o .sector) (restart-accepted o e .is-record)
 -- ---- grow
 
 -- a history is that of the counts up to the newest
-history-same : (t : ℕ) (a b : List ℕ) → ((i : ℕ) → i ≤ t → getD a i 0 ≡ getD b i 0) → history t a ≡ history t b
+pub history-same : (t : ℕ) (a b : List ℕ) → ((i : ℕ) → i ≤ t → getD a i 0 ≡ getD b i 0) → history t a ≡ history t b
 unfolding history
 history-same zero a b f = rw (f 0 (omega arith))
 history-same (suc t) a b f = rw (f (suc t) (omega arith), history-same t a b (λ i h. f i (omega arith)))
@@ -98,17 +98,27 @@ module _ (s t : ℕ) (l : List ℕ) (count : ℕ) (a : Limits s (history t l)) (
   more-limits =
       limits-made s (suc t) (suc t) moreCounts (a .rows-least) (a .rows-most) few (omega arith) (omega arith) rises-on (omega (arith, new-count))
 
--- a growth that has moved nothing yet
-module _ (s t : ℕ) (l : List ℕ) (a : Limits s (history t l)) (some : 0 < t) where
-  some-old : 0 < oldCount (history t l)
-  some-old = newest-old s t l some a
+-- a window that nothing has been copied in yet
+window-starts : (v : Volume) (t : ℕ) (l : List ℕ) (stage w : ℕ) → Limits (v .rows) (history t l) → stage ≡ 1 → 0 < t
+    → w < windows (oldCount (history t l)) (addedCount (history t l)) (v .rows) → GrowthFacts (withGrowth v t l stage w noMarks noMarks)
+unfolding withGrowth historyOf tallyOf
+window-starts v t l stage w a one some below =
+    let old = newest-old (v .rows) t l some a in
+    record {
+      growing-one = one;
+      has-growth = some;
+      window-below = below;
+      recorded-copied = none-within noMarks;
+      copied-moving = none-within _;
+      one-unrecorded = one-unmarked (v .rows) (history t l) a old w noMarks (some-moving (v .rows) (history t l) a old w below);
+    }
 
-  first-window : 0 < windows (oldCount (history t l)) (addedCount (history t l)) s
-  first-window =
-      rw zero-div at (row-window (oldCount (history t l)) (addedCount (history t l)) some-old (some-added s (history t l) (a .rise) some-old) s 0 (a .rows-least))
-
-  none-moved : (x : ℕ) × (movingIn s (history t l) 0 x ≡ true) × (markedBlocks s (history t l) 0 noMarks x ≡ false)
-  none-moved = one-unmarked s (history t l) a some-old 0 noMarks (some-moving s (history t l) a some-old 0 first-window)
+first-window : (s t : ℕ) (l : List ℕ) → Limits s (history t l) → 0 < t → 0 < windows (oldCount (history t l)) (addedCount (history t l)) s
+first-window s t l a some =
+    let m = oldCount (history t l) in
+    let n = addedCount (history t l) in
+    let old : 0 < oldCount (history t l) = newest-old s t l some a in
+    rw zero-div at (row-window m n old (some-added s (history t l) (a .rise) old) s 0 (a .rows-least))
 
 grown-facts : (v : Volume) (count len : ℕ) → GrowFacts v count len → SoundFacts (grown v count)
 unfolding grown withGrowth historyOf disks tallyOf
@@ -128,16 +138,108 @@ grown-facts v count len f =
       limits = l;
       zeros-after = λ i h k. getD-set-other (v .counts) (suc t) i count 0 (λ e. omega arith) ∙ g .zeros-after i h (omega arith);
       at-rest = λ e. absurd (omega arith);
-      while-growing = λ e.
-          record {
-            growing-one = refl;
-            has-growth = omega arith;
-            window-below = first-window (v .rows) (suc t) more l (omega arith);
-            recorded-copied = none-within noMarks;
-            copied-moving = none-within _;
-            one-unrecorded = none-moved (v .rows) (suc t) more l (omega arith);
-          };
+      while-growing = λ e. window-starts v (suc t) more 1 0 l refl (omega arith) (first-window (v .rows) (suc t) more l (omega arith));
     }
 
 pub grown-sound : (v : Volume) (count byteCount : ℕ) → refusal (growTable v count byteCount) ≡ 0 → sound (grown v count) ≡ true
 grown-sound v count byteCount e = facts-sound (grown v count) (grown-facts v count byteCount (grow-accepted v count byteCount e))
+
+-- ---- copy and checkpoint
+
+-- the same history, in a stage that is sound
+staged-sound : (v : Volume) (stage w : ℕ) (recorded copied : List Bool) → SoundFacts v → length recorded ≡ markCount → length copied ≡ markCount
+    → (stage ≡ 0 → RestFacts (inStage v stage w recorded copied)) → (stage ≢ 0 → GrowthFacts (inStage v stage w recorded copied))
+    → sound (inStage v stage w recorded copied) ≡ true
+unfolding withGrowth historyOf
+staged-sound v stage w recorded copied f a b rest growth =
+    facts-sound (inStage v stage w recorded copied)
+    (record {
+      counts-length = f .counts-length;
+      recorded-length = a;
+      copied-length = b;
+      size-least = f .size-least;
+      size-most = f .size-most;
+      size-steps = f .size-steps;
+      limits = f .limits;
+      zeros-after = f .zeros-after;
+      at-rest = rest;
+      while-growing = growth;
+    })
+
+module _ (v : Volume) (e : sound v ≡ true) (runs : v .growing ≢ 0) where
+  facts : SoundFacts v
+  facts = sound-facts v e
+
+  growth : GrowthFacts v
+  growth = facts .while-growing runs
+
+  old : 0 < oldCount (historyOf v)
+  old = some-old v e runs
+
+  -- the same window with other marks
+  with-marks : (recorded copied : List Bool) → length recorded ≡ markCount → length copied ≡ markCount → within recorded copied ≡ true
+      → within copied (movingOf v) ≡ true
+      → (x : ℕ) × (movingIn (v .rows) (historyOf v) (v .window) x ≡ true) × (markedBlocks (v .rows) (historyOf v) (v .window) recorded x ≡ false)
+      → sound (inStage v (v .growing) (v .window) recorded copied) ≡ true
+  unfolding withGrowth tallyOf historyOf movingOf
+  with-marks recorded copied a b inside moving left =
+      staged-sound v (v .growing) (v .window) recorded copied facts a b (λ z. absurd (runs z))
+      (λ _.
+      record {
+        growing-one = growth .growing-one;
+        has-growth = growth .has-growth;
+        window-below = growth .window-below;
+        recorded-copied = inside;
+        copied-moving = moving;
+        one-unrecorded = left;
+      })
+
+  with-copy : (x : ℕ) → movesNow (tallyOf v) x ≡ true → sound (withCopy v x) ≡ true
+  unfolding withCopy tallyOf movesNow movingOf
+  with-copy x m =
+      let j = markOf (v .rows) (historyOf v) x in
+      let mark = its-mark (v .rows) (historyOf v) (facts .limits) old (v .window) x m in
+      with-marks (v .recorded) (set (v .copied) j true) (facts .recorded-length) (length-set (v .copied) j true ∙ facts .copied-length)
+      (within-set (v .recorded) (v .copied) j (omega (arith, mark .0, facts .copied-length)) (growth .recorded-copied))
+      (set-within (v .copied) (movingOf v) j (growth .copied-moving) (mark .1)) (growth .one-unrecorded)
+
+  -- a window that is not full has a block to copy
+  one-uncopied : windowFull (tallyOf v) ≡ false
+      → (x : ℕ) × (movingIn (v .rows) (historyOf v) (v .window) x ≡ true) × (tallyOf v .copied x ≡ false)
+  unfolding tallyOf windowFull
+  one-uncopied not-full =
+      let full = all-by-marks (v .rows) (historyOf v) (facts .limits) old (v .window) (v .copied) in
+      one-unmarked (v .rows) (historyOf v) (facts .limits) old (v .window) (v .copied) (full ∙ not-full)
+
+  -- the three states that a checkpoint may hand back
+  recorded-on : windowFull (tallyOf v) ≡ false → sound (inStage v (v .growing) (v .window) (v .copied) (v .copied)) ≡ true
+  unfolding tallyOf
+  recorded-on not-full =
+      with-marks (v .copied) (v .copied) (facts .copied-length) (facts .copied-length) (within-self (v .copied)) (growth .copied-moving)
+      (one-uncopied not-full)
+
+  next-window : lastWindow (tallyOf v) ≡ false → sound (inStage v (v .growing) (suc (v .window)) noMarks noMarks) ≡ true
+  unfolding lastWindow tallyOf historyOf
+  next-window not-last =
+      let end = windows (oldCount (historyOf v)) (addedCount (historyOf v)) (v .rows) in
+      staged-sound v (v .growing) (suc (v .window)) noMarks noMarks facts none-length none-length (λ z. absurd (runs z))
+      (λ _.
+      window-starts v (v .growths) (v .counts) (v .growing) (suc (v .window)) (facts .limits) (growth .growing-one) (growth .has-growth)
+      (omega (arith, growth .window-below, eqb-false (suc (v .window)) end not-last)))
+
+  finished : sound (inStage v 0 0 noMarks noMarks) ≡ true
+  unfolding withGrowth
+  finished =
+      staged-sound v 0 0 noMarks noMarks facts none-length none-length
+      (λ _. record { window-zero = refl; none-recorded = refl; none-copied = refl })
+      (λ f. absurd (f refl))
+
+  pub checkpointed-sound : sound (checkpointed v) ≡ true
+  unfolding checkpointed
+  checkpointed-sound =
+      cond-cases (λ u. sound u ≡ true) (windowFull (tallyOf v))
+      (λ _. cond-cases (λ u. sound u ≡ true) (lastWindow (tallyOf v)) (λ _. finished) next-window)
+      recorded-on
+
+pub copied-sound : (v : Volume) (x : ℕ) → sound v ≡ true → v .growing ≢ 0 → movesNow (tallyOf v) x ≡ true → sound (withCopy v x) ≡ true
+copied-sound v x e runs = with-copy v e runs x

@@ -1,21 +1,34 @@
--- What format, grow and write store lies in the medium. Assumes nothing.
-use Prim.Native.Nat.{ℕ, _≤_}
-use mathlib.Core.Path.{_≡_}
-use mathlib.Core.Bool.{Bool}
+-- What calls store lies in the medium. Assumes nothing.
+use Prim.Native.Nat.{ℕ, _*_, _≤_}
+use mathlib.Core.Path.{_≡_, refl}
+use mathlib.Core.Bool.{Bool, true}
 use mathlib.Core.List.{List, []}
-use lib.ListN.{length}
+use mathlib.Core.Logic.{_≢_}
+use mathlib.Core.Option.{Option, none, some}
+use native.Mathlib.Nat.{mul-le-mul-right}
+use native.Mathlib.Omega.{arith}
+use lib.ListN.{length, length-take, length-drop}
 use Rattle.base.specs.Refusals.{refusal}
+use Rattle.layout.specs.declared.Spot.{Spot}
+use Rattle.layout.specs.History.{diskCount, oldCount, spotOf}
+use Rattle.layout.specs.Tally.{liveSpotOf, movesNow, targetOf, nextBlock}
+use Rattle.layout.proofs.NextBlocks.{moving-in-old}
+use Rattle.layout.proofs.Theorems.{spots-and-blocks, disks-sum}
 use Rattle.medium.specs.declared.Geometry.{Geometry}
-use Rattle.medium.specs.Medium.{bytesNeeded, Observations, recordStore, StoreFits}
+use Rattle.medium.specs.Medium.{bytesNeeded, Observations, observe, recordStore, Inside, StoreFits}
+use Rattle.medium.proofs.Theorems.{medium-laws}
 use Rattle.volume.specs.declared.Volume.{Volume}
-use Rattle.volume.specs.Calls.{Outcome, refused, reporting, judged, formatTable, formatOutcome, growTable, growOutcome, writeTable, writeOutcome}
+use Rattle.volume.specs.Calls.{Outcome, refused, reporting, telling, judged, formatTable, formatOutcome, growTable, growOutcome, writeTable, writeOutcome, copyTable, copyStore, copyOutcome, checkpointTable, checkpointStore, checkpointOutcome, advanceTable, advancing, advanceOutcome}
 use Rattle.volume.specs.Records.{recordOf}
-use Rattle.volume.specs.States.{geometry, newState, zeros, grown}
-use Rattle.volume.proofs.Accepted.{format-accepted, grow-accepted, write-accepted}
+use Rattle.volume.specs.Sound.{sound}
+use Rattle.volume.specs.States.{geometry, historyOf, disks, tallyOf, newState, zeros, grown, checkpointed}
+use Rattle.volume.proofs.Accepted.{AdvanceFacts, CopyFacts, format-accepted, grow-accepted, write-accepted, copy-accepted, checkpoint-accepted, advance-accepted}
 use Rattle.volume.proofs.ByteBounds.{record-room}
+use Rattle.volume.proofs.CopyLaws.{next-facts}
 use Rattle.volume.proofs.Judged.{judged-cases}
 use Rattle.volume.proofs.LookUpLaws.{live-inside}
 use Rattle.volume.proofs.RecordLaws.{record-length}
+use Rattle.volume.proofs.SoundLaws.{sound-facts, some-old}
 
 record-fits : (g : Geometry) (n len : ℕ) (v : Volume) → bytesNeeded g n ≤ len → StoreFits g len (recordStore (recordOf v))
 unfolding StoreFits
@@ -49,3 +62,59 @@ write-fits v x piece o =
     (λ e.
     let f = write-accepted v x (length piece) (o .byteCount) e .0 in
     (live-inside v x (o .byteCount) (f .is-sound) (f .block-open) (f .room), f .piece-whole))
+
+-- ---- copy, checkpoint and advance
+
+-- the spot that a copy is stored to
+pub copy-inside : (v : Volume) (x len : ℕ) → sound v ≡ true → v .growing ≢ 0 → movesNow (tallyOf v) x ≡ true
+    → bytesNeeded (geometry v) (disks v) ≤ len → Inside (geometry v) len (targetOf (tallyOf v) x)
+unfolding movesNow targetOf tallyOf geometry disks
+copy-inside v x len e runs m room =
+    let s = v .rows in
+    let h = historyOf v in
+    let r = sound-facts v e .limits .rise in
+    let q = moving-in-old s h (v .window) x m in
+    let more : oldCount h * s ≤ diskCount h * s = mul-le-mul-right s (omega (arith, disks-sum s h r (some-old v e runs))) in
+    let w = spots-and-blocks s h r .spot-within x (omega (arith, q, more)) in
+    let i = medium-laws .inside (geometry v) (disks v) (spotOf s h x) (w .disk) (w .row) in
+    record { row = i .row; fits = omega (arith, i .fits) }
+
+-- a spot in the medium has a block's bytes
+bytes-whole : (g : Geometry) (m : List ℕ) (p : Spot) → Inside g (length m) p → length (observe m .bytesAt g p) ≡ g .size
+unfolding observe
+bytes-whole g m p i = simp (length-take, length-drop) (omega (arith, i .fits))
+
+copied-fits : (v : Volume) (x : ℕ) (m : List ℕ) → CopyFacts v x (length m) → StoreFits (geometry v) (length m) (copyStore v x (observe m))
+unfolding copyStore StoreFits
+copied-fits v x m f =
+    let a = f .advances in (
+      copy-inside v x (length m) (a .is-sound) (a .is-growing) (f .moves) (a .room),
+      bytes-whole (geometry v) m (liveSpotOf (tallyOf v) x) (live-inside v x (length m) (a .is-sound) (f .block-open) (a .room)),
+    )
+
+recorded-fits : (v : Volume) (len : ℕ) → AdvanceFacts v len → StoreFits (geometry v) len (checkpointStore v)
+unfolding checkpointStore
+recorded-fits v len f = record-fits (geometry v) (disks v) len (checkpointed v) (f .room)
+
+pub copy-fits : (v : Volume) (x : ℕ) (m : List ℕ) → StoreFits (geometry v) (length m) (copyOutcome v x (observe m) .store)
+unfolding copyOutcome reporting observe
+copy-fits v x m =
+    judged-fits (geometry v) (length m) (copyTable v x (length m)) v [] _ (λ e. copied-fits v x m (copy-accepted v x (length m) e))
+
+pub checkpoint-fits : (v : Volume) (o : Observations) → StoreFits (geometry v) (o .byteCount) (checkpointOutcome v o .store)
+unfolding checkpointOutcome reporting
+checkpoint-fits v o =
+    judged-fits (geometry v) (o .byteCount) (checkpointTable v (o .byteCount)) v [] _
+    (λ e. recorded-fits v (o .byteCount) (checkpoint-accepted v (o .byteCount) e .0))
+
+advancing-fits : (v : Volume) (m : List ℕ) → AdvanceFacts v (length m) → (next : Option ℕ) → nextBlock (tallyOf v) ≡ next
+    → StoreFits (geometry v) (length m) (advancing v next (observe m) .store)
+unfolding advancing telling
+advancing-fits v m f none e = recorded-fits v (length m) f
+advancing-fits v m f (some x) e = copied-fits v x m (next-facts v x (length m) f e)
+
+pub advance-fits : (v : Volume) (m : List ℕ) → StoreFits (geometry v) (length m) (advanceOutcome v (observe m) .store)
+unfolding advanceOutcome observe
+advance-fits v m =
+    judged-fits (geometry v) (length m) (advanceTable v (length m)) v [] (advancing v (nextBlock (tallyOf v)) (observe m))
+    (λ e. advancing-fits v m (advance-accepted v (length m) e) (nextBlock (tallyOf v)) refl)

@@ -1,11 +1,16 @@
 -- Document 01, "Calls": the number and the figures that each case of an answer stands for. "A refusal has 0 for every figure beside its
 -- number"; the number of an accepted call is 0. Assumes nothing.
 use Prim.Native.Nat.{ℕ}
+use mathlib.Core.Bool.{Bool, true, false}
+use mathlib.Core.Option.{Option, none, some}
+use lib.Dec.{eqb}
 use Rattle.layout.specs.declared.Reason.{Reason}
 use Rattle.layout.specs.declared.Reason.the-variants.{SetOut}
 use Rattle.layout.specs.declared.Spot.{Spot}
+use Rattle.volume.specs.declared.Advanced.{Advanced}
+use Rattle.volume.specs.declared.Advanced.the-variants.{Copied, Recorded, Finished}
 use Rattle.volume.specs.declared.Answer.{Answer}
-use Rattle.volume.specs.declared.Answer.the-variants.{Refused, Done, CallsLeft}
+use Rattle.volume.specs.declared.Answer.the-variants.{Refused, Done, CallsLeft, Told}
 use Rattle.volume.specs.declared.AddressAnswer.{AddressAnswer}
 use Rattle.volume.specs.declared.AddressAnswer.the-variants as address
 use Rattle.volume.specs.declared.HolderAnswer.{HolderAnswer}
@@ -16,11 +21,34 @@ unfoldable pub number : (a : Answer) → ℕ
 number (Refused k) = k
 number Done = 0
 number (CallsLeft n) = 0
+number (Told did n) = 0
 
 unfoldable pub callsTold : (a : Answer) → ℕ
 callsTold (Refused k) = 0
 callsTold Done = 0
 callsTold (CallsLeft n) = n
+callsTold (Told did n) = n
+
+-- whether the call was accepted; the number that it reported, if it was one that reports; whether it told finished
+unfoldable pub accepted : (a : Answer) → Bool
+accepted a = eqb (number a) 0
+
+unfoldable pub reported : (a : Answer) → Option ℕ
+reported (Refused k) = none
+reported Done = none
+reported (CallsLeft n) = some n
+reported (Told did n) = some n
+
+unfoldable pub isFinished : (did : Advanced) → Bool
+isFinished (Copied x part) = false
+isFinished Recorded = false
+isFinished Finished = true
+
+unfoldable pub toldFinished : (a : Answer) → Bool
+toldFinished (Refused k) = false
+toldFinished Done = false
+toldFinished (CallsLeft n) = false
+toldFinished (Told did n) = isFinished did
 
 -- of address: the number, the spot, and why the block is there
 unfoldable pub addressNumber : (a : AddressAnswer) → ℕ

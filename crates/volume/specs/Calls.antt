@@ -9,17 +9,21 @@ use lib.ListN.{length}
 use Rattle.base.specs.Refusals.{refusal}
 use Rattle.layout.specs.declared.Spot.{Spot}
 use Rattle.layout.specs.Limits.{mostDisks, mostGrowths}
-use Rattle.layout.specs.Tally.{openBlocks, liveSpotOf, liveBlockOf, liveReasonOf, waiting, callsLeftOf}
+use Rattle.layout.specs.Tally.{openBlocks, liveSpotOf, liveBlockOf, liveReasonOf, waiting, callsLeftOf, movesNow, targetOf, nextBlock}
+use Rattle.layout.specs.Windows.{partMoved}
+use Rattle.marks.specs.Marks.{within}
 use Rattle.medium.specs.declared.Geometry.{Geometry}
 use Rattle.medium.specs.Medium.{recordBytes, bytesNeeded, Observations, Store, noStore, recordStore, blockStore}
 use Rattle.volume.specs.declared.Volume.{Volume}
-use Rattle.volume.specs.declared.Answer.the-variants.{Refused, Done, CallsLeft}
+use Rattle.volume.specs.declared.Advanced.{Advanced}
+use Rattle.volume.specs.declared.Advanced.the-variants.{Copied, Recorded, Finished}
+use Rattle.volume.specs.declared.Answer.the-variants.{Refused, Done, CallsLeft, Told}
 use Rattle.volume.specs.declared.Reply.{Reply}
 use Rattle.volume.specs.declared.AddressAnswer.the-variants as address
 use Rattle.volume.specs.declared.AddressReply.{AddressReply}
 use Rattle.volume.specs.declared.HolderAnswer.the-variants as holder
 use Rattle.volume.specs.declared.HolderReply.{HolderReply}
-use Rattle.volume.specs.States.{geometry, disks, tallyOf, newState, zeros, grown}
+use Rattle.volume.specs.States.{geometry, historyOf, disks, tallyOf, newState, zeros, grown, withCopy, checkpointed}
 use Rattle.volume.specs.Sound.{sizeHolds, rowsHold, disksHold, sound}
 use Rattle.volume.specs.Records.{recordOf, stateRead, isSoundRecord}
 
@@ -36,6 +40,10 @@ refused v k piece = record { reply = record { state = v; answer = Refused k }; s
 -- a call that reports the advance calls left of the state that it hands back
 unfoldable pub reporting : (v : Volume) (store : Store) → Outcome
 reporting v store = record { reply = record { state = v; answer = CallsLeft (callsLeftOf (tallyOf v)) }; store = store; piece = [] }
+
+-- the same, with what an advance did
+unfoldable pub telling : (v : Volume) (did : Advanced) (store : Store) → Outcome
+telling v did store = record { reply = record { state = v; answer = Told did (callsLeftOf (tallyOf v)) }; store = store; piece = [] }
 
 -- refused by its table, with the number, or accepted
 abbrev pub judged : {A : Type 0} (table : List (ℕ × Bool)) (refusing : ℕ → A) (accepted : A) → A
@@ -120,6 +128,62 @@ unfoldable pub readOutcome : (v : Volume) (x : ℕ) (piece : List ℕ) (o : Obse
 readOutcome v x piece o =
     judged (readTable v x (length piece) (o .byteCount)) (λ k. refused v k piece)
     (record { reply = record { state = v; answer = Done }; store = noStore; piece = o .bytesAt (geometry v) (liveSpotOf (tallyOf v) x) })
+
+-- ---- "Copy block x: 1; 2; 5, not growing; 3; 10, x doesn't move or not in window w; 11, copied already. It stores the old spot's bytes
+-- at the new one and sets the copied mark."
+
+unfoldable pub copyTable : (v : Volume) (x byteCount : ℕ) → List (ℕ × Bool)
+copyTable v x byteCount =
+    (1, not (sound v))
+    ∷ (2, tooShort (geometry v) (disks v) byteCount)
+    ∷ (5, eqb (v .growing) 0)
+    ∷ (3, leb (openBlocks (tallyOf v)) x)
+    ∷ (10, not (movesNow (tallyOf v) x))
+    ∷ (11, tallyOf v .copied x)
+    ∷ []
+
+-- a block that may be copied lives at its old spot
+unfoldable pub copyStore : (v : Volume) (x : ℕ) (o : Observations) → Store
+copyStore v x o = blockStore (targetOf (tallyOf v) x) (o .bytesAt (geometry v) (liveSpotOf (tallyOf v) x))
+
+unfoldable pub copyOutcome : (v : Volume) (x : ℕ) (o : Observations) → Outcome
+copyOutcome v x o = judged (copyTable v x (o .byteCount)) (λ k. refused v k []) (reporting (withCopy v x) (copyStore v x o))
+
+-- ---- "Checkpoint: 1; 2; 5; 12, copied equals recorded. It stores the record with recorded set to copied." In a sound state the recorded
+-- marks are among the copied ones.
+
+unfoldable pub checkpointTable : (v : Volume) (byteCount : ℕ) → List (ℕ × Bool)
+checkpointTable v byteCount =
+    (1, not (sound v))
+    ∷ (2, tooShort (geometry v) (disks v) byteCount)
+    ∷ (5, eqb (v .growing) 0)
+    ∷ (12, within (v .copied) (v .recorded))
+    ∷ []
+
+unfoldable pub checkpointStore : (v : Volume) → Store
+checkpointStore v = recordStore (recordOf (checkpointed v))
+
+unfoldable pub checkpointOutcome : (v : Volume) (o : Observations) → Outcome
+checkpointOutcome v o =
+    judged (checkpointTable v (o .byteCount)) (λ k. refused v k []) (reporting (checkpointed v) (checkpointStore v))
+
+-- ---- "Advance: 1; 2; 5. It copies the lowest unset copied mark of window w or, when none is left, does the checkpoint. It tells which:
+-- copied with the block and its head, body or tail; recorded; finished, when that checkpoint ended the whole growth."
+
+unfoldable pub advanceTable : (v : Volume) (byteCount : ℕ) → List (ℕ × Bool)
+advanceTable v byteCount =
+    (1, not (sound v)) ∷ (2, tooShort (geometry v) (disks v) byteCount) ∷ (5, eqb (v .growing) 0) ∷ []
+
+-- of the state that the checkpoint hands back
+unfoldable pub checkpointTold : (v : Volume) → Advanced
+checkpointTold v = cond (eqb (v .growing) 0) Finished Recorded
+
+unfoldable pub advancing : (v : Volume) (next : Option ℕ) (o : Observations) → Outcome
+advancing v none o = telling (checkpointed v) (checkpointTold (checkpointed v)) (checkpointStore v)
+advancing v (some x) o = telling (withCopy v x) (Copied (record { 0 = x }) (partMoved (v .rows) (historyOf v) x)) (copyStore v x o)
+
+unfoldable pub advanceOutcome : (v : Volume) (o : Observations) → Outcome
+advanceOutcome v o = judged (advanceTable v (o .byteCount)) (λ k. refused v k []) (advancing v (nextBlock (tallyOf v)) o)
 
 -- ---- "Address of block x: 1; 3. It gives the live spot and why it is there"
 

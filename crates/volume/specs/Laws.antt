@@ -11,15 +11,16 @@ use Rattle.layout.specs.History.{oldCount, addedCount}
 use Rattle.layout.specs.Laws.{LookUps}
 use Rattle.layout.specs.Limits.{Limits}
 use Rattle.layout.specs.Reasons.{growthTold}
-use Rattle.layout.specs.Windows.{windows, movingIn}
+use Rattle.layout.specs.Tally.{liveSpotOf, movesNow}
+use Rattle.layout.specs.Windows.{windows, oldSpot, movingIn}
 use Rattle.marks.specs.Marks.{markCount, noMarks, within}
-use Rattle.medium.specs.Medium.{recordBytes, Observations, noStore, StoreFits}
+use Rattle.medium.specs.Medium.{recordBytes, Observations, observe, noStore, StoreFits}
 use Rattle.volume.specs.declared.Volume.{Volume}
 use Rattle.volume.specs.Answers.{number, callsTold, addressNumber, spotTold, reasonTold, holderNumber, blockTold}
-use Rattle.volume.specs.Calls.{Outcome, formatTable, formatOutcome, restartTable, restartOutcome, growTable, growOutcome, writeTable, writeOutcome, readTable, readOutcome, addressTable, addressReply, holderTable, holderReply}
+use Rattle.volume.specs.Calls.{Outcome, formatTable, formatOutcome, restartTable, restartOutcome, growTable, growOutcome, writeTable, writeOutcome, readTable, readOutcome, copyTable, copyOutcome, checkpointTable, checkpointOutcome, advanceTable, advanceOutcome, addressTable, addressReply, holderTable, holderReply}
 use Rattle.volume.specs.Records.{recordOf, stateRead, isSoundRecord}
 use Rattle.volume.specs.Sound.{sizeStep, mostSize, movingOf, sound}
-use Rattle.volume.specs.States.{geometry, historyOf, tallyOf, newState, zeros, grown, recordedOnly}
+use Rattle.volume.specs.States.{geometry, historyOf, tallyOf, newState, zeros, grown, recordedOnly, withCopy, checkpointed}
 
 -- ---- what a sound state is
 
@@ -89,11 +90,16 @@ pub record VolumeLaws : Type 0 where
   pub format-sound : (z s n byteCount : ℕ) → refusal (formatTable z s n byteCount) ≡ 0 → sound (newState z s n) ≡ true
   pub grown-sound : (v : Volume) (count byteCount : ℕ) → refusal (growTable v count byteCount) ≡ 0 → sound (grown v count) ≡ true
   pub restart-sound : (o : Observations) → refusal (restartTable o) ≡ 0 → sound (stateRead (o .sector)) ≡ true
-  -- what is stored lies in the medium
+  pub copied-sound : (v : Volume) (x : ℕ) → sound v ≡ true → v .growing ≢ 0 → movesNow (tallyOf v) x ≡ true → sound (withCopy v x) ≡ true
+  pub checkpointed-sound : (v : Volume) → sound v ≡ true → v .growing ≢ 0 → sound (checkpointed v) ≡ true
+  -- what is stored lies in the medium; a copy stores bytes of that medium
   pub format-fits : (z s n : ℕ) (o : Observations) → StoreFits (record { size = z; rows = s }) (o .byteCount) (formatOutcome z s n o .store)
   pub grow-fits : (v : Volume) (count : ℕ) (o : Observations) → StoreFits (geometry v) (o .byteCount) (growOutcome v count o .store)
   pub write-fits : (v : Volume) (x : ℕ) (piece : List ℕ) (o : Observations)
       → StoreFits (geometry v) (o .byteCount) (writeOutcome v x piece o .store)
+  pub copy-fits : (v : Volume) (x : ℕ) (m : List ℕ) → StoreFits (geometry v) (length m) (copyOutcome v x (observe m) .store)
+  pub checkpoint-fits : (v : Volume) (o : Observations) → StoreFits (geometry v) (o .byteCount) (checkpointOutcome v o .store)
+  pub advance-fits : (v : Volume) (m : List ℕ) → StoreFits (geometry v) (length m) (advanceOutcome v (observe m) .store)
   -- refusals
   pub format-refuses : (z s n : ℕ) (o : Observations) → Refuses (formatTable z s n (o .byteCount)) zeros [] (formatOutcome z s n o)
   pub restart-refuses : (o : Observations) → Refuses (restartTable o) zeros [] (restartOutcome o)
@@ -102,8 +108,16 @@ pub record VolumeLaws : Type 0 where
       → Refuses (writeTable v x (length piece) (o .byteCount)) v piece (writeOutcome v x piece o)
   pub read-refuses : (v : Volume) (x : ℕ) (piece : List ℕ) (o : Observations)
       → Refuses (readTable v x (length piece) (o .byteCount)) v piece (readOutcome v x piece o)
+  pub copy-refuses : (v : Volume) (x : ℕ) (o : Observations) → Refuses (copyTable v x (o .byteCount)) v [] (copyOutcome v x o)
+  pub checkpoint-refuses : (v : Volume) (o : Observations) → Refuses (checkpointTable v (o .byteCount)) v [] (checkpointOutcome v o)
+  pub advance-refuses : (v : Volume) (o : Observations) → Refuses (advanceTable v (o .byteCount)) v [] (advanceOutcome v o)
   pub address-refuses : (v : Volume) (x : ℕ) → AddressRefuses v x
   pub holder-refuses : (v : Volume) (p : Spot) → HolderRefuses v p
+  -- a block that is copied lives at its old spot
+  pub copy-source : (v : Volume) (x byteCount : ℕ) → refusal (copyTable v x byteCount) ≡ 0
+      → liveSpotOf (tallyOf v) x ≡ oldSpot (v .rows) (historyOf v) x
+  -- 12 is given exactly where copied equals recorded
+  pub no-copy-waiting : (v : Volume) → sound v ≡ true → within (v .copied) (v .recorded) ≡ true → v .copied ≡ v .recorded
   -- address and holder are inverse to each other in every stage of a growth, and after a finished one 15 never occurs
   pub look-ups : (v : Volume) → sound v ≡ true → LookUps (tallyOf v)
   pub holder-of-address : (v : Volume) (x : ℕ) → addressNumber (addressReply v x .answer) ≡ 0

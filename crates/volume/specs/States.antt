@@ -1,13 +1,13 @@
 -- Document 01, "Medium, state, record": the state, read as a tally, and the states that calls hand back. The arrays of the code are
 -- lists here. Assumes nothing.
 use Prim.Native.Nat.{ℕ, suc}
-use mathlib.Core.Bool.{Bool, cond}
+use mathlib.Core.Bool.{Bool, true, cond}
 use mathlib.Core.List.{List}
 use lib.Dec.{eqb}
 use lib.ListN.{set, replicate}
 use Rattle.layout.specs.History.{history, diskCount}
-use Rattle.layout.specs.Tally.{Mode, notGrowing, growing, Tally}
-use Rattle.layout.specs.Windows.{markedBlocks}
+use Rattle.layout.specs.Tally.{Mode, notGrowing, growing, Tally, windowFull, lastWindow}
+use Rattle.layout.specs.Windows.{markOf, markedBlocks}
 use Rattle.marks.specs.Marks.{noMarks}
 use Rattle.medium.specs.declared.Geometry.{Geometry}
 use Rattle.volume.specs.declared.Volume.{Volume}
@@ -77,6 +77,22 @@ zeros = newState 0 0 0
 unfoldable pub grown : (v : Volume) (count : ℕ) → Volume
 grown v count = withGrowth v (suc (v .growths)) (set (v .counts) (suc (v .growths)) count) 1 0 noMarks noMarks
 
+-- the same history, in another stage
+abbrev pub inStage : (v : Volume) (stage w : ℕ) (recorded copied : List Bool) → Volume
+inStage v stage w recorded copied = withGrowth v (v .growths) (v .counts) stage w recorded copied
+
 -- the recorded marks alone: "sets copied to recorded"
 unfoldable pub recordedOnly : (v : Volume) → Volume
-recordedOnly v = withGrowth v (v .growths) (v .counts) (v .growing) (v .window) (v .recorded) (v .recorded)
+recordedOnly v = inStage v (v .growing) (v .window) (v .recorded) (v .recorded)
+
+-- "sets the copied mark" of block x
+unfoldable pub withCopy : (v : Volume) (x : ℕ) → Volume
+withCopy v x = inStage v (v .growing) (v .window) (v .recorded) (set (v .copied) (markOf (v .rows) (historyOf v) x) true)
+
+-- "with recorded set to copied. If window w is then full, that same store has w+1 and no marks, or, after the last window, growing 0 and
+-- w 0."
+unfoldable pub checkpointed : (v : Volume) → Volume
+checkpointed v =
+    cond (windowFull (tallyOf v))
+    (cond (lastWindow (tallyOf v)) (inStage v 0 0 noMarks noMarks) (inStage v (v .growing) (suc (v .window)) noMarks noMarks))
+    (inStage v (v .growing) (v .window) (v .copied) (v .copied))

@@ -4,12 +4,14 @@
 // The calls, `is_sound`, `zeros` and the limits are offered to others and take any input. What has a
 // `requires` is seen in this crate alone.
 mod calls;
+mod growth;
 mod live;
 mod lookup;
 mod sound;
 mod state;
 
 use layout::Block;
+use layout::Part;
 use layout::Reason;
 use layout::Spot;
 
@@ -25,11 +27,21 @@ pub struct Volume {
     pub copied: [bool; 64],
 }
 
-// The answer of a call on a medium: refused with a number, done, or done with so many advance calls left.
+// What an advance did: copied the block, which is the head, body or tail of its window; recorded the copies; or
+// recorded the last of them and so finished the growth.
+pub enum Advanced {
+    Copied(Block, Part),
+    Recorded,
+    Finished,
+}
+
+// The answer of a call on a medium: refused with a number, done, done with so many advance calls left, or what an
+// advance did with so many advance calls left.
 pub enum Answer {
     Refused(usize),
     Done,
     CallsLeft(usize),
+    Told(Advanced, usize),
 }
 
 pub struct Reply {

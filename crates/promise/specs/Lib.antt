@@ -1,0 +1,4 @@
+pub mod Calls
+pub mod Model
+pub mod Lists
+pub mod Promise

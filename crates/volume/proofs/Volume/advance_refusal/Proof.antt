@@ -1,0 +1,70 @@
+-- `advance_refusal` meets its contract. Assumes nothing.
+use mathlib.Core.Path.{_≡_, sym, _∙_}
+use mathlib.Core.Bool.{true}
+use borrow.Author.Needs.{needs}
+use borrow.Author.Tests.{eq-eqb, ne-eqb, not-true, not-false}
+use Rattle.base.specs.Refusals.{refusal}
+use Rattle.volume.specs.Calls.{advanceTable, tooShort}
+use Rattle.volume.specs.Sound.{sound}
+use Rattle.volume.specs.States.{geometry, disks}
+use Rattle.volume.proofs.CallsCode.{disks-most}
+use Rattle.volume.proofs.Volume.advance_refusal.Statement.{statement}
+use Rattle.volume.proofs.Volume.advance_refusal.Tie as tie
+
+is-sound-requires : tie.Need-is-sound-requires
+is-sound-requires c κs = search needs
+
+is-sound : (c : tie.Else1) → sound (c .before .before .args .self) ≡ true
+is-sound c = sym (c .before .is-sound .ensures) ∙ not-false _ (c .if1 .left)
+
+returns : tie.Need-returns
+unfolding refusal advanceTable
+returns c = simp (← c .before .is-sound .ensures, not-true (c .before .is-sound .result) (c .if1 .taken))
+
+disk-count-requires : tie.Need-disk-count-requires
+disk-count-requires c κs = is-sound c
+
+is-short-requires : tie.Need-is-short-requires
+is-short-requires c κs =
+    let e = is-sound (c .before) in
+    (e, rw (c .disk-count .ensures) (disks-most _ e))
+
+shortness : (c : tie.After-is-short)
+    → let a = c .before .before .before .before .args in tooShort (geometry (a .self)) (disks (a .self)) (a .len) ≡ c .is-short .result
+shortness c = rw (c .before .disk-count .ensures) at (sym (c .is-short .ensures))
+
+returns-2 : tie.Need-returns-2
+unfolding refusal advanceTable
+returns-2 c = simp (is-sound (c .before .before .before), shortness (c .before), c .if2 .taken)
+
+returns-3 : tie.Need-returns-3
+unfolding refusal advanceTable
+returns-3 c =
+    simp (
+      is-sound (c .before .before .before .before .before),
+      shortness (c .before .before .before),
+      c .before .before .if2 .left,
+      eq-eqb _ _ (c .if3 .taken),
+    )
+
+returns-4 : tie.Need-returns-4
+unfolding refusal advanceTable
+returns-4 c =
+    simp (
+      is-sound (c .before .before .before .before .before),
+      shortness (c .before .before .before),
+      c .before .before .if2 .left,
+      ne-eqb _ _ (c .if3 .left),
+    )
+
+pub advance-refusal-spec : {M : Type 1} → statement M
+advance-refusal-spec =
+    tie.close
+    (tie.spec
+    is-sound-requires
+    returns
+    disk-count-requires
+    is-short-requires
+    returns-2
+    returns-3
+    returns-4)

@@ -1,0 +1,18 @@
+-- `next_copy` meets its contract. Assumes nothing.
+use Rattle.layout.specs.Tally.{nextBlock}
+use Rattle.volume.specs.States.{historyOf, tallyOf}
+use Rattle.volume.proofs.LiveCode.{history-limits, has-growth, window-below}
+use Rattle.volume.proofs.Volume.next_copy.Statement.{statement}
+use Rattle.volume.proofs.Volume.next_copy.Tie as tie
+
+next-copy-requires : tie.Need-next-copy-requires
+next-copy-requires c κs =
+    let p = c .before .before .pre in
+    (history-limits _ (p .0), (has-growth _ (p .1) (p .0), window-below _ (p .1) (p .0)))
+
+returns : tie.Need-returns
+unfolding nextBlock tallyOf historyOf
+returns c = c .next-copy .ensures
+
+pub next-copy-spec : {M : Type 1} → statement M
+next-copy-spec = tie.close (tie.spec next-copy-requires returns)

@@ -1,0 +1,198 @@
+// The calls that move blocks: copy, checkpoint, advance.
+ghost use mathlib.Core.Path.{_≡_};
+ghost use mathlib.Core.Bool.{true, false};
+ghost use mathlib.Core.Logic.{_≢_};
+ghost use Prim.Native.Nat.{_≤_};
+ghost use lib.ListN.{length};
+ghost use Rattle.base.specs.Refusals.{refusal};
+ghost use Rattle.layout.specs.Tally.{movesNow, nextBlock, callsLeftOf};
+ghost use Rattle.marks.specs.Marks.{asNextCopy};
+ghost use Rattle.medium.specs.Medium.{bytesNeeded, observe, apply};
+ghost use Rattle.volume.specs.Calls.{copyTable, copyStore, copyOutcome, checkpointTable, checkpointOutcome, advanceTable, checkpointTold, advanceOutcome};
+ghost use Rattle.volume.specs.Sound.{sound};
+ghost use Rattle.volume.specs.States.{geometry, historyOf, disks, tallyOf, withCopy, checkpointed};
+use super::Advanced;
+use super::Answer;
+use super::Reply;
+use super::Volume;
+use layout::Block;
+use marks::NextCopy;
+
+impl Volume {
+    // The state with block x copied.
+    pub(crate) fn with_copy(self, x: Block) -> Volume
+        requires { ⌜ (sound self ≡ true) × (self .growing ≢ 0) ⌝ }
+        requires { ⌜ movesNow (tallyOf self) (x .0) ≡ true ⌝ }
+        ensures { λ r. ⌜ r ≡ withCopy self (x .0) ⌝ }
+    {
+        let t = self.growths;
+        let counts = self.counts;
+        let recorded = self.recorded;
+        let old = self.copied;
+        let copied = marks::with_mark(counts, t, self.rows, old, x);
+        self.with_growth(t, counts, self.growing, self.window, recorded, copied)
+    }
+
+    // The state that a checkpoint records.
+    pub(crate) fn checkpointed(self) -> Volume
+        requires { ⌜ (sound self ≡ true) × (self .growing ≢ 0) ⌝ }
+        ensures { λ r. ⌜ r ≡ checkpointed self ⌝ }
+    {
+        let t = self.growths;
+        let counts = self.counts;
+        let w = self.window;
+        let copied = self.copied;
+        if !marks::all_copied(counts, t, self.rows, w, copied) {
+            return self.with_growth(t, counts, self.growing, w, copied, copied);
+        }
+        let g = layout::newest_growth(counts, t);
+        if w + 1 == layout::window_count(g.old, g.added, self.rows) {
+            return self.with_growth(t, counts, 0, 0, [false; 64], [false; 64]);
+        }
+        self.with_growth(t, counts, self.growing, w + 1, [false; 64], [false; 64])
+    }
+
+    // The state with what an advance did and its advance calls left.
+    pub(crate) fn tell(self, did: Advanced) -> Reply
+        requires { ⌜ sound self ≡ true ⌝ }
+        ensures { λ r. ⌜ r ≡ record { state = self; answer = Answer.Told did (callsLeftOf (tallyOf self)) } ⌝ }
+    {
+        let left = self.calls_left();
+        Reply {
+            state: self,
+            answer: Answer::Told(did, left),
+        }
+    }
+
+    // What a checkpoint that left this state did.
+    pub(crate) fn checkpoint_told(self) -> Advanced
+        ensures { λ r. ⌜ r ≡ checkpointTold self ⌝ }
+    {
+        if self.growing == 0 {
+            return Advanced::Finished;
+        }
+        Advanced::Recorded
+    }
+
+    // Stores block x's bytes at its new spot.
+    pub(crate) fn store_copy(self, medium: &mut [u8], x: Block)
+        requires { ⌜ (sound self ≡ true) × (self .growing ≢ 0) ⌝ }
+        requires { ⌜ bytesNeeded (geometry self) (disks self) ≤ length (now medium) ⌝ }
+        requires { ⌜ (movesNow (tallyOf self) (x .0) ≡ true) × (tallyOf self .copied (x .0) ≡ false) ⌝ }
+        ensures { λ _. ⌜ now (medium .exit) ≡ apply (geometry self) (copyStore self (x .0) (observe (now (medium .entry)))) (now (medium .entry)) ⌝ }
+    {
+        let counts = self.counts;
+        let from = self.live_spot(x);
+        let to = layout::spot_of(counts, self.growths, self.rows, x);
+        let g = self.geometry();
+        medium::copy_block(medium, g, from, to);
+    }
+
+    pub(crate) fn advance_refusal(self, len: usize) -> usize
+        ensures { λ r. ⌜ r ≡ refusal (advanceTable self len) ⌝ }
+    {
+        if !self.is_sound() {
+            return 1;
+        }
+        if self.is_short(self.disk_count(), len) {
+            return 2;
+        }
+        if self.growing == 0 {
+            return 5;
+        }
+        0
+    }
+
+    pub(crate) fn copy_refusal(self, x: Block, len: usize) -> usize
+        ensures { λ r. ⌜ r ≡ refusal (copyTable self (x .0) len) ⌝ }
+    {
+        let k = self.advance_refusal(len);
+        if k != 0 {
+            return k;
+        }
+        if self.open_blocks() <= x.0 {
+            return 3;
+        }
+        let counts = self.counts;
+        if !marks::moves_now(counts, self.growths, self.rows, self.window, x) {
+            return 10;
+        }
+        let copied = self.copied;
+        if marks::is_marked(counts, self.growths, self.rows, self.window, copied, x) {
+            return 11;
+        }
+        0
+    }
+
+    // Copies block x to its new spot.
+    pub fn copy(self, medium: &mut [u8], x: Block) -> Reply
+        ensures { λ r. ⌜ r ≡ copyOutcome self (x .0) (observe (now (medium .entry))) .reply ⌝ }
+        ensures { λ _. ⌜ now (medium .exit) ≡ apply (geometry self) (copyOutcome self (x .0) (observe (now (medium .entry))) .store) (now (medium .entry)) ⌝ }
+    {
+        let k = self.copy_refusal(x, medium.len());
+        if k != 0 {
+            return self.refuse(k);
+        }
+        self.store_copy(medium, x);
+        let v = self.with_copy(x);
+        v.report()
+    }
+
+    pub(crate) fn checkpoint_refusal(self, len: usize) -> usize
+        ensures { λ r. ⌜ r ≡ refusal (checkpointTable self len) ⌝ }
+    {
+        let k = self.advance_refusal(len);
+        if k != 0 {
+            return k;
+        }
+        let copied = self.copied;
+        let recorded = self.recorded;
+        if marks::is_within(copied, recorded) {
+            return 12;
+        }
+        0
+    }
+
+    // Records the copies made.
+    pub fn checkpoint(self, medium: &mut [u8]) -> Reply
+        ensures { λ r. ⌜ r ≡ checkpointOutcome self (observe (now (medium .entry))) .reply ⌝ }
+        ensures { λ _. ⌜ now (medium .exit) ≡ apply (geometry self) (checkpointOutcome self (observe (now (medium .entry))) .store) (now (medium .entry)) ⌝ }
+    {
+        let k = self.checkpoint_refusal(medium.len());
+        if k != 0 {
+            return self.refuse(k);
+        }
+        let v = self.checkpointed();
+        v.store_record(medium);
+        v.report()
+    }
+
+    // Copies the next block or, when none is left in the window, records the copies.
+    pub fn advance(self, medium: &mut [u8]) -> Reply
+        ensures { λ r. ⌜ r ≡ advanceOutcome self (observe (now (medium .entry))) .reply ⌝ }
+        ensures { λ _. ⌜ now (medium .exit) ≡ apply (geometry self) (advanceOutcome self (observe (now (medium .entry))) .store) (now (medium .entry)) ⌝ }
+    {
+        let k = self.advance_refusal(medium.len());
+        if k != 0 {
+            return self.refuse(k);
+        }
+        let NextCopy::CopyOf(x, part) = self.next_copy() else {
+            let v = self.checkpointed();
+            v.store_record(medium);
+            return v.tell(v.checkpoint_told());
+        };
+        self.store_copy(medium, x);
+        let v = self.with_copy(x);
+        v.tell(Advanced::Copied(x, part))
+    }
+
+    // The block to copy next.
+    pub(crate) fn next_copy(self) -> NextCopy
+        requires { ⌜ (sound self ≡ true) × (self .growing ≢ 0) ⌝ }
+        ensures { λ r. ⌜ r ≡ asNextCopy (self .rows) (historyOf self) (nextBlock (tallyOf self)) ⌝ }
+    {
+        let counts = self.counts;
+        let copied = self.copied;
+        marks::next_copy(counts, self.growths, self.rows, self.window, copied)
+    }
+}
