@@ -61,8 +61,8 @@ module _ (s : ℕ) (h : List ℕ) (w : ℕ) (below : w < windows (oldCount h) (a
   unfolding callsLeft uncopied noBlock movingIn
   less-turned copied full =
       let split : count (λ x. moving s h x && ltb w (windowOf s h x)) (oldCount h * s)
-          ≡ count (λ x. (moving s h x && eqb (windowOf s h x) (suc w)) && not false) (oldCount h * s)
-          + count (λ x. moving s h x && ltb (suc w) (windowOf s h x)) (oldCount h * s) =
+      ≡ count (λ x. (moving s h x && eqb (windowOf s h x) (suc w)) && not false) (oldCount h * s)
+      + count (λ x. moving s h x && ltb (suc w) (windowOf s h x)) (oldCount h * s) =
       count-split _ _ _ (oldCount h * s) (λ x. later-split (moving s h x) (windowOf s h x)) in
       let none-here = none-left copied full in
       omega (arith, split, none-here)
@@ -100,9 +100,9 @@ module _ (t : Tally) (r : Running t) where
     r .is-growing,
     refl,
     left-of t (r .is-growing)
-    ∙ less-copied (t .rows) (t .counts) (t .window) (r .window-below) (t .copied) x moves new (copiedTally x t .copied)
-    (simp (eq-eqb x x refl)) (λ y other. simp (ne-eqb y x other))
-    ∙ ap suc (sym (left-of (copiedTally x t) (r .is-growing))),
+        ∙ less-copied (t .rows) (t .counts) (t .window) (r .window-below) (t .copied) x moves new (copiedTally x t .copied)
+        (simp (eq-eqb x x refl)) (λ y other. simp (ne-eqb y x other))
+        ∙ ap suc (sym (left-of (copiedTally x t) (r .is-growing))),
   )
 
   full-here : windowFull t ≡ true → (x : ℕ) → movingIn (t .rows) (t .counts) (t .window) x ≡ true → t .copied x ≡ true
@@ -123,8 +123,8 @@ module _ (t : Tally) (r : Running t) where
     ap (λ (u : Tally). u .mode) (turned full more) ∙ r .is-growing,
     rw (full, more),
     left-of t (r .is-growing)
-    ∙ less-turned (t .rows) (t .counts) (t .window) (r .window-below) (t .copied) (full-here full)
-    ∙ ap suc (sym (left-of (nextWindowTally t) (r .is-growing)) ∙ ap callsLeftOf (sym (turned full more))),
+        ∙ less-turned (t .rows) (t .counts) (t .window) (r .window-below) (t .copied) (full-here full)
+        ∙ ap suc (sym (left-of (nextWindowTally t) (r .is-growing)) ∙ ap callsLeftOf (sym (turned full more))),
   )
 
   last-step : windowFull t ≡ true → lastWindow t ≡ true → Last none
@@ -133,8 +133,8 @@ module _ (t : Tally) (r : Running t) where
     ap (λ (u : Tally). u .mode) (ended full last),
     rw (full, last),
     left-of t (r .is-growing)
-    ∙ less-ended (t .rows) (t .counts) (t .window) (r .window-below) (t .copied) (full-here full)
-    (eqb-true (suc (t .window)) (windows (oldCount (t .counts)) (addedCount (t .counts)) (t .rows)) last) (marks .in-windows),
+        ∙ less-ended (t .rows) (t .counts) (t .window) (r .window-below) (t .copied) (full-here full)
+        (eqb-true (suc (t .window)) (windows (oldCount (t .counts)) (addedCount (t .counts)) (t .rows)) last) (marks .in-windows),
   )
     where
       marks : Marks (t .rows) (t .counts)

@@ -8,11 +8,10 @@ use mathlib.Core.Option.{Option, some}
 use Rattle.base.specs.Refusals.{refusal}
 use Rattle.base.proofs.Booleans.{cond-cases}
 use Rattle.layout.specs.History.{diskCount, oldCount, earlier}
-use Rattle.layout.specs.declared.Spot.{Spot}
 use Rattle.layout.specs.Tally.{Tally, notGrowing, openBlocks, liveSpotOf, waiting, movesNow, targetOf, windowFull, lastWindow}
 use Rattle.medium.specs.declared.Geometry.{Geometry}
 use Rattle.medium.specs.Laws.{Holds, OtherThanRecord, OtherThanSpot, Stored}
-use Rattle.medium.specs.Medium.{bytesNeeded, Observations, recordStore, blockStore}
+use Rattle.medium.specs.Medium.{bytesNeeded, Observations, Store, noStore, recordStore, blockStore}
 use Rattle.volume.specs.declared.Volume.{Volume}
 use Rattle.volume.specs.Calls.{growTable, formatTable, copyStore}
 use Rattle.volume.specs.Records.{numbersOf, recordOf}
@@ -23,7 +22,7 @@ use Rattle.volume.proofs.RecordLaws.{recorded-sound}
 use Rattle.volume.proofs.Theorems.{volume-laws}
 use Rattle.promise.specs.Model.{PlainVolume, startPlain, withBlock, withAdded, startTally, grownTally, withBlocks, copiedTally, nextWindowTally, finishedTally, recordedTally, restartedTally, checkpointFinishes}
 use Rattle.promise.proofs.Tallies.{Running, Resting, copy-unrecorded, spots-apart}
-use Rattle.promise.proofs.Held.{Held, held-written, held-target, held-recorded, held-copied, held-restarted, held-part, held-next-window, held-finished, held-grown}
+use Rattle.promise.proofs.Held.{Held, held-written, held-target, held-unchanged, held-recorded, held-copied, held-restarted, held-part, held-next-window, held-finished, held-grown}
 use Rattle.promise.proofs.StateTallies.{running-of, resting-of, stage-of, tally-new, tally-grown, tally-restarted, tally-copied, tally-checkpointed}
 
 pub record Consistent (v : Volume) (o : Observations) (p : PlainVolume) : Type 0 where
@@ -119,7 +118,7 @@ counts-checkpointed t =
     cond-cases (λ (u : Tally). u .counts ≡ t .counts) (windowFull t)
     (λ _. cond-cases (λ (u : Tally). u .counts ≡ t .counts) (lastWindow t) (λ _. refl) (λ _. refl)) (λ _. refl)
 
-geometry-checkpointed : (v : Volume) → geometry (checkpointed v) ≡ geometry v
+pub geometry-checkpointed : (v : Volume) → geometry (checkpointed v) ≡ geometry v
 unfolding checkpointed withGrowth geometry
 geometry-checkpointed v =
     cond-cases (λ u. geometry u ≡ geometry v) (windowFull (tallyOf v))
@@ -140,34 +139,41 @@ module _ (v : Volume) (before after : Observations) (p : PlainVolume) (c : Consi
       (volume-laws .grown-sound v count (before .byteCount) e) refl (tally-grown v count (f .is-sound) (f .one-more)) (f .room)
       (agree-grown (geometry v) before (tallyOf v) p (resting-of v (f .is-sound) (f .not-growing)) count agree) stored
 
-  -- a block stored at some spot
-  block-stored : (q : Spot) (b : List ℕ) (new : PlainVolume) → new .blocks ≡ p .blocks → Held (geometry v) after (tallyOf v) (new .bytes)
-      → Stored (geometry v) (blockStore q b) before after → Consistent v after new
-  unfolding OtherThanRecord
-  block-stored q b new same h stored =
+  -- a store that is not to the record
+  other-stored : (store : Store) → OtherThanRecord store → (new : PlainVolume) → new .blocks ≡ p .blocks
+      → Held (geometry v) after (tallyOf v) (new .bytes) → Stored (geometry v) store before after → Consistent v after new
+  other-stored store other new same h stored =
       record {
         is-sound = c .is-sound;
         room = rw (stored .length-kept) (c .room);
-        recorded = stored .record-kept tt ∙ c .recorded;
+        recorded = stored .record-kept other ∙ c .recorded;
         same-open = same ∙ c .same-open;
         held = h;
       }
+
+  -- nothing
+  pub consistent-unchanged : Stored (geometry v) noStore before after → Consistent v after p
+  unfolding OtherThanRecord
+  consistent-unchanged stored =
+      other-stored noStore tt p refl
+      (held-unchanged (geometry v) before after (tallyOf v) (same-rows v) (p .bytes) (c .held) (stage-of v (c .is-sound)) stored) stored
 
   -- a write, whole or torn
   pub consistent-written : (x : ℕ) → x < openBlocks (tallyOf v) → waiting (tallyOf v) x ≡ false → (b : List ℕ) (new : Option (List ℕ))
       → ((d : List ℕ) → new ≡ some d → b ≡ d) → Stored (geometry v) (blockStore (liveSpotOf (tallyOf v) x) b) before after
       → Consistent v after (withBlock x new p)
-  unfolding withBlock
+  unfolding withBlock OtherThanRecord
   consistent-written x below idle b new right stored =
-      block-stored (liveSpotOf (tallyOf v) x) b (withBlock x new p) refl
+      other-stored (blockStore (liveSpotOf (tallyOf v) x) b) tt (withBlock x new p) refl
       (held-written (geometry v) before after (tallyOf v) (same-rows v) (p .bytes) (c .held) (stage-of v (c .is-sound)) x below idle b new right stored)
       stored
 
   -- a copy, torn
   pub consistent-torn : v .growing ≢ 0 → (x : ℕ) → movesNow (tallyOf v) x ≡ true → tallyOf v .copied x ≡ false → (b : List ℕ)
       → Stored (geometry v) (blockStore (targetOf (tallyOf v) x) b) before after → Consistent v after p
+  unfolding OtherThanRecord
   consistent-torn on x moves new b stored =
-      block-stored (targetOf (tallyOf v) x) b p refl
+      other-stored (blockStore (targetOf (tallyOf v) x) b) tt p refl
       (held-target (geometry v) before after (tallyOf v) (same-rows v) (p .bytes) (c .held) (running-of v (c .is-sound) on) x moves new b stored)
       stored
 

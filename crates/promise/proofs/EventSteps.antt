@@ -23,8 +23,7 @@ read-fits : (v : Volume) (x : ℕ) (piece m : List ℕ) → StoreFits (geometry 
 unfolding readOutcome refused StoreFits
 read-fits v x piece m =
     judged-cases (λ (out : Outcome). StoreFits (geometry v) (length m) (out .store)) (readTable v x (length piece) (observe m .byteCount))
-    (λ n. refused v n piece) _
-    (λ _. tt) (λ _. tt)
+    (λ n. refused v n piece) _ (λ _. tt) (λ _. tt)
 
 restart-fits : (g : Geometry) (m : List ℕ) → StoreFits g (length m) (restartOutcome (observe m) .store)
 unfolding restartOutcome refused reporting StoreFits
@@ -41,6 +40,7 @@ call-fits (write x piece) v m = volume-laws .write-fits v x piece (observe m)
 call-fits (read x piece) v m = read-fits v x piece m
 call-fits restart v m = restart-fits (geometry v) m
 
+-- the invariant of a system: of its state and its medium, or after a cut of its medium
 abbrev pub Invariant : (g : Geometry) (s : System) (k : Model) (told : Option ℕ) → Type 0
 Invariant g (up v m) k told = Up g v (observe m) k told
 Invariant g (down m) k told = Down g (observe m) k
@@ -59,13 +59,13 @@ only-restart m restart l = refl
 module _ (g : Geometry) (k : Model) (told : Option ℕ) where
   restart-keeps : (m : List ℕ) → Down g (observe m) k
       → Invariant g (after (down m) (runs restart)) (modelAfter (fed (down m) (runs restart)) k) (heard (down m) (runs restart) told)
-  unfolding after fed heard outcome memoryOf mediumOf callOutcome
-  restart-keeps m d = rw (restart-found g (observe m) k d) (unfold reporting accepted number reported apply modelAfter in restart-up g (observe m) k d told)
+  unfolding after fed heard outcome memoryOf mediumOf callOutcome reporting accepted number reported apply modelAfter
+  restart-keeps m d = rw (restart-found d) (restart-up d told)
 
   pub keeps : (s : System) (e : Event) → Invariant g s k told → Allowed s e
       → Invariant g (after s e) (modelAfter (fed s e) k) (heard s e told)
   unfolding after fed heard outcome memoryOf mediumOf Allowed
-  keeps (up v m) (runs c) i l = step g v (observe m) k told i c .when-whole _ (medium-laws .stored (geometry v) _ m (call-fits c v m))
-  keeps (up v m) (cut c left) i l = step g v (observe m) k told i c .when-cut left _ l (medium-laws .cut-stored (geometry v) _ left m (call-fits c v m) l)
-  keeps (down m) (runs c) i l = rw (only-restart m c l) (restart-keeps m i)
-  keeps (down m) (cut c left) i l = absurd l
+  keeps (up v m) (runs c) u l = step u c .when-whole _ (medium-laws .stored (geometry v) _ m (call-fits c v m))
+  keeps (up v m) (cut c left) u l = step u c .when-cut left _ l (medium-laws .cut-stored (geometry v) _ left m (call-fits c v m) l)
+  keeps (down m) (runs c) d l = rw (only-restart m c l) (restart-keeps m d)
+  keeps (down m) (cut c left) d l = absurd l

@@ -10,13 +10,14 @@ use borrow.Author.Tests.{ltb-true, ltb-false, eqb-true, eqb-false, lt-ltb, eq-eq
 use Rattle.base.proofs.Booleans.{and-left, and-right, and-both, clash, by-test}
 use Rattle.layout.specs.History.{earlier, oldCount, spotOf}
 use Rattle.layout.specs.Live.{atNewSpot, liveSpot}
+use Rattle.layout.specs.declared.Spot.{Spot}
 use Rattle.layout.specs.Tally.{Tally, Mode, notGrowing, growing, byMode, openBlocks, recordedBy, movedBlocks, liveSpotOf, waiting, movesNow, targetOf, windowFull, lastWindow}
 use Rattle.layout.specs.Windows.{oldSpot, moving, windowOf, movingIn}
 use Rattle.layout.proofs.NextBlocks.{full-copied}
 use Rattle.layout.proofs.Theorems.{layout-laws}
 use Rattle.medium.specs.declared.Geometry.{Geometry}
 use Rattle.medium.specs.Laws.{OtherThanSpot, Holds, Stored}
-use Rattle.medium.specs.Medium.{Observations, Store, recordStore, blockStore}
+use Rattle.medium.specs.Medium.{Observations, Store, noStore, recordStore, blockStore}
 use Rattle.promise.specs.Model.{noBlock, grownTally, withBlocks, copiedTally, nextWindowTally, finishedTally, restartedTally}
 use Rattle.promise.proofs.Tallies.{Running, Resting, Stage, running, unrecorded, SpotsApart, spots-apart, copy-unrecorded, open-growing, live-growing, waiting-growing}
 
@@ -90,11 +91,18 @@ module _ (g : Geometry) (before after : Observations) (t : Tally) (same : g .row
           let same-block : x ≡ y = a .target-distinct x y not-yet (a .waiting-unrecorded y w) q in
           clash (a .waiting-copied y w) (ap (t .copied) (sym same-block) ∙ new)
 
-  -- a record
+  -- a store to no spot: nothing, and a record
+  held-elsewhere : Stage t → (store : Store) → ((q : Spot) → OtherThanSpot store q) → Stored g store before after → Held g after t bytes
+  held-elsewhere s store other stored =
+      record { stands = λ x b k e. stands-kept s store stored x b k (other _) (λ _. other _) (h .stands x b k e) }
+
+  pub held-unchanged : Stage t → Stored g noStore before after → Held g after t bytes
+  unfolding OtherThanSpot
+  held-unchanged s = held-elsewhere s noStore (λ q. tt)
+
   pub held-recorded : Stage t → (sector : List ℕ) → Stored g (recordStore sector) before after → Held g after t bytes
   unfolding OtherThanSpot
-  held-recorded s sector stored =
-      record { stands = λ x b k e. stands-kept s _ stored x b k tt (λ _. tt) (h .stands x b k e) }
+  held-recorded s sector = held-elsewhere s (recordStore sector) (λ q. tt)
 
 -- ---- the live spot while a growth runs, by whether the block has been moved
 
@@ -166,7 +174,7 @@ module _ (t : Tally) (x : ℕ) where
       simp (f, eq-eqb _ _ i, c))
 
 -- where all copied blocks are recorded, none waits
-none-waits : (mode : Mode) (b : Bool) → byMode mode false (b && not b) ≡ false
+pub none-waits : (mode : Mode) (b : Bool) → byMode mode false (b && not b) ≡ false
 none-waits notGrowing b = refl
 none-waits growing true = refl
 none-waits growing false = refl

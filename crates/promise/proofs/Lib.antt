@@ -5,4 +5,5 @@ pub mod StateTallies
 pub mod Consistent
 pub mod Steps
 pub mod EventSteps
+pub mod FurtherCalls
 pub mod Theorem

@@ -1,23 +1,22 @@
 -- One call, whole or cut, on any medium that keeps the laws of stores: nothing of lists or of the places of bytes. Assumes nothing.
 use Prim.Native.Nat.{ℕ, _*_, _<_}
 use mathlib.Core.Path.{_≡_, refl, sym, ap, _∙_, subst}
-use mathlib.Core.Bool.{Bool, true, false, cond, not, _&&_}
+use mathlib.Core.Bool.{Bool, true, false, cond}
 use mathlib.Core.List.{List, []}
 use mathlib.Core.Logic.{_≢_}
 use mathlib.Core.Option.{Option, none, some}
-use native.Mathlib.Omega.{arith}
 use lib.ListN.{length}
 use borrow.Author.Tests.{le-ltb, ne-eqb}
 use Rattle.base.specs.Refusals.{refusal}
-use Rattle.base.proofs.Booleans.{cond-cases, by-test, clash}
-use Rattle.layout.specs.Tally.{Mode, notGrowing, growing, Tally, windowFull, lastWindow, liveSpotOf, targetOf, movesNow, movedBlocks, openBlocks, waiting, byMode, callsLeftOf, nextBlock}
+use Rattle.base.proofs.Booleans.{by-test, clash}
+use Rattle.layout.specs.Tally.{Tally, openBlocks, movedBlocks, liveSpotOf, waiting, callsLeftOf, movesNow, targetOf, nextBlock}
 use Rattle.layout.proofs.NextBlocks.{next-some}
 use Rattle.medium.specs.declared.Geometry.{Geometry}
-use Rattle.medium.specs.Laws.{Stored, OtherThanRecord, OtherThanSpot}
+use Rattle.medium.specs.Laws.{Stored}
 use Rattle.medium.specs.Medium.{recordBytes, bytesNeeded, Observations, Store, noStore, recordStore, blockStore, AfterCut, tornBlock, oldRecord, newRecord, MayLeave, cutStore}
 use Rattle.volume.specs.declared.Volume.{Volume}
 use Rattle.volume.specs.Answers.{number, accepted, reported}
-use Rattle.volume.specs.Calls.{Outcome, refused, reporting, telling, tooShort, restartTable, restartOutcome, growTable, growOutcome, writeTable, writeOutcome, readTable, readOutcome, copyTable, copyStore, copyOutcome, checkpointTable, checkpointStore, checkpointOutcome, advanceTable, advancing, advanceOutcome}
+use Rattle.volume.specs.Calls.{Outcome, refused, reporting, telling, judged, tooShort, restartTable, restartOutcome, growTable, growOutcome, writeTable, writeOutcome, readTable, readOutcome, copyTable, copyStore, copyOutcome, checkpointTable, checkpointStore, checkpointOutcome, advanceTable, advancing, advanceOutcome}
 use Rattle.volume.specs.Records.{recordOf, stateRead, isSoundRecord}
 use Rattle.volume.specs.States.{geometry, disks, historyOf, tallyOf, zeros, withGrowth, grown, recordedOnly, withCopy, checkpointed}
 use Rattle.volume.proofs.Accepted.{grow-accepted, write-accepted, copy-accepted, checkpoint-accepted, advance-accepted}
@@ -27,9 +26,9 @@ use Rattle.volume.proofs.Theorems.{volume-laws}
 use Rattle.promise.specs.Calls.{Call, grow, copy, checkpoint, advance, write, read, restart, ended, cutIn}
 use Rattle.promise.specs.Lists.{callOutcome, cutLeft, later}
 use Rattle.promise.specs.Model.{copiedTally, recordedTally, advancedTally, restartedTally, tallyAfter, checkpointFinishes, advanceFinishes, finishes, PlainVolume, withAdded, saved, spoilt, Model, accepting, modelAfter}
-use Rattle.promise.proofs.Tallies.{spots-apart}
-use Rattle.promise.proofs.StateTallies.{running-of, stage-of, tally-grown, tally-restarted, tally-copied, tally-checkpointed}
-use Rattle.promise.proofs.Consistent.{Consistent, consistent-restarted, consistent-grown, consistent-written, consistent-torn, consistent-copied, consistent-checkpointed}
+use Rattle.promise.proofs.Held.{none-waits}
+use Rattle.promise.proofs.StateTallies.{running-of, tally-grown, tally-restarted, tally-copied, tally-checkpointed}
+use Rattle.promise.proofs.Consistent.{Consistent, consistent-restarted, geometry-checkpointed, consistent-unchanged, consistent-grown, consistent-written, consistent-torn, consistent-copied, consistent-checkpointed}
 
 -- ---- the invariant
 
@@ -47,42 +46,21 @@ pub record Down (g : Geometry) (o : Observations) (k : Model) : Type 0 where
   pub same-tally : restartedTally (k .tally) ≡ tallyOf (recordedOnly last)
   pub same-geometry : geometry (recordedOnly last) ≡ g
 
--- what a cut leaves of the state
-down-at : (g : Geometry) (v : Volume) (o : Observations) (p : PlainVolume) (t : Tally) → Consistent (recordedOnly v) o p → t ≡ tallyOf v → geometry v ≡ g
-    → Down g o (record { plain = p; tally = t })
+-- memory is lost
+down-at : {g : Geometry} {o : Observations} (v : Volume) (p : PlainVolume) (t : Tally) → Consistent (recordedOnly v) o p → t ≡ tallyOf v
+    → geometry v ≡ g → Down g o (record { plain = p; tally = t })
 unfolding recordedOnly withGrowth geometry
-down-at g v o p t c e same = record { last = v; consistent = c; same-tally = ap restartedTally e ∙ sym (tally-restarted v); same-geometry = same }
+down-at v p t c e same =
+    record { last = v; consistent = c; same-tally = ap restartedTally e ∙ sym (tally-restarted v); same-geometry = same }
 
-up-down : (g : Geometry) (v : Volume) (o : Observations) (k : Model) (told : Option ℕ) → Up g v o k told → Down g o k
-up-down g v o k told u =
-    down-at g v o (k .plain) (k .tally) (consistent-restarted v o (k .plain) (u .consistent)) (u .same-tally) (u .same-geometry)
+up-down : {g : Geometry} {v : Volume} {o : Observations} {k : Model} {told : Option ℕ} → Up g v o k told → Down g o k
+up-down {v = v} {o = o} {k = k} u =
+    down-at v (k .plain) (k .tally) (consistent-restarted v o (k .plain) (u .consistent)) (u .same-tally) (u .same-geometry)
 
 -- nothing is stored
-consistent-unchanged : (v : Volume) (before after : Observations) (p : PlainVolume) → Consistent v before p → Stored (geometry v) noStore before after
-    → Consistent v after p
-unfolding OtherThanRecord OtherThanSpot geometry tallyOf
-consistent-unchanged v before after p c stored =
-    let t = tallyOf v in
-    let apart = spots-apart t (stage-of v (c .is-sound)) in
-    record {
-      is-sound = c .is-sound;
-      room = rw (stored .length-kept) (c .room);
-      recorded = stored .record-kept tt ∙ c .recorded;
-      same-open = c .same-open;
-      held =
-          record {
-            stands = λ x b below e.
-                let s = c .held .stands x b below e in
-                record {
-                  at-live = stored .spots-kept (liveSpotOf t x) (apart .live-within x below .row) tt ∙ s .at-live;
-                  at-target = λ w. stored .spots-kept (targetOf t x) (apart .target-within x (apart .waiting-unrecorded x w) .row) tt ∙ s .at-target w;
-                };
-          };
-    }
-
-up-unchanged : (g : Geometry) (v : Volume) (before after : Observations) (k : Model) (told : Option ℕ) → Up g v before k told
+up-unchanged : {g : Geometry} {v : Volume} {before after : Observations} {k : Model} {told : Option ℕ} → Up g v before k told
     → Stored (geometry v) noStore before after → Up g v after k told
-up-unchanged g v before after k told u stored =
+up-unchanged {v = v} {before = before} {after = after} {k = k} u stored =
     record {
       consistent = consistent-unchanged v before after (k .plain) (u .consistent) stored;
       same-tally = u .same-tally;
@@ -100,94 +78,96 @@ pub record Step (g : Geometry) (v : Volume) (o : Observations) (k : Model) (told
       → Down g after (modelAfter (cutIn c (cutLeft left)) k)
 
 -- a torn block store, over any earlier medium that agrees with the record
-abbrev Tears : (v : Volume) (c : Call) (store : Store) → Type 0
-Tears v c store =
+abbrev Torn : (v : Volume) (c : Call) (store : Store) → Type 0
+Torn v c store =
     (bytes : List ℕ) (before after : Observations) (p : PlainVolume) → Consistent (recordedOnly v) before p → MayLeave store (tornBlock bytes)
     → Stored (geometry v) (cutStore store (tornBlock bytes)) before after → Consistent (recordedOnly v) after (spoilt c p)
 
-module _ (g : Geometry) (v : Volume) (o : Observations) (k : Model) (told : Option ℕ) (u : Up g v o k told) (c : Call) where
-  -- a refused call changes nothing
-  refused-step : (n : ℕ) (piece : List ℕ) → n ≢ 0 → Step g v o k told c (refused v n piece)
-  unfolding refused MayLeave accepted number reported later
-  refused-step n piece f =
-      record {
-        when-whole = λ after stored. rw (ne-eqb n 0 f) (unfold modelAfter in up-unchanged g v o after k told u stored);
-        when-cut = λ left after may stored. absurd may;
-      }
+-- only a block store is torn
+nothing-torn : (v : Volume) (c : Call) → Torn v c noStore
+unfolding MayLeave
+nothing-torn v c bytes before after p d may stored = absurd may
 
-  cut-cases : (store : Store) → ((after : Observations) → Stored (geometry v) store o after → Down g after (accepting c k)) → Tears v c store
+record-not-torn : (v : Volume) (c : Call) (sector : List ℕ) → Torn v c (recordStore sector)
+unfolding MayLeave
+record-not-torn v c sector bytes before after p d may stored = absurd may
+
+module _ {g : Geometry} {v : Volume} {o : Observations} {k : Model} {told : Option ℕ} (u : Up g v o k told) (c : Call) where
+  -- an accepted call, whole
+  abbrev Whole : (out : Outcome) → Type 0
+  Whole out =
+      (after : Observations) → Stored (geometry v) (out .store) o after
+      → Up g (out .reply .state) after (accepting c k) (later told (reported (out .reply .answer)))
+
+  -- what a cut leaves
+  cut-cases : (store : Store) → ((after : Observations) → Stored (geometry v) store o after → Down g after (accepting c k)) → Torn v c store
       → (left : AfterCut) (after : Observations) → MayLeave store left → Stored (geometry v) (cutStore store left) o after
       → Down g after (modelAfter (cutIn c (cutLeft left)) k)
   unfolding MayLeave cutStore cutLeft modelAfter
-  cut-cases noStore whole tears left after may stored = absurd may
-  cut-cases (recordStore sector) whole tears (tornBlock bytes) after may stored = absurd may
-  cut-cases (recordStore sector) whole tears oldRecord after may stored =
-      up-down g v after k told (up-unchanged g v o after k told u stored)
-  cut-cases (recordStore sector) whole tears newRecord after may stored = whole after stored
-  cut-cases (blockStore q b) whole tears (tornBlock bytes) after may stored =
-      down-at g v after (spoilt c (k .plain)) (k .tally)
-      (tears bytes o after (k .plain) (consistent-restarted v o (k .plain) (u .consistent)) may stored) (u .same-tally) (u .same-geometry)
-  cut-cases (blockStore q b) whole tears oldRecord after may stored = absurd may
-  cut-cases (blockStore q b) whole tears newRecord after may stored = absurd may
+  cut-cases noStore whole torn left after may stored = absurd may
+  cut-cases (recordStore sector) whole torn (tornBlock bytes) after may stored = absurd may
+  cut-cases (recordStore sector) whole torn oldRecord after may stored = up-down (up-unchanged u stored)
+  cut-cases (recordStore sector) whole torn newRecord after may stored = whole after stored
+  cut-cases (blockStore p b) whole torn (tornBlock bytes) after may stored =
+      down-at v (spoilt c (k .plain)) (k .tally)
+      (torn bytes o after (k .plain) (consistent-restarted v o (k .plain) (u .consistent)) may stored) (u .same-tally) (u .same-geometry)
+  cut-cases (blockStore p b) whole torn oldRecord after may stored = absurd may
+  cut-cases (blockStore p b) whole torn newRecord after may stored = absurd may
 
-  accepted-step : (out : Outcome) → accepted (out .reply .answer) ≡ true
-      → ((after : Observations) → Stored (geometry v) (out .store) o after
-      → Up g (out .reply .state) after (accepting c k) (later told (reported (out .reply .answer))))
-      → Tears v c (out .store) → Step g v o k told c out
+  accepted-step : (out : Outcome) → accepted (out .reply .answer) ≡ true → Whole out → Torn v c (out .store) → Step g v o k told c out
   unfolding modelAfter
-  accepted-step out e whole tears =
+  accepted-step out e whole torn =
       record {
         when-whole = λ after stored. rw e (whole after stored);
-        when-cut = cut-cases (out .store) (λ after stored. up-down g _ after _ _ (whole after stored)) tears;
+        when-cut = cut-cases (out .store) (λ after stored. up-down (whole after stored)) torn;
       }
 
--- ---- restart: accepted on any medium that agrees with the state that its record holds
+  -- a refused call changes nothing
+  refused-step : (n : ℕ) (piece : List ℕ) → n ≢ 0 → Step g v o k told c (refused v n piece)
+  unfolding refused MayLeave accepted number reported later modelAfter
+  refused-step n piece f =
+      record {
+        when-whole = λ after stored. rw (ne-eqb n 0 f) (up-unchanged u stored);
+        when-cut = λ left after may stored. absurd may;
+      }
 
-module _ (g : Geometry) (o : Observations) (k : Model) (d : Down g o k) where
+  judged-step : (table : List (ℕ × Bool)) (piece : List ℕ) (out : Outcome) → accepted (out .reply .answer) ≡ true
+      → (refusal table ≡ 0 → Whole out) → (refusal table ≡ 0 → Torn v c (out .store))
+      → Step g v o k told c (judged table (λ n. refused v n piece) out)
+  judged-step table piece out e whole torn =
+      judged-cases (Step g v o k told c) table (λ n. refused v n piece) out
+      (λ passes. accepted-step out e (whole passes) (torn passes)) (refused-step (refusal table) piece)
+
+-- ---- restart: it is accepted on any medium that agrees with the state that its record holds
+
+module _ {g : Geometry} {o : Observations} {k : Model} (d : Down g o k) where
   abbrev found : Volume
   found = recordedOnly (d .last)
 
-  restart-read : (isSoundRecord (o .sector) ≡ true) × (stateRead (o .sector) ≡ found)
+  restart-reads : (isSoundRecord (o .sector) ≡ true) × (stateRead (o .sector) ≡ found)
   unfolding recordedOnly withGrowth
-  restart-read = rw (d .consistent .recorded) (volume-laws .record-read found (d .consistent .is-sound))
+  restart-reads = rw (d .consistent .recorded) (volume-laws .record-read found (d .consistent .is-sound))
 
   restart-passes : refusal (restartTable o) ≡ 0
   unfolding refusal restartTable tooShort
   restart-passes =
-      let enough = record-room (geometry found) (disks found) (o .byteCount) (d .consistent .room) in
-      rw (le-ltb (o .byteCount) recordBytes enough, restart-read .0, restart-read .1, le-ltb (o .byteCount) (bytesNeeded (geometry found) (disks found)) (d .consistent .room))
+      let room = d .consistent .room in
+      let record-long = le-ltb (o .byteCount) recordBytes (record-room (geometry found) (disks found) (o .byteCount) room) in
+      let disks-long = le-ltb (o .byteCount) (bytesNeeded (geometry found) (disks found)) room in
+      rw (record-long, restart-reads .0, restart-reads .1, disks-long)
 
   pub restart-found : restartOutcome o ≡ reporting found noStore
   unfolding restartOutcome
   restart-found =
       accepted-when (restartTable o) (λ n. refused zeros n []) (reporting (stateRead (o .sector)) noStore) 0 (sym restart-passes) refl
-      ∙ ap (λ (w : Volume). reporting w noStore) (restart-read .1)
+      ∙ ap (λ (w : Volume). reporting w noStore) (restart-reads .1)
 
   pub restart-up : (told : Option ℕ) → Up g found o (accepting restart k) (later told (some (callsLeftOf (tallyOf found))))
   unfolding accepting finishes saved tallyAfter later
   restart-up told =
       record { consistent = d .consistent; same-tally = d .same-tally; same-geometry = d .same-geometry; calls-told = λ _. refl }
 
--- ---- what has bytes has these bytes
-
-some-same : {b d : List ℕ} → _≡_ {A = Option (List ℕ)} (some b) (some d) → b ≡ d
-some-same e = cc
-
-none-not : {X : Type 0} {d : List ℕ} → _≡_ {A = Option (List ℕ)} none (some d) → X
-none-not e = absurd (let q : _≡_ {A = ℕ} 0 1 = cc in omega arith)
-
--- what is copied is recorded, so no block waits
-none-waits : (mode : Mode) (b : Bool) → byMode mode false (b && not b) ≡ false
-none-waits notGrowing b = refl
-none-waits growing true = refl
-none-waits growing false = refl
-
-checkpoint-geometry : (v : Volume) → geometry (checkpointed v) ≡ geometry v
-unfolding checkpointed withGrowth geometry
-checkpoint-geometry v =
-    cond-cases (λ (w : Volume). geometry w ≡ geometry v) (windowFull (tallyOf v))
-    (λ _. cond-cases (λ (w : Volume). geometry w ≡ geometry v) (lastWindow (tallyOf v)) (λ _. refl) (λ _. refl))
-    (λ _. refl)
+-- ---- each call
 
 -- an advance that is not refused is accepted
 pub advance-told : (v : Volume) (o : Observations) (next : Option ℕ) → accepted (advancing v next o .reply .answer) ≡ true
@@ -195,82 +175,76 @@ unfolding advancing telling accepted number
 advance-told v o none = refl
 advance-told v o (some x) = refl
 
--- ---- the calls, with the tally of the state
-
+-- the tally is that of the state
 module _ (g : Geometry) (v : Volume) (o : Observations) (p : PlainVolume) (told : Option ℕ) (c : Consistent v o p) (same : geometry v ≡ g)
     (right : v .growing ≢ 0 → told ≡ some (callsLeftOf (tallyOf v))) where
-  abbrev K : Model
-  K = record { plain = p; tally = tallyOf v }
+  abbrev model : Model
+  model = record { plain = p; tally = tallyOf v }
 
-  u : Up g v o K told
-  u = record { consistent = c; same-tally = refl; same-geometry = same; calls-told = right }
+  is-up : Up g v o model told
+  is-up = record { consistent = c; same-tally = refl; same-geometry = same; calls-told = right }
 
   -- grow
   grow-whole : (count : ℕ) → refusal (growTable v count (o .byteCount)) ≡ 0 → (after : Observations)
       → Stored (geometry v) (recordStore (recordOf (grown v count))) o after
-      → Up g (grown v count) after (accepting (grow count) K) (some (callsLeftOf (tallyOf (grown v count))))
-  unfolding accepting finishes saved tallyAfter
+      → Up g (grown v count) after (accepting (grow count) model) (some (callsLeftOf (tallyOf (grown v count))))
+  unfolding accepting finishes saved tallyAfter grown withGrowth geometry
   grow-whole count e after stored =
       let f = grow-accepted v count (o .byteCount) e in
       record {
         consistent = consistent-grown v o after p c count e stored;
         same-tally = sym (tally-grown v count (f .is-sound) (f .one-more));
-        same-geometry = unfold grown withGrowth geometry in same;
+        same-geometry = same;
         calls-told = λ _. refl;
       }
 
-  grow-step : (count : ℕ) → Step g v o K told (grow count) (growOutcome v count o)
-  unfolding growOutcome reporting accepted number reported later MayLeave
+  grow-step : (count : ℕ) → Step g v o model told (grow count) (growOutcome v count o)
+  unfolding growOutcome reporting accepted number reported later
   grow-step count =
-      judged-cases (Step g v o K told (grow count)) (growTable v count (o .byteCount)) (λ n. refused v n []) _
-      (λ e. accepted-step g v o K told u (grow count) _ refl (grow-whole count e) (λ bytes before after q d may stored. absurd may))
-      (λ f. refused-step g v o K told u (grow count) _ [] f)
+      judged-step is-up (grow count) (growTable v count (o .byteCount)) [] _ refl (grow-whole count) (λ _. record-not-torn v (grow count) _)
 
   -- write
   write-whole : (x : ℕ) (piece : List ℕ) → refusal (writeTable v x (length piece) (o .byteCount)) ≡ 0 → (after : Observations)
-      → Stored (geometry v) (blockStore (liveSpotOf (tallyOf v) x) piece) o after → Up g v after (accepting (write x piece) K) told
+      → Stored (geometry v) (blockStore (liveSpotOf (tallyOf v) x) piece) o after → Up g v after (accepting (write x piece) model) told
   unfolding accepting finishes saved tallyAfter
   write-whole x piece e after stored =
       let f = write-accepted v x (length piece) (o .byteCount) e in
       record {
-        consistent = consistent-written v o after p c x (f .0 .block-open) (f .1) piece (some piece) (λ d same. some-same same) stored;
+        consistent = consistent-written v o after p c x (f .0 .block-open) (f .1) piece (some piece) (λ b e. cc) stored;
         same-tally = refl;
         same-geometry = same;
         calls-told = right;
       }
 
-  write-tears : (x : ℕ) (piece : List ℕ) → x < openBlocks (tallyOf v) → Tears v (write x piece) (blockStore (liveSpotOf (tallyOf v) x) piece)
-  unfolding MayLeave cutStore spoilt recordedOnly withGrowth geometry historyOf tallyOf openBlocks liveSpotOf movedBlocks waiting
-  write-tears x piece below bytes before after q d may stored =
+  write-torn : (x : ℕ) (piece : List ℕ) → x < openBlocks (tallyOf v) → Torn v (write x piece) (blockStore (liveSpotOf (tallyOf v) x) piece)
+  unfolding cutStore spoilt recordedOnly withGrowth geometry historyOf tallyOf openBlocks liveSpotOf movedBlocks waiting
+  write-torn x piece below bytes before after q d may stored =
       consistent-written (recordedOnly v) before after q d x below (none-waits (tallyOf v .mode) (tallyOf v .recorded x)) bytes none
-      (λ d same. none-not same) stored
+      (λ b e. cc) stored
 
-  write-step : (x : ℕ) (piece : List ℕ) → Step g v o K told (write x piece) (writeOutcome v x piece o)
+  write-step : (x : ℕ) (piece : List ℕ) → Step g v o model told (write x piece) (writeOutcome v x piece o)
   unfolding writeOutcome accepted number reported later
   write-step x piece =
-      judged-cases (Step g v o K told (write x piece)) (writeTable v x (length piece) (o .byteCount)) (λ n. refused v n piece) _
-      (λ e. accepted-step g v o K told u (write x piece) _ refl (write-whole x piece e)
-      (write-tears x piece (write-accepted v x (length piece) (o .byteCount) e .0 .block-open)))
-      (λ f. refused-step g v o K told u (write x piece) _ piece f)
+      judged-step is-up (write x piece) (writeTable v x (length piece) (o .byteCount)) piece _ refl (write-whole x piece)
+      (λ e. write-torn x piece (write-accepted v x (length piece) (o .byteCount) e .0 .block-open))
 
   -- read
-  read-step : (x : ℕ) (piece : List ℕ) → Step g v o K told (read x piece) (readOutcome v x piece o)
-  unfolding readOutcome accepted number reported later accepting finishes saved tallyAfter MayLeave
+  read-step : (x : ℕ) (piece : List ℕ) → Step g v o model told (read x piece) (readOutcome v x piece o)
+  unfolding readOutcome accepted number reported later accepting finishes saved tallyAfter
   read-step x piece =
-      judged-cases (Step g v o K told (read x piece)) (readTable v x (length piece) (o .byteCount)) (λ n. refused v n piece) _
-      (λ e. accepted-step g v o K told u (read x piece) _ refl (λ after stored. up-unchanged g v o after K told u stored)
-      (λ bytes before after q d may stored. absurd may))
-      (λ f. refused-step g v o K told u (read x piece) _ piece f)
+      judged-step is-up (read x piece) (readTable v x (length piece) (o .byteCount)) piece _ refl (λ _ after stored. up-unchanged is-up stored)
+      (λ _. nothing-torn v (read x piece))
 
   -- copy
   copy-whole : v .growing ≢ 0 → (x : ℕ) → movesNow (tallyOf v) x ≡ true → tallyOf v .copied x ≡ false → (after : Observations)
       → Stored (geometry v) (copyStore v x o) o after
       → Up g (withCopy v x) after (record { plain = p; tally = copiedTally x (tallyOf v) }) (some (callsLeftOf (tallyOf (withCopy v x))))
+  unfolding withCopy withGrowth geometry
   copy-whole on x moves new after stored =
       record {
         consistent = consistent-copied v o after p c on x moves new stored;
         same-tally = sym (tally-copied v x (c .is-sound) on moves);
-        same-geometry = unfold withCopy withGrowth geometry in same;
+        same-geometry = same;
         calls-told = λ _. refl;
       }
 
@@ -278,21 +252,20 @@ module _ (g : Geometry) (v : Volume) (o : Observations) (p : PlainVolume) (told 
   not-recorded on x new =
       by-test (tallyOf v .recorded x) (λ e. clash (running-of v (c .is-sound) on .recorded-copied x e) new) (λ e. e)
 
-  copy-tears : v .growing ≢ 0 → (x : ℕ) → movesNow (tallyOf v) x ≡ true → tallyOf v .copied x ≡ false → (d : Call)
-      → ((q : PlainVolume) → spoilt d q ≡ q) → Tears v d (copyStore v x o)
-  unfolding copyStore MayLeave cutStore recordedOnly withGrowth geometry historyOf tallyOf movesNow targetOf
-  copy-tears on x moves new d spoils bytes before after q e may stored =
-      rw (spoils q) (consistent-torn (recordedOnly v) before after q e on x moves (not-recorded on x new) bytes stored)
+  copy-torn : v .growing ≢ 0 → (x : ℕ) → movesNow (tallyOf v) x ≡ true → tallyOf v .copied x ≡ false → (d : Call)
+      → ((q : PlainVolume) → spoilt d q ≡ q) → Torn v d (copyStore v x o)
+  unfolding copyStore cutStore recordedOnly withGrowth geometry historyOf tallyOf movesNow targetOf
+  copy-torn on x moves new d unspoilt bytes before after q e may stored =
+      rw (unspoilt q) (consistent-torn (recordedOnly v) before after q e on x moves (not-recorded on x new) bytes stored)
 
-  copy-step : (x : ℕ) → Step g v o K told (copy x) (copyOutcome v x o)
-  unfolding copyOutcome reporting accepted number reported later accepting finishes saved tallyAfter
+  copy-step : (x : ℕ) → Step g v o model told (copy x) (copyOutcome v x o)
+  unfolding copyOutcome reporting accepted number reported later accepting finishes saved tallyAfter spoilt
   copy-step x =
-      judged-cases (Step g v o K told (copy x)) (copyTable v x (o .byteCount)) (λ n. refused v n []) _
+      judged-step is-up (copy x) (copyTable v x (o .byteCount)) [] _ refl
+      (λ e. let f = copy-accepted v x (o .byteCount) e in copy-whole (f .advances .is-growing) x (f .moves) (f .not-copied))
       (λ e.
       let f = copy-accepted v x (o .byteCount) e in
-      accepted-step g v o K told u (copy x) _ refl (copy-whole (f .advances .is-growing) x (f .moves) (f .not-copied))
-      (copy-tears (f .advances .is-growing) x (f .moves) (f .not-copied) (copy x) (λ q. unfold spoilt in refl)))
-      (λ f. refused-step g v o K told u (copy x) _ [] f)
+      copy-torn (f .advances .is-growing) x (f .moves) (f .not-copied) (copy x) (λ q. refl))
 
   -- checkpoint
   checkpoint-whole : v .growing ≢ 0 → (after : Observations) → Stored (geometry v) (checkpointStore v) o after
@@ -304,17 +277,15 @@ module _ (g : Geometry) (v : Volume) (o : Observations) (p : PlainVolume) (told 
       record {
         consistent = consistent-checkpointed v o after p c on stored;
         same-tally = sym (tally-checkpointed v (c .is-sound) on);
-        same-geometry = checkpoint-geometry v ∙ same;
+        same-geometry = geometry-checkpointed v ∙ same;
         calls-told = λ _. refl;
       }
 
-  checkpoint-step : Step g v o K told checkpoint (checkpointOutcome v o)
-  unfolding checkpointOutcome checkpointStore reporting accepted number reported later accepting finishes saved tallyAfter MayLeave tallyOf disks
+  checkpoint-step : Step g v o model told checkpoint (checkpointOutcome v o)
+  unfolding checkpointOutcome checkpointStore reporting accepted number reported later accepting finishes saved tallyAfter tallyOf disks
   checkpoint-step =
-      judged-cases (Step g v o K told checkpoint) (checkpointTable v (o .byteCount)) (λ n. refused v n []) _
-      (λ e. accepted-step g v o K told u checkpoint _ refl (checkpoint-whole (checkpoint-accepted v (o .byteCount) e .0 .is-growing))
-      (λ bytes before after q d may stored. absurd may))
-      (λ f. refused-step g v o K told u checkpoint _ [] f)
+      judged-step is-up checkpoint (checkpointTable v (o .byteCount)) [] _ refl
+      (λ e. checkpoint-whole (checkpoint-accepted v (o .byteCount) e .0 .is-growing)) (λ _. record-not-torn v checkpoint _)
 
   -- advance, by the block that is next
   advance-whole : v .growing ≢ 0 → (next : Option ℕ) → nextBlock (tallyOf v) ≡ next → (after : Observations)
@@ -323,50 +294,43 @@ module _ (g : Geometry) (v : Volume) (o : Observations) (p : PlainVolume) (told 
       (record { plain = cond (advanceFinishes next (tallyOf v)) (withAdded (disks v * v .rows) p) p; tally = advancedTally next (tallyOf v) })
       (later told (reported (advancing v next o .reply .answer)))
   unfolding advancing telling advanceFinishes advancedTally later reported
-  advance-whole on none e after stored = checkpoint-whole on after stored
-  advance-whole on (some x) e after stored =
-      let f = next-some (tallyOf v) x e in
-      copy-whole on x (f .0) (f .1) after stored
+  advance-whole on none e = checkpoint-whole on
+  advance-whole on (some x) e = let f = next-some (tallyOf v) x e in copy-whole on x (f .0) (f .1)
 
-  advance-tears : v .growing ≢ 0 → (next : Option ℕ) → nextBlock (tallyOf v) ≡ next → Tears v advance (advancing v next o .store)
-  unfolding advancing telling checkpointStore MayLeave
-  advance-tears on none e = λ bytes before after q d may stored. absurd may
-  advance-tears on (some x) e =
-      let f = next-some (tallyOf v) x e in
-      copy-tears on x (f .0) (f .1) advance (λ q. unfold spoilt in refl)
+  advance-torn : v .growing ≢ 0 → (next : Option ℕ) → nextBlock (tallyOf v) ≡ next → Torn v advance (advancing v next o .store)
+  unfolding advancing telling checkpointStore spoilt
+  advance-torn on none e = record-not-torn v advance _
+  advance-torn on (some x) e = let f = next-some (tallyOf v) x e in copy-torn on x (f .0) (f .1) advance (λ q. refl)
 
-  advance-step : Step g v o K told advance (advanceOutcome v o)
+  advance-step : Step g v o model told advance (advanceOutcome v o)
   unfolding advanceOutcome accepting finishes saved tallyAfter tallyOf disks
   advance-step =
-      judged-cases (Step g v o K told advance) (advanceTable v (o .byteCount)) (λ n. refused v n []) _
-      (λ e.
-      let on = advance-accepted v (o .byteCount) e .is-growing in
-      accepted-step g v o K told u advance _ (advance-told v o (nextBlock (tallyOf v))) (advance-whole on (nextBlock (tallyOf v)) refl)
-      (advance-tears on (nextBlock (tallyOf v)) refl))
-      (λ f. refused-step g v o K told u advance _ [] f)
+      let next = nextBlock (tallyOf v) in
+      judged-step is-up advance (advanceTable v (o .byteCount)) [] (advancing v next o) (advance-told v o next)
+      (λ e. advance-whole (advance-accepted v (o .byteCount) e .is-growing) next refl)
+      (λ e. advance-torn (advance-accepted v (o .byteCount) e .is-growing) next refl)
 
   -- restart
-  restart-step : Step g v o K told restart (restartOutcome o)
-  unfolding reporting accepted number reported MayLeave
+  restart-step : Step g v o model told restart (restartOutcome o)
+  unfolding reporting accepted number reported
   restart-step =
-      let d = up-down g v o K told u in
-      rw (restart-found g o K d)
-      (accepted-step g v o K told u restart (reporting (found g o K d) noStore) refl
-      (λ after stored. up-unchanged g (found g o K d) o after (accepting restart K) _ (restart-up g o K d told) (rw (d .same-geometry, sym same) stored))
-      (λ bytes before after q e may stored. absurd may))
+      let d = up-down is-up in
+      rw (restart-found d)
+      (accepted-step is-up restart (reporting (found d) noStore) refl
+      (λ after stored. up-unchanged (restart-up d told) (rw (d .same-geometry, sym same) stored)) (nothing-torn v restart))
 
-  all-steps : (d : Call) → Step g v o K told d (callOutcome d v o)
+  each-step : (d : Call) → Step g v o model told d (callOutcome d v o)
   unfolding callOutcome
-  all-steps (grow count) = grow-step count
-  all-steps (copy x) = copy-step x
-  all-steps checkpoint = checkpoint-step
-  all-steps advance = advance-step
-  all-steps (write x piece) = write-step x piece
-  all-steps (read x piece) = read-step x piece
-  all-steps restart = restart-step
+  each-step (grow count) = grow-step count
+  each-step (copy x) = copy-step x
+  each-step checkpoint = checkpoint-step
+  each-step advance = advance-step
+  each-step (write x piece) = write-step x piece
+  each-step (read x piece) = read-step x piece
+  each-step restart = restart-step
 
-pub step : (g : Geometry) (v : Volume) (o : Observations) (k : Model) (told : Option ℕ) → Up g v o k told → (d : Call)
-    → Step g v o k told d (callOutcome d v o)
-step g v o k told u d =
-    subst (λ (k : Model). Step g v o k told d (callOutcome d v o)) (λ i. record { plain = k .plain; tally = sym (u .same-tally) i })
-    (all-steps g v o (k .plain) told (u .consistent) (u .same-geometry) (u .calls-told) d)
+pub step : {g : Geometry} {v : Volume} {o : Observations} {k : Model} {told : Option ℕ} → Up g v o k told → (c : Call)
+    → Step g v o k told c (callOutcome c v o)
+step {g = g} {v = v} {o = o} {k = k} {told = told} u c =
+    subst (λ (k : Model). Step g v o k told c (callOutcome c v o)) (λ i. record { plain = k .plain; tally = sym (u .same-tally) i })
+    (each-step g v o (k .plain) told (u .consistent) (u .same-geometry) (u .calls-told) c)
