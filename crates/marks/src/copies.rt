@@ -29,13 +29,7 @@ pub fn moves_now(counts: [usize; 8], t: usize, s: usize, w: usize, x: Block) -> 
 }
 
 // The marks with that of the moving block x set.
-pub fn with_mark(
-    counts: [usize; 8],
-    t: usize,
-    s: usize,
-    marks: [bool; 64],
-    x: Block,
-) -> [bool; 64]
+pub fn with_mark(counts: [usize; 8], t: usize, s: usize, marks: [bool; 64], x: Block) -> [bool; 64]
     requires { ⌜ Limits s (history t counts) ⌝ }
     requires { ⌜ (0 < t) × (moving s (history t counts) (x .0) ≡ true) ⌝ }
     ensures { λ r. ⌜ r ≡ set marks (markOf s (history t counts) (x .0)) true ⌝ }

@@ -46,7 +46,7 @@ Invariant g (up v m) k told = Up g v (observe m) k told
 Invariant g (down m) k told = Down g (observe m) k
 
 -- after a cut only restart may come
-only-restart : (m : List ℕ) (c : Call) → Allowed (down m) (runs c) → c ≡ restart
+only-restart : (m : List ℕ) (c : Call) → Allowed callOutcome (down m) (runs c) → c ≡ restart
 unfolding Allowed
 only-restart m (grow count) l = absurd l
 only-restart m (copy x) l = absurd l
@@ -58,12 +58,12 @@ only-restart m restart l = refl
 
 module _ (g : Geometry) (k : Model) (told : Option ℕ) where
   restart-keeps : (m : List ℕ) → Down g (observe m) k
-      → Invariant g (after (down m) (runs restart)) (modelAfter (fed (down m) (runs restart)) k) (heard (down m) (runs restart) told)
+      → Invariant g (after callOutcome (down m) (runs restart)) (modelAfter (fed callOutcome (down m) (runs restart)) k) (heard callOutcome (down m) (runs restart) told)
   unfolding after fed heard outcome memoryOf mediumOf callOutcome reporting accepted number reported apply modelAfter
   restart-keeps m d = rw (restart-found d) (restart-up d told)
 
-  pub keeps : (s : System) (e : Event) → Invariant g s k told → Allowed s e
-      → Invariant g (after s e) (modelAfter (fed s e) k) (heard s e told)
+  pub keeps : (s : System) (e : Event) → Invariant g s k told → Allowed callOutcome s e
+      → Invariant g (after callOutcome s e) (modelAfter (fed callOutcome s e) k) (heard callOutcome s e told)
   unfolding after fed heard outcome memoryOf mediumOf Allowed
   keeps (up v m) (runs c) u l = step u c .when-whole _ (medium-laws .stored (geometry v) _ m (call-fits c v m))
   keeps (up v m) (cut c left) u l = step u c .when-cut left _ l (medium-laws .cut-stored (geometry v) _ left m (call-fits c v m) l)

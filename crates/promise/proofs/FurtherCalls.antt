@@ -119,11 +119,11 @@ module _ {g : Geometry} {v : Volume} {o : Observations} {k : Model} {told : Opti
       (advancing-told v o state-grows (nextBlock (tallyOf v))))
 
 module _ {g : Geometry} {v : Volume} {k : Model} {told : Option ℕ} (m : List ℕ) (u : Up g v (observe m) k told) (on : k .tally .mode ≡ growing) where
-  event-tally : modelAfter (fed (up v m) (runs advance)) k .tally ≡ tallyAfter advance (k .tally)
+  event-tally : modelAfter (fed callOutcome (up v m) (runs advance)) k .tally ≡ tallyAfter advance (k .tally)
   unfolding fed outcome memoryOf mediumOf callOutcome modelAfter accepting
   event-tally = rw (is-accepted u on)
 
-  event-told : toldFinished (outcome advance (up v m) .reply .answer) ≡ finishes advance (k .tally)
+  event-told : toldFinished (outcome callOutcome advance (up v m) .reply .answer) ≡ finishes advance (k .tally)
   unfolding outcome memoryOf mediumOf callOutcome
   event-told = told-finished u on
 
@@ -133,7 +133,7 @@ module _ {g : Geometry} {v : Volume} {k : Model} {told : Option ℕ} (m : List �
 pub data FurtherCalls : List Event → Type 0 where
   no-call : FurtherCalls []
   an-advance : {es : List Event} → FurtherCalls es → FurtherCalls (runs advance ∷ es)
-  another : {c : Call} {es : List Event} → ((t : Tally) → tallyAfter c t ≡ t) → ((s : System) (told : List Bool) → tellings s (runs c) told ≡ told)
+  another : {c : Call} {es : List Event} → ((t : Tally) → tallyAfter c t ≡ t) → ((s : System) (told : List Bool) → tellings callOutcome s (runs c) told ≡ told)
       → FurtherCalls es → FurtherCalls (runs c ∷ es)
 
 pub further-calls : (es : List Event) → AllFurther es → FurtherCalls es
@@ -154,21 +154,21 @@ tally-kept c same true k = same (k .tally)
 tally-kept c same false k = refl
 
 -- with no advance the tally stays
-none-advanced : {es : List Event} → FurtherCalls es → (s : System) (k : Model) → length (finishedTold s es) ≡ 0
-    → modelled (fedAll s es) k .tally ≡ k .tally
+none-advanced : {es : List Event} → FurtherCalls es → (s : System) (k : Model) → length (finishedTold callOutcome s es) ≡ 0
+    → modelled (fedAll callOutcome s es) k .tally ≡ k .tally
 unfolding finishedTold tellings modelled fedAll fed
 none-advanced no-call s k e = refl
 none-advanced (an-advance f) s k e = absurd (omega arith)
 none-advanced (another {c = c} same tell f) s k e =
-    none-advanced f (after s (runs c)) (modelAfter (fed s (runs c)) k) (rw tell at e) ∙ tally-kept c same _ k
+    none-advanced f (after callOutcome s (runs c)) (modelAfter (fed callOutcome s (runs c)) k) (rw tell at e) ∙ tally-kept c same _ k
 
 pub ending : {es : List Event} → FurtherCalls es → (g : Geometry) (v : Volume) (m : List ℕ) (k : Model) (told : Option ℕ)
     → Up g v (observe m) k told → k .tally .mode ≡ growing
-    → Ending (finishedTold (up v m) es) (modelled (fedAll (up v m) es) k .tally .mode) (callsLeftOf (k .tally))
+    → Ending (finishedTold callOutcome (up v m) es) (modelled (fedAll callOutcome (up v m) es) k .tally .mode) (callsLeftOf (k .tally))
 unfolding finishedTold tellings modelled fedAll fed after Allowed
 ending no-call g v m k told u on = ending-none on (left-positive (k .tally) (tally-runs u on))
 ending (an-advance f) g v m k told u on =
-    let next = modelAfter (fed (up v m) (runs advance)) k in
+    let next = modelAfter (fed callOutcome (up v m) (runs advance)) k in
     let i = keeps g k told (up v m) (runs advance) u tt in
     let same : next .tally ≡ tallyAfter advance (k .tally) = event-tally m u on in
     elim (advance-step (k .tally) (tally-runs u on)) [
@@ -180,7 +180,7 @@ ending (an-advance f) g v m k told u on =
           (ending-last (λ z. ap (λ (t : Tally). t .mode) (none-advanced f _ next z ∙ same) ∙ mode))
     ]
 ending (another {c = c} same tell f) g v m k told u on =
-    let next = modelAfter (fed (up v m) (runs c)) k in
+    let next = modelAfter (fed callOutcome (up v m) (runs c)) k in
     let kept : next .tally ≡ k .tally = tally-kept c same _ k in
     rw (tell, ap callsLeftOf (sym kept))
     (ending f g _ _ next _ (keeps g k told (up v m) (runs c) u tt) (ap (λ (t : Tally). t .mode) kept ∙ on))

@@ -30,27 +30,27 @@ use Rattle.promise.proofs.FurtherCalls.{Ending, state-grows, further-ca
 
 -- ---- lists
 
-pub lawful-before : (s : System) (es rest : List Event) → Lawful s (es ++ rest) → Lawful s es
+pub lawful-before : (s : System) (es rest : List Event) → Lawful callOutcome s (es ++ rest) → Lawful callOutcome s es
 unfolding Lawful
 lawful-before s [] rest l = tt
-lawful-before s (e ∷ es) rest l = (l .0, lawful-before (after s e) es rest (l .1))
+lawful-before s (e ∷ es) rest l = (l .0, lawful-before (after callOutcome s e) es rest (l .1))
 
-lawful-rest : (s : System) (es rest : List Event) → Lawful s (es ++ rest) → Lawful (afterAll s es) rest
+lawful-rest : (s : System) (es rest : List Event) → Lawful callOutcome s (es ++ rest) → Lawful callOutcome (afterAll callOutcome s es) rest
 unfolding Lawful afterAll
 lawful-rest s [] rest l = l
-lawful-rest s (e ∷ es) rest l = lawful-rest (after s e) es rest (l .1)
+lawful-rest s (e ∷ es) rest l = lawful-rest (after callOutcome s e) es rest (l .1)
 
 modelled-append : (s : System) (k : Model) (es rest : List Event)
-    → modelled (fedAll s (es ++ rest)) k ≡ modelled (fedAll (afterAll s es) rest) (modelled (fedAll s es) k)
+    → modelled (fedAll callOutcome s (es ++ rest)) k ≡ modelled (fedAll callOutcome (afterAll callOutcome s es) rest) (modelled (fedAll callOutcome s es) k)
 unfolding modelled fedAll afterAll
 modelled-append s k [] rest = refl
-modelled-append s k (e ∷ es) rest = modelled-append (after s e) (modelAfter (fed s e) k) es rest
+modelled-append s k (e ∷ es) rest = modelled-append (after callOutcome s e) (modelAfter (fed callOutcome s e) k) es rest
 
-keeps-all : (g : Geometry) (s : System) (k : Model) (told : Option ℕ) (es : List Event) → Invariant g s k told → Lawful s es
-    → Invariant g (afterAll s es) (modelled (fedAll s es) k) (lastReported s es told)
+keeps-all : (g : Geometry) (s : System) (k : Model) (told : Option ℕ) (es : List Event) → Invariant g s k told → Lawful callOutcome s es
+    → Invariant g (afterAll callOutcome s es) (modelled (fedAll callOutcome s es) k) (lastReported callOutcome s es told)
 unfolding afterAll modelled fedAll lastReported Lawful
 keeps-all g s k told [] i l = i
-keeps-all g s k told (e ∷ es) i l = keeps-all g (after s e) (modelAfter (fed s e) k) (heard s e told) es (keeps g k told s e i (l .0)) (l .1)
+keeps-all g s k told (e ∷ es) i l = keeps-all g (after callOutcome s e) (modelAfter (fed callOutcome s e) k) (heard callOutcome s e told) es (keeps g k told s e i (l .0)) (l .1)
 
 -- ---- format
 
@@ -111,10 +111,10 @@ module _ {g : Geometry} {v : Volume} {o : Observations} {k : Model} {told : Opti
 
 -- ---- what the invariant says of a system
 
-read-after : (g : Geometry) (s : System) (k : Model) (told : Option ℕ) → Invariant g s k told → (x : ℕ) (piece : List ℕ) → Allowed s (runs (read x piece))
+read-after : (g : Geometry) (s : System) (k : Model) (told : Option ℕ) → Invariant g s k told → (x : ℕ) (piece : List ℕ) → Allowed callOutcome s (runs (read x piece))
     → x < k .plain .blocks → length piece ≡ g .size
-    → (accepted (outcome (read x piece) s .reply .answer) ≡ true)
-    × ((b : List ℕ) → k .plain .bytes x ≡ some b → outcome (read x piece) s .piece ≡ b)
+    → (accepted (outcome callOutcome (read x piece) s .reply .answer) ≡ true)
+    × ((b : List ℕ) → k .plain .bytes x ≡ some b → outcome callOutcome (read x piece) s .piece ≡ b)
     × ((b : List ℕ) → k .plain .bytes x ≡ some b → observe (mediumOf s) .bytesAt g (liveSpotOf (k .tally) x) ≡ b)
 unfolding outcome memoryOf mediumOf callOutcome Allowed accepted number
 read-after g (up v m) k told u x piece l below whole = (
@@ -131,7 +131,7 @@ left-after g (up v m) k told u is-up on = rw (u .same-tally) (u .calls-told (sta
 left-after g (down m) k told d is-up on = absurd is-up
 
 ending-after : (g : Geometry) (s : System) (k : Model) (told : Option ℕ) → Invariant g s k told → IsUp s → k .tally .mode ≡ growing
-    → (es : List Event) → AllFurther es → Ending (finishedTold s es) (modelled (fedAll s es) k .tally .mode) (callsLeftOf (k .tally))
+    → (es : List Event) → AllFurther es → Ending (finishedTold callOutcome s es) (modelled (fedAll callOutcome s es) k .tally .mode) (callsLeftOf (k .tally))
 unfolding IsUp
 ending-after g (up v m) k told u is-up on es f = ending (further-calls es f) g v m k told u on
 ending-after g (down m) k told d is-up on es f = absurd is-up
@@ -139,26 +139,26 @@ ending-after g (down m) k told d is-up on es f = absurd is-up
 -- ---- demand 3
 
 module _ (a : Start) (ok : accepted (formatted a .reply .answer) ≡ true) where
-  invariant-after : (es : List Event) → Lawful (begin a) es
-      → Invariant (startGeometry a) (systemAfter a es) (modelOf a es) (lastReported (begin a) es none)
+  invariant-after : (es : List Event) → Lawful callOutcome (begin a) es
+      → Invariant (startGeometry a) (systemAfter callOutcome a es) (modelOf callOutcome a es) (lastReported callOutcome (begin a) es none)
   unfolding systemAfter modelOf
   invariant-after es l = keeps-all (startGeometry a) (begin a) (startModel (a .rows) (a .disks)) none es (start a ok) l
 
-  read-right : (before rest : List Event) (x : ℕ) (piece : List ℕ) → Lawful (begin a) (before ++ (runs (read x piece) ∷ rest))
-      → x < modelOf a before .plain .blocks → length piece ≡ a .size → ReadRight a before x piece
+  read-right : (before rest : List Event) (x : ℕ) (piece : List ℕ) → Lawful callOutcome (begin a) (before ++ (runs (read x piece) ∷ rest))
+      → x < modelOf callOutcome a before .plain .blocks → length piece ≡ a .size → ReadRight callOutcome a before x piece
   unfolding Lawful systemAfter
   read-right before rest x piece l below whole =
       let i = invariant-after before (lawful-before (begin a) before (runs (read x piece) ∷ rest) l) in
       let allowed = lawful-rest (begin a) before (runs (read x piece) ∷ rest) l .0 in
-      let r = read-after (startGeometry a) (systemAfter a before) (modelOf a before) _ i x piece allowed below whole in
+      let r = read-after (startGeometry a) (systemAfter callOutcome a before) (modelOf callOutcome a before) _ i x piece allowed below whole in
       record { is-accepted = r .0; bytes-read = r .1; bytes-stand = r .2 }
 
 finishing : (a : Start) (es further : List Event) (n : ℕ)
-    → Ending (finishedTold (systemAfter a es) further) (modelled (fedAll (systemAfter a es) further) (modelOf a es) .tally .mode) n
-    → Finishing a es further n
+    → Ending (finishedTold callOutcome (systemAfter callOutcome a es) further) (modelled (fedAll callOutcome (systemAfter callOutcome a es) further) (modelOf callOutcome a es) .tally .mode) n
+    → Finishing callOutcome a es further n
 unfolding systemAfter modelOf
 finishing a es further n f =
-    let joined : modelOf a (es ++ further) ≡ modelled (fedAll (systemAfter a es) further) (modelOf a es) = modelled-append (begin a) _ es further in
+    let joined : modelOf callOutcome a (es ++ further) ≡ modelled (fedAll callOutcome (systemAfter callOutcome a es) further) (modelOf callOutcome a es) = modelled-append (begin a) _ es further in
     record {
       still-runs = λ l. ap (λ (k : Model). k .tally .mode) joined ∙ f .still-runs l;
       none-told = f .none-told;
@@ -170,8 +170,8 @@ pub promise : Promise
 promise a ok es l =
     let i = invariant-after a ok es l in
     record {
-      reads = λ before rest x piece e below whole. read-right a ok before rest x piece (subst (Lawful (begin a)) e l) below whole;
-      calls-left = λ is-up on. left-after (startGeometry a) (systemAfter a es) (modelOf a es) _ i is-up on;
+      reads = λ before rest x piece e below whole. read-right a ok before rest x piece (subst (Lawful callOutcome (begin a)) e l) below whole;
+      calls-left = λ is-up on. left-after (startGeometry a) (systemAfter callOutcome a es) (modelOf callOutcome a es) _ i is-up on;
       finishes = λ is-up on further f.
-          finishing a es further _ (ending-after (startGeometry a) (systemAfter a es) (modelOf a es) _ i is-up on further f);
+          finishing a es further _ (ending-after (startGeometry a) (systemAfter callOutcome a es) (modelOf callOutcome a es) _ i is-up on further f);
     }

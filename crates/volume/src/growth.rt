@@ -117,8 +117,8 @@ impl Volume {
         if !marks::moves_now(counts, self.growths, self.rows, self.window, x) {
             return 10;
         }
-        let copied = self.copied;
-        if marks::is_marked(counts, self.growths, self.rows, self.window, copied, x) {
+        let done = self.copied;
+        if marks::is_marked(counts, self.growths, self.rows, self.window, done, x) {
             return 11;
         }
         0

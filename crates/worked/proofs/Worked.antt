@@ -39,15 +39,15 @@ use Rattle.promise.specs.Promise.{Start, Kept, formatted, begin, systemAfter, m
 use Rattle.worked.specs.Worked.{blockOf, workedStart, firstEvents, lastEvents, beforeRead, workedEvents, WorkedFacts, unlawful, NoneLawful, NotEmpty}
 
 -- all definitions that the computations open
-unfoldable computing : Unit {0}
+unfoldable pub computing : Unit {0}
 unfolding count every sum table first lower lowest refusal minusMod moves partOf newDisk diskAfter movesFrom oldBlockSpot addedDisk addedSpot spotAfter history diskCount earlier oldCount addedCount rising spotOf atNewSpot liveSpot openBlocks recordedBy movedBlocks liveSpotOf waiting callsLeftOf movesNow targetOf nextBlock windowFull lastWindow windows windowOfRow markOfSpot spotOfMark rowExists oldSpot moving windowOf movingIn markOf blockOfMark markedBlocks partMoved nextOfWindow allCopied uncopied callsLeft noMarks within movingMarks zerosAfter place bytesNeeded observe apply MayLeave cutStore applyCut leading decimal blank isDigit columnStep columnFold readColumn isBlank field columns markBytes ending sector readField fieldsHold marksHold spacesHold isRecord numbersFound marksFound readNumbers readMarks noRecord readRecord number accepted reported isFinished toldFinished refused reporting telling tooShort formatTable formatOutcome restartTable restartOutcome growTable growOutcome writeTable writeOutcome readTable readOutcome copyTable copyStore copyOutcome checkpointTable checkpointStore checkpointOutcome advanceTable checkpointTold advancing advanceOutcome numbersOf recordOf stateOf stateRead isSoundRecord sizeHolds rowsHold disksHold limitsHold restHolds movingOf growthHolds stageHolds lengthsHold sound geometry historyOf disks modeOf tallyOf newState withGrowth zeros grown recordedOnly withCopy checkpointed mediumOf memoryOf outcome callOutcome after Allowed Lawful afterAll cutLeft fed later heard fedAll lastReported tellings finishedTold noBlock startTally grownTally withBlocks copiedTally nextWindowTally finishedTally recordedTally advancedTally restartedTally tallyAfter checkpointFinishes advanceFinishes finishes startPlain withBlock withAdded saved spoilt startModel accepting modelAfter modelled formatted begin systemAfter modelOf workedStart firstEvents lastEvents beforeRead workedEvents unlawful NoneLawful
 computing = tt
 
-is-accepted : accepted (formatted workedStart .reply .answer) ≡ true
+pub is-accepted : accepted (formatted workedStart .reply .answer) ≡ true
 unfolding computing
 is-accepted = refl
 
-is-lawful : Lawful (begin workedStart) workedEvents
+is-lawful : Lawful callOutcome (begin workedStart) workedEvents
 unfolding computing
 is-lawful = (tt, (refl, (tt, (tt, (tt, (tt, (refl, (tt, (tt, (tt, (tt, (tt, (tt, (tt, (tt, (tt, tt))))))))))))))))
 
@@ -76,11 +76,11 @@ lastFed =
     ∷ ended restart true
     ∷ []
 
-first-fed : fedAll (begin workedStart) firstEvents ≡ firstFed
+first-fed : fedAll callOutcome (begin workedStart) firstEvents ≡ firstFed
 unfolding computing
 first-fed = refl
 
-all-fed : fedAll (begin workedStart) beforeRead ≡ firstFed ++ lastFed
+all-fed : fedAll callOutcome (begin workedStart) beforeRead ≡ firstFed ++ lastFed
 unfolding computing
 all-fed = refl
 
@@ -90,11 +90,11 @@ firstModel = modelled firstFed (startModel 1 1)
 abbrev lastModel : Model
 lastModel = modelled (firstFed ++ lastFed) (startModel 1 1)
 
-first-model : modelOf workedStart firstEvents ≡ firstModel
+first-model : modelOf callOutcome workedStart firstEvents ≡ firstModel
 unfolding modelOf workedStart
 first-model = ap (λ (fs : List Fed). modelled fs (startModel 1 1)) first-fed
 
-last-model : modelOf workedStart beforeRead ≡ lastModel
+last-model : modelOf callOutcome workedStart beforeRead ≡ lastModel
 unfolding modelOf workedStart
 last-model = ap (λ (fs : List Fed). modelled fs (startModel 1 1)) all-fed
 
@@ -124,10 +124,10 @@ last-unset = refl
 
 -- ---- what the promise says of it
 
-calls-left : callsLeftOf (modelOf workedStart firstEvents .tally) ≡ 2
+calls-left : callsLeftOf (modelOf callOutcome workedStart firstEvents .tally) ≡ 2
 calls-left = ap (λ (k : Model). callsLeftOf (k .tally)) first-model ∙ first-left
 
-grows : modelOf workedStart firstEvents .tally .mode ≡ growing
+grows : modelOf callOutcome workedStart firstEvents .tally .mode ≡ growing
 grows = ap (λ (k : Model). k .tally .mode) first-model ∙ first-grows
 
 -- lists that begin the worked one are lawful
@@ -135,36 +135,36 @@ read-follows : workedEvents ≡ beforeRead ++ (runs (read 0 (blockOf 0)) ∷ [])
 unfolding workedEvents
 read-follows = refl
 
-before-lawful : Lawful (begin workedStart) beforeRead
-before-lawful = lawful-before (begin workedStart) beforeRead _ (subst (Lawful (begin workedStart)) read-follows is-lawful)
+before-lawful : Lawful callOutcome (begin workedStart) beforeRead
+before-lawful = lawful-before (begin workedStart) beforeRead _ (subst (Lawful callOutcome (begin workedStart)) read-follows is-lawful)
 
-first-lawful : Lawful (begin workedStart) firstEvents
+first-lawful : Lawful callOutcome (begin workedStart) firstEvents
 unfolding beforeRead
 first-lawful = lawful-before (begin workedStart) firstEvents lastEvents before-lawful
 
-first-up : IsUp (systemAfter workedStart firstEvents)
+first-up : IsUp (systemAfter callOutcome workedStart firstEvents)
 unfolding systemAfter afterAll after IsUp firstEvents
 first-up = tt
 
-kept-first : Kept workedStart firstEvents
+kept-first : Kept callOutcome workedStart firstEvents
 kept-first = promise workedStart is-accepted firstEvents first-lawful
 
-calls-told : lastReported (begin workedStart) firstEvents none ≡ some 2
+calls-told : lastReported callOutcome (begin workedStart) firstEvents none ≡ some 2
 calls-told = kept-first .calls-left first-up grows ∙ ap some calls-left
 
-told : finishedTold (systemAfter workedStart firstEvents) (runs advance ∷ runs advance ∷ []) ≡ false ∷ true ∷ []
+told : finishedTold callOutcome (systemAfter callOutcome workedStart firstEvents) (runs advance ∷ runs advance ∷ []) ≡ false ∷ true ∷ []
 unfolding finishedTold tellings AllFurther Further
 told =
     kept-first .finishes first-up grows (runs advance ∷ runs advance ∷ []) (tt, (tt, tt)) .last-told (sym calls-left)
     ∙ ap (λ (n : ℕ). replicate (n - 1) false ++ (true ∷ [])) calls-left
 
-block-set : modelOf workedStart beforeRead .plain .bytes 0 ≡ some (blockOf 3)
+block-set : modelOf callOutcome workedStart beforeRead .plain .bytes 0 ≡ some (blockOf 3)
 block-set = ap (λ (k : Model). k .plain .bytes 0) last-model ∙ last-set
 
-open-after : modelOf workedStart beforeRead .plain .blocks ≡ 2
+open-after : modelOf callOutcome workedStart beforeRead .plain .blocks ≡ 2
 open-after = ap (λ (k : Model). k .plain .blocks) last-model ∙ last-open
 
-read-back : outcome (read 0 (blockOf 0)) (systemAfter workedStart beforeRead) .piece ≡ blockOf 3
+read-back : outcome callOutcome (read 0 (blockOf 0)) (systemAfter callOutcome workedStart beforeRead) .piece ≡ blockOf 3
 unfolding workedStart
 read-back =
     promise workedStart is-accepted workedEvents is-lawful
@@ -222,12 +222,12 @@ some-block z s n o =
     (λ e _. let f = format-accepted z s n (o .byteCount) e in mul-pos (from-one n mostDisks (f .disks-hold) .0) (from-one s mostRows (f .rows-hold) .0))
     (λ f ok. absurd (f (eqb-true _ 0 ok)))
 
-every-call : (a : Start) (c : Call) → Lawful (begin a) (runs c ∷ [])
+every-call : (a : Start) (c : Call) → Lawful callOutcome (begin a) (runs c ∷ [])
 unfolding begin Lawful Allowed
 every-call a c = (tt, tt)
 
 a-cut : (a : Start) → accepted (formatted a .reply .answer) ≡ true → (piece torn : List ℕ) → length piece ≡ a .size → length torn ≡ a .size
-    → Lawful (begin a) (cut (write 0 piece) (tornBlock torn) ∷ runs restart ∷ [])
+    → Lawful callOutcome (begin a) (cut (write 0 piece) (tornBlock torn) ∷ runs restart ∷ [])
 unfolding begin Lawful Allowed after outcome callOutcome memoryOf mediumOf formatted startModel startPlain startTally waiting
 a-cut a ok piece torn whole same = (write-torn (start a ok) 0 piece torn (some-block (a .size) (a .rows) (a .disks) _ ok) refl whole same, (tt, tt))
 

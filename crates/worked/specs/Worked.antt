@@ -10,7 +10,7 @@ use Rattle.layout.specs.Tally.{callsLeftOf}
 use Rattle.medium.specs.Medium.{tornBlock, oldRecord, newRecord}
 use Rattle.volume.specs.Answers.{accepted}
 use Rattle.promise.specs.Calls.{Call, grow, copy, checkpoint, advance, write, read, restart}
-use Rattle.promise.specs.Lists.{Event, runs, cut, outcome, Lawful, lastReported, finishedTold}
+use Rattle.promise.specs.Lists.{callOutcome, Event, runs, cut, outcome, Lawful, lastReported, finishedTold}
 use Rattle.promise.specs.Promise.{Start, formatted, begin, systemAfter, modelOf}
 
 -- ---- a worked list
@@ -57,17 +57,17 @@ workedEvents = beforeRead ++ (runs (read 0 (blockOf 0)) ∷ [])
 
 pub record WorkedFacts : Type 0 where
   pub is-accepted : accepted (formatted workedStart .reply .answer) ≡ true
-  pub is-lawful : Lawful (begin workedStart) workedEvents
+  pub is-lawful : Lawful callOutcome (begin workedStart) workedEvents
   -- the growth runs: one block is open, two calls are left, and two advances finish it
-  pub open-before : modelOf workedStart firstEvents .plain .blocks ≡ 1
-  pub calls-left : callsLeftOf (modelOf workedStart firstEvents .tally) ≡ 2
-  pub calls-told : lastReported (begin workedStart) firstEvents none ≡ some 2
-  pub told : finishedTold (systemAfter workedStart firstEvents) (runs advance ∷ runs advance ∷ []) ≡ false ∷ true ∷ []
+  pub open-before : modelOf callOutcome workedStart firstEvents .plain .blocks ≡ 1
+  pub calls-left : callsLeftOf (modelOf callOutcome workedStart firstEvents .tally) ≡ 2
+  pub calls-told : lastReported callOutcome (begin workedStart) firstEvents none ≡ some 2
+  pub told : finishedTold callOutcome (systemAfter callOutcome workedStart firstEvents) (runs advance ∷ runs advance ∷ []) ≡ false ∷ true ∷ []
   -- it is finished: two blocks are open, the one saved last with 3 is read back, the added one is unset
-  pub open-after : modelOf workedStart beforeRead .plain .blocks ≡ 2
-  pub block-set : modelOf workedStart beforeRead .plain .bytes 0 ≡ some (blockOf 3)
-  pub read-back : outcome (read 0 (blockOf 0)) (systemAfter workedStart beforeRead) .piece ≡ blockOf 3
-  pub added-unset : modelOf workedStart beforeRead .plain .bytes 1 ≡ none
+  pub open-after : modelOf callOutcome workedStart beforeRead .plain .blocks ≡ 2
+  pub block-set : modelOf callOutcome workedStart beforeRead .plain .bytes 0 ≡ some (blockOf 3)
+  pub read-back : outcome callOutcome (read 0 (blockOf 0)) (systemAfter callOutcome workedStart beforeRead) .piece ≡ blockOf 3
+  pub added-unset : modelOf callOutcome workedStart beforeRead .plain .bytes 1 ≡ none
 
 -- ---- lists that are not lawful
 
@@ -84,12 +84,12 @@ unlawful =
 
 unfoldable pub NoneLawful : (lists : List (List Event)) → Type 0
 NoneLawful [] = Unit {0}
-NoneLawful (es ∷ lists) = (Lawful (begin workedStart) es → ⊥) × NoneLawful lists
+NoneLawful (es ∷ lists) = (Lawful callOutcome (begin workedStart) es → ⊥) × NoneLawful lists
 
 pub record NotEmpty : Type 0 where
   pub worked : WorkedFacts
   pub not-lawful : NoneLawful unlawful
   -- from every accepted format: every call may come, and a save may be cut and restart follow
-  pub every-call : (a : Start) (c : Call) → Lawful (begin a) (runs c ∷ [])
+  pub every-call : (a : Start) (c : Call) → Lawful callOutcome (begin a) (runs c ∷ [])
   pub a-cut : (a : Start) → accepted (formatted a .reply .answer) ≡ true → (piece torn : List ℕ) → length piece ≡ a .size → length torn ≡ a .size
-      → Lawful (begin a) (cut (write 0 piece) (tornBlock torn) ∷ runs restart ∷ [])
+      → Lawful callOutcome (begin a) (cut (write 0 piece) (tornBlock torn) ∷ runs restart ∷ [])

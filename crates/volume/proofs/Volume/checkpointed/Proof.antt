@@ -42,9 +42,10 @@ with-growth-requires-2 c κs = search needs
 returns-2 : tie.Need-returns-2
 unfolding noMarks
 returns-2 c =
-    c .with-growth2 .ensures
-    ∙ growth-finished _ _ (c .before .before .before .before .before .all-copied .ensures) (not-false _ (c .before .before .before .before .if1 .left)) _ (c .before .before .before .newest-growth .ensures) _
-    (c .before .before .window-count .ensures) (c .before .if2 .taken)
+    let a = c .before .before .before .before .before .all-copied .ensures in
+    let f = not-false _ (c .before .before .before .before .if1 .left) in
+    let g = c .before .before .before .newest-growth .ensures in
+    c .with-growth2 .ensures ∙ growth-finished _ _ a f _ g _ (c .before .before .window-count .ensures) (c .before .if2 .taken)
 
 add-with-growth : tie.Need-add-with-growth
 add-with-growth c = let p = c .before .before .before .before .before .before .before .pre in omega (arith, window-most _ (p .0) (p .1))
@@ -55,9 +56,10 @@ with-growth-requires-3 c κs = search needs
 returns-3 : tie.Need-returns-3
 unfolding noMarks
 returns-3 c =
-    c .with-growth3 .ensures
-    ∙ window-finished _ _ (c .before .before .before .before .before .all-copied .ensures) (not-false _ (c .before .before .before .before .if1 .left)) _ (c .before .before .before .newest-growth .ensures) _
-    (c .before .before .window-count .ensures) (c .before .if2 .left)
+    let a = c .before .before .before .before .before .all-copied .ensures in
+    let f = not-false _ (c .before .before .before .before .if1 .left) in
+    let g = c .before .before .before .newest-growth .ensures in
+    c .with-growth3 .ensures ∙ window-finished _ _ a f _ g _ (c .before .before .window-count .ensures) (c .before .if2 .left)
 
 pub checkpointed-spec : {M : Type 1} → statement M
 checkpointed-spec =

@@ -21,14 +21,18 @@ geometry-requires c κs = search needs
 
 copy-block-requires : tie.Need-copy-block-requires
 copy-block-requires c κs =
-    copy-asks _ _ _ (facts (c .before .before .before .before .before .before)) _ (c .before .geometry .ensures) _ _ (c .before .before .before .live-spot .ensures) (c .before .before .spot-of .ensures)
+    let g = c .before .geometry .ensures in
+    let to = c .before .before .spot-of .ensures in
+    copy-asks _ _ _ (facts (c .before .before .before .before .before .before)) _ g _ _ (c .before .before .before .live-spot .ensures) to
 
 same-length : tie.Need-same-length
 same-length c = search needs
 
 returns : tie.Need-returns
 returns c =
-    copy-stored _ _ _ (c .before .before .before .before .geometry .ensures) _ _ (c .before .before .before .before .before .before .live-spot .ensures) (c .before .before .before .before .before .spot-of .ensures) _ _ (c .before .before .copy-block .ensures)
+    let g = c .before .before .before .before .geometry .ensures in
+    let to = c .before .before .before .before .before .spot-of .ensures in
+    copy-stored _ _ _ g _ _ (c .before .before .before .before .before .before .live-spot .ensures) to _ _ (c .before .before .copy-block .ensures)
 
 pub store-copy-spec : {M : Type 1} → statement M
 store-copy-spec =
