@@ -1,15 +1,15 @@
 // Section 3. Restart on a medium with room for 6 rows. Its record is that of a state made by hand, whole or damaged.
-use super::replies::show_reply;
-use super::replies::show_state;
-use super::states::five_disks;
-use super::states::in_window;
-use super::states::resting;
-use super::states::three_to_five;
-use super::states::zeros;
 use printing::counted;
 use printing::labelled;
 use printing::put_bytes;
 use printing::text;
+use replies::five_disks;
+use replies::in_window;
+use replies::resting;
+use replies::show_reply;
+use replies::show_state;
+use replies::three_to_five;
+use replies::zeros;
 use volume::Volume;
 
 // Z, s, t, N[0] to N[7], growing and w.

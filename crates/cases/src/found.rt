@@ -1,15 +1,15 @@
 // Section 2, blocks and spots: looked up during a growth and after it, and found again.
-use super::lookups::show_address;
-use super::lookups::show_holder;
-use super::replies::show_state;
-use super::states::five_disks;
-use super::states::in_window;
-use super::states::resting;
-use super::states::three_to_five;
 use layout::Block;
 use layout::Row;
 use layout::Spot;
 use printing::counted;
+use replies::five_disks;
+use replies::in_window;
+use replies::resting;
+use replies::show_address;
+use replies::show_holder;
+use replies::show_state;
+use replies::three_to_five;
 use volume::AddressAnswer;
 use volume::HolderAnswer;
 use volume::Volume;

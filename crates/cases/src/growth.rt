@@ -1,15 +1,15 @@
 // Section 2, on a medium: a volume formatted, grown and restarted, and blocks saved and read back.
-use super::calls::show_format;
-use super::calls::show_grow;
-use super::calls::show_read;
-use super::calls::show_restart;
-use super::calls::show_write;
-use super::lookups::show_address;
-use super::states::five_disks;
 use printing::counted;
 use printing::same_bytes;
 use printing::text;
 use printing::write_worked;
+use replies::five_disks;
+use replies::show_address;
+use replies::show_format;
+use replies::show_grow;
+use replies::show_read;
+use replies::show_restart;
+use replies::show_write;
 use volume::Volume;
 
 // Saves 512 times one byte as block x.

@@ -1,12 +1,8 @@
 // Runs the calls of the volume on cases and writes a line for each. What it must write is in the file stdout.
-mod calls;
 mod damaged;
 mod found;
 mod growth;
-mod lookups;
 mod refused;
-mod replies;
-mod states;
 
 fn refusals() {
     refused::refused_formats();

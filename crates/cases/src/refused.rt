@@ -1,26 +1,21 @@
 // Section 1. Each call is lent the first `length` bytes of a medium, and of a piece the first `size`. Most are given a state in the
 // growth from 3 disks to 5, with so many first marks recorded and so many copied.
-use super::calls::show_format;
-use super::calls::show_grow;
-use super::calls::show_read;
-use super::calls::show_restart;
-use super::calls::show_write;
-use super::lookups::show_address;
-use super::lookups::show_holder;
-use super::states::in_growth;
-use super::states::resting;
-use super::states::resting_with;
-use super::states::three_to_five;
-use printing::counted;
 use printing::number_bytes;
 use printing::text;
 use printing::write_worked;
+use replies::in_growth;
+use replies::resting;
+use replies::resting_with;
+use replies::show_address;
+use replies::show_format;
+use replies::show_grow;
+use replies::show_holder;
+use replies::show_medium;
+use replies::show_read;
+use replies::show_restart;
+use replies::show_write;
+use replies::three_to_five;
 use volume::Volume;
-
-// The start of a line.
-fn show_medium(length: usize) {
-    counted(b"medium of ", length, b" bytes, ");
-}
 
 fn refused_format(size: usize, rows: usize, disks: usize, length: usize) {
     let mut space = [0u8; 8_192];

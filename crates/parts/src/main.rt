@@ -1,6 +1,5 @@
 // Runs the crates below the volume on cases, the layout, the record and the medium, and writes a line for each. What it must write is in
 // the file stdout.
-// file stdout.
 mod blocks;
 mod columns;
 mod counts;

@@ -1,8 +1,8 @@
 -- `same_counts` meets its contract. Assumes nothing.
 use Prim.Native.Nat.{_-_, _≤_}
 use borrow.Author.Needs.{needs}
-use Rattle.cases.proofs.states.same_counts.Statement.{statement}
-use Rattle.cases.proofs.states.same_counts.Tie as tie
+use Rattle.replies.proofs.states.same_counts.Statement.{statement}
+use Rattle.replies.proofs.states.same_counts.Tie as tie
 
 abbrev Inv-loop : tie.InvT-loop
 Inv-loop a b k₀ k = k ≤ 8

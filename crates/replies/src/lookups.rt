@@ -1,8 +1,8 @@
 // A line for each address and holder.
-use super::replies::show_state;
-use super::replies::show_state_after;
+use super::words::show_part;
+use super::words::show_state;
+use super::words::show_state_after;
 use layout::Block;
-use layout::Part;
 use layout::Reason;
 use layout::Row;
 use layout::Spot;
@@ -12,20 +12,13 @@ use volume::AddressAnswer;
 use volume::HolderAnswer;
 use volume::Volume;
 
-fn show_part(part: Part) {
-    match part {
-        Part::Head => text(b", moved as head"),
-        Part::Body => text(b", moved as body"),
-        Part::Tail => text(b", moved as tail"),
-    }
-}
-
 // Why a block is where it is.
 fn show_reason(reason: Reason) {
     match reason {
         Reason::SetOut => text(b", set out at format"),
         Reason::AddedBy(k) => labelled(b", added by growth", k),
         Reason::MovedBy(k, part) => {
+            text(b", moved");
             show_part(part);
             labelled(b" by growth", k);
         }

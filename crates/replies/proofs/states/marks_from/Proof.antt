@@ -1,8 +1,8 @@
 -- `marks_from` meets its contract. Assumes nothing.
 use Prim.Native.Nat.{_-_, _≤_}
 use borrow.Author.Needs.{needs}
-use Rattle.cases.proofs.states.marks_from.Statement.{statement}
-use Rattle.cases.proofs.states.marks_from.Tie as tie
+use Rattle.replies.proofs.states.marks_from.Statement.{statement}
+use Rattle.replies.proofs.states.marks_from.Tie as tie
 
 abbrev Inv-loop : tie.InvT-loop
 Inv-loop from end marks₀ j₀ marks j = j ≤ 64

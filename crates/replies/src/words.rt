@@ -1,12 +1,14 @@
 // Words for states, and for what a call hands back and leaves as it was.
 use super::states::same_marks;
 use super::states::same_state;
+use layout::Part;
 use printing::first_changed;
 use printing::labelled;
 use printing::last_changed;
 use printing::show_history;
 use printing::show_set;
 use printing::text;
+use volume::Advanced;
 use volume::Answer;
 use volume::Reply;
 use volume::Volume;
@@ -51,16 +53,40 @@ pub fn show_state(v: Volume) {
     }
 }
 
+pub(crate) fn show_part(part: Part) {
+    match part {
+        Part::Head => text(b" as head"),
+        Part::Body => text(b" as body"),
+        Part::Tail => text(b" as tail"),
+    }
+}
+
+// What an advance did.
+fn show_advanced(did: Advanced) {
+    match did {
+        Advanced::Copied(x, part) => {
+            labelled(b": copied block", x.0);
+            show_part(part);
+        }
+        Advanced::Recorded => text(b": recorded"),
+        Advanced::Finished => text(b": finished"),
+    }
+}
+
 fn show_answer(answer: Answer) {
     match answer {
         Answer::Refused(k) => labelled(b": refusal", k),
         Answer::Done => text(b": done"),
         Answer::CallsLeft(n) => labelled(b": advance calls left", n),
+        Answer::Told(did, n) => {
+            show_advanced(did);
+            labelled(b", advance calls left", n);
+        }
     }
 }
 
 // The state handed back; in these words if it is the expected one.
-pub fn show_state_after(state: Volume, expected: Volume, words: &[u8]) {
+pub(crate) fn show_state_after(state: Volume, expected: Volume, words: &[u8]) {
     text(b", state ");
     if same_state(state, expected) {
         text(words);
@@ -78,7 +104,7 @@ pub fn show_reply(reply: Reply, expected: Volume, words: &[u8]) {
 }
 
 // Which bytes changed.
-pub fn show_bytes(name: &[u8], before: &[u8], after: &[u8]) {
+pub(crate) fn show_bytes(name: &[u8], before: &[u8], after: &[u8]) {
     text(name);
     if first_changed(before, after) == after.len() {
         text(b" as it was");

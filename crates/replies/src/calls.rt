@@ -1,14 +1,19 @@
-// A line for each call on a medium: what the call is given, its answer, the state, and what changed.
-use super::replies::show_bytes;
-use super::replies::show_reply;
-use super::replies::show_state;
+// A line for each call on a medium of up to 18,432 bytes: what the call is given, its answer, the state, and what changed.
 use super::states::zeros;
+use super::words::show_bytes;
+use super::words::show_reply;
+use super::words::show_state;
 use layout::Block;
 use printing::counted;
 use printing::labelled;
 use printing::put_bytes;
 use printing::text;
 use volume::Volume;
+
+// The start of a line.
+pub fn show_medium(length: usize) {
+    counted(b"medium of ", length, b" bytes, ");
+}
 
 // What changed on the medium, and the end of the line.
 fn end_line(before: &[u8], after: &[u8]) {
@@ -17,7 +22,7 @@ fn end_line(before: &[u8], after: &[u8]) {
 }
 
 pub fn show_format(medium: &mut [u8], size: usize, rows: usize, disks: usize) -> Volume {
-    let mut kept = [0u8; 15_872];
+    let mut kept = [0u8; 18_432];
     let before: &mut [u8] = &mut kept;
     put_bytes(before, 0, medium);
     labelled(b"format: Z", size);
@@ -32,7 +37,7 @@ pub fn show_format(medium: &mut [u8], size: usize, rows: usize, disks: usize) ->
 
 // The words say which record the medium has.
 pub fn show_restart(record: &[u8], medium: &[u8]) -> Volume {
-    let mut kept = [0u8; 15_872];
+    let mut kept = [0u8; 18_432];
     let before: &mut [u8] = &mut kept;
     put_bytes(before, 0, medium);
     text(record);
@@ -45,7 +50,7 @@ pub fn show_restart(record: &[u8], medium: &[u8]) -> Volume {
 }
 
 pub fn show_grow(v: Volume, medium: &mut [u8], count: usize) -> Volume {
-    let mut kept = [0u8; 15_872];
+    let mut kept = [0u8; 18_432];
     let before: &mut [u8] = &mut kept;
     put_bytes(before, 0, medium);
     show_state(v);
@@ -65,7 +70,7 @@ fn show_block(v: Volume, call: &[u8], x: usize, size: usize) {
 }
 
 pub fn show_write(v: Volume, medium: &mut [u8], x: usize, piece: &[u8]) {
-    let mut kept = [0u8; 15_872];
+    let mut kept = [0u8; 18_432];
     let mut kept_piece = [0u8; 513];
     let before: &mut [u8] = &mut kept;
     let piece_before: &mut [u8] = &mut kept_piece;
@@ -79,7 +84,7 @@ pub fn show_write(v: Volume, medium: &mut [u8], x: usize, piece: &[u8]) {
 }
 
 pub fn show_read(v: Volume, medium: &[u8], x: usize, piece: &mut [u8]) {
-    let mut kept = [0u8; 15_872];
+    let mut kept = [0u8; 18_432];
     let mut kept_piece = [0u8; 513];
     let before: &mut [u8] = &mut kept;
     let piece_before: &mut [u8] = &mut kept_piece;
@@ -90,4 +95,43 @@ pub fn show_read(v: Volume, medium: &[u8], x: usize, piece: &mut [u8]) {
     show_reply(reply, v, b"as it was");
     show_bytes(b", piece", piece_before, piece);
     end_line(before, medium);
+}
+
+pub fn show_copy(v: Volume, medium: &mut [u8], x: usize) -> Volume {
+    let mut kept = [0u8; 18_432];
+    let before: &mut [u8] = &mut kept;
+    put_bytes(before, 0, medium);
+    show_state(v);
+    labelled(b": copy block", x);
+    let reply = v.copy(medium, Block(x));
+    show_reply(reply, v, b"as it was");
+    end_line(before, medium);
+    let state = reply.state;
+    state
+}
+
+pub fn show_checkpoint(v: Volume, medium: &mut [u8]) -> Volume {
+    let mut kept = [0u8; 18_432];
+    let before: &mut [u8] = &mut kept;
+    put_bytes(before, 0, medium);
+    show_state(v);
+    text(b": checkpoint");
+    let reply = v.checkpoint(medium);
+    show_reply(reply, v, b"as it was");
+    end_line(before, medium);
+    let state = reply.state;
+    state
+}
+
+pub fn show_advance(v: Volume, medium: &mut [u8]) -> Volume {
+    let mut kept = [0u8; 18_432];
+    let before: &mut [u8] = &mut kept;
+    put_bytes(before, 0, medium);
+    show_state(v);
+    text(b": advance");
+    let reply = v.advance(medium);
+    show_reply(reply, v, b"as it was");
+    end_line(before, medium);
+    let state = reply.state;
+    state
 }

@@ -1,8 +1,8 @@
 -- `same_marks` meets its contract. Assumes nothing.
 use Prim.Native.Nat.{_-_, _≤_}
 use borrow.Author.Needs.{needs}
-use Rattle.cases.proofs.states.same_marks.Statement.{statement}
-use Rattle.cases.proofs.states.same_marks.Tie as tie
+use Rattle.replies.proofs.states.same_marks.Statement.{statement}
+use Rattle.replies.proofs.states.same_marks.Tie as tie
 
 abbrev Inv-loop : tie.InvT-loop
 Inv-loop a b j₀ j = j ≤ 64

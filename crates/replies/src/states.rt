@@ -102,7 +102,7 @@ fn same_counts(a: [usize; 8], b: [usize; 8]) -> bool {
     true
 }
 
-pub fn same_marks(a: [bool; 64], b: [bool; 64]) -> bool {
+pub(crate) fn same_marks(a: [bool; 64], b: [bool; 64]) -> bool {
     let mut j = 0;
     while j < 64 {
         if a[j] != b[j] {
@@ -131,7 +131,7 @@ fn same_numbers(a: Volume, b: Volume) -> bool {
 }
 
 // Are all fields of both the same?
-pub fn same_state(a: Volume, b: Volume) -> bool {
+pub(crate) fn same_state(a: Volume, b: Volume) -> bool {
     if !same_numbers(a, b) {
         return false;
     }

@@ -1,0 +1,60 @@
+-- `advance_times` meets its contract. The loop's invariant: the medium keeps its length. Assumes nothing.
+use Prim.Native.Nat.{_-_, _≤_}
+use mathlib.Core.Path.{_≡_}
+use lib.ListN.{length}
+use borrow.Author.Needs.{needs}
+use Rattle.tour.proofs.growth.advance_times.Statement.{statement}
+use Rattle.tour.proofs.growth.advance_times.Tie as tie
+
+abbrev Inv-loop : tie.InvT-loop
+Inv-loop medium₀ times last₀ k₀ t8 medium last k = (length medium ≡ length medium₀) × (k ≤ times)
+
+abbrev μ-loop : tie.MeasureT-loop
+μ-loop medium₀ times last₀ k₀ t8 medium last k = times - k
+
+loop-holds : tie.Need-loop-holds Inv-loop μ-loop
+loop-holds c = search needs
+
+slice-aggregate-text : tie.Need-slice-aggregate-text Inv-loop μ-loop
+slice-aggregate-text c = search needs
+
+text-requires : tie.Need-text-requires Inv-loop μ-loop
+text-requires c κs = search needs
+
+advance-requires : tie.Need-advance-requires Inv-loop μ-loop
+advance-requires c κs = search needs
+
+show-answer-requires : tie.Need-show-answer-requires Inv-loop μ-loop
+show-answer-requires c κs = search needs
+
+add-k : tie.Need-add-k Inv-loop μ-loop
+add-k c = search needs
+
+loop-less : tie.Need-loop-less Inv-loop μ-loop
+loop-less c = search needs
+
+loop-again : tie.Need-loop-again Inv-loop μ-loop
+loop-again c = search needs
+
+same-length : tie.Need-same-length Inv-loop μ-loop
+same-length c = search needs
+
+returns : tie.Need-returns Inv-loop μ-loop
+returns c = search needs
+
+pub advance-times-spec : {M : Type 1} → statement M
+advance-times-spec =
+    tie.close
+    (tie.spec
+    Inv-loop
+    μ-loop
+    loop-holds
+    slice-aggregate-text
+    text-requires
+    advance-requires
+    show-answer-requires
+    add-k
+    loop-less
+    loop-again
+    same-length
+    returns)
