@@ -1,47 +1,34 @@
 -- The worked list, by computing. Assumes nothing.
+use Prim.Native.Nat.{ℕ, _-_, _*_, _<_}
 use mathlib.Core.Bool.{true, false}
 use mathlib.Core.List.{List, [], _∷_, _++_}
-use Prim.Native.Nat.{ℕ, _-_, _*_, _<_}
-use mathlib.Core.Path.{_≡_, refl, sym, ap, _∙_, subst}
 use mathlib.Core.Option.{Option, none, some}
+use mathlib.Core.Path.{_≡_, refl, sym, ap, _∙_, subst}
+use native.Mathlib.Nat.{mul-pos}
+use native.Mathlib.Omega.{arith}
 use lib.ListN.{length, replicate, length-replicate}
 use borrow.Author.Tests.{le-ltb, lt-leb, eq-eqb, eqb-true}
-use native.Mathlib.Nat.{mul-pos}
+use Rattle.base.specs.Refusals.{refusal}
 use Rattle.layout.specs.Limits.{mostDisks, mostRows}
-use Rattle.volume.proofs.Accepted.{format-accepted}
-use Rattle.volume.proofs.SoundLaws.{from-one}
+use Rattle.layout.specs.Tally.{growing, waiting, callsLeftOf}
 use Rattle.medium.specs.declared.Geometry.{Geometry}
+use Rattle.medium.specs.Medium.{Observations, tornBlock, MayLeave}
 use Rattle.volume.specs.declared.Volume.{Volume}
+use Rattle.volume.specs.Answers.{number, accepted}
+use Rattle.volume.specs.Calls.{Outcome, refused, tooShort, formatTable, formatOutcome, writeTable, writeOutcome}
+use Rattle.volume.specs.Sound.{rowsHold, disksHold}
+use Rattle.volume.specs.States.{disks, zeros}
+use Rattle.volume.proofs.Accepted.{format-accepted}
 use Rattle.volume.proofs.Judged.{judged-cases}
+use Rattle.volume.proofs.SoundLaws.{from-one}
+use Rattle.promise.specs.Calls.{Call, grow, copy, checkpoint, advance, write, read, restart, blockTorn, recordOld, recordNew, Fed, ended, cutIn}
+use Rattle.promise.specs.Lists.{cut, IsUp, AllFurther, Further, runs, mediumOf, memoryOf, outcome, callOutcome, after, Allowed, Lawful, afterAll, fedAll, lastReported, tellings, finishedTold}
+use Rattle.promise.specs.Model.{Model, startTally, finishes, startPlain, startModel, modelled}
+use Rattle.promise.specs.Promise.{Start, Kept, formatted, begin, systemAfter, modelOf}
 use Rattle.promise.proofs.Steps.{Up}
 use Rattle.promise.proofs.Theorem.{lawful-before, start, block-open, piece-whole, promise}
-use native.Mathlib.Omega.{arith}
-use Rattle.base.specs.Below.{count, every, sum, table, first, lower, lowest}
-use Rattle.base.specs.Refusals.{refusal}
-use Rattle.layout.specs.Growth.{minusMod, moves, partOf, newDisk, diskAfter, movesFrom, oldBlockSpot, addedDisk, addedSpot, spotAfter}
-use Rattle.layout.specs.History.{history, diskCount, earlier, oldCount, addedCount, rising, spotOf}
-use Rattle.layout.specs.Live.{atNewSpot, liveSpot}
-use Rattle.layout.specs.Tally.{growing, openBlocks, recordedBy, movedBlocks, liveSpotOf, waiting, callsLeftOf, movesNow, targetOf, nextBlock, windowFull, lastWindow}
-use Rattle.layout.specs.Windows.{windows, windowOfRow, markOfSpot, spotOfMark, rowExists, oldSpot, moving, windowOf, movingIn, markOf, blockOfMark, markedBlocks, partMoved, nextOfWindow, allCopied, uncopied, callsLeft}
-use Rattle.marks.specs.Marks.{noMarks, within, movingMarks, zerosAfter}
-use Rattle.medium.specs.Medium.{Observations, tornBlock, place, bytesNeeded, observe, apply, MayLeave, cutStore, applyCut}
-use Rattle.record.specs.Decimal.{leading, decimal, blank, isDigit, columnStep, columnFold, readColumn}
-use Rattle.record.specs.Sector.{isBlank, field, columns, markBytes, ending, sector, readField, fieldsHold, marksHold, spacesHold, isRecord, numbersFound, marksFound, readNumbers, readMarks, noRecord, readRecord}
-use Rattle.volume.specs.Answers.{number, accepted, reported, isFinished, toldFinished}
-use Rattle.volume.specs.Calls.{Outcome, refused, reporting, telling, tooShort, formatTable, formatOutcome, restartTable, restartOutcome, growTable, growOutcome, writeTable, writeOutcome, readTable, readOutcome, copyTable, copyStore, copyOutcome, checkpointTable, checkpointStore, checkpointOutcome, advanceTable, checkpointTold, advancing, advanceOutcome}
-use Rattle.volume.specs.Records.{numbersOf, recordOf, stateOf, stateRead, isSoundRecord}
-use Rattle.volume.specs.Sound.{sizeHolds, rowsHold, disksHold, limitsHold, restHolds, movingOf, growthHolds, stageHolds, lengthsHold, sound}
-use Rattle.volume.specs.States.{geometry, historyOf, disks, modeOf, tallyOf, newState, withGrowth, zeros, grown, recordedOnly, withCopy, checkpointed}
-use Rattle.promise.specs.Calls.{Call, grow, copy, checkpoint, advance, write, read, restart, blockTorn, recordOld, recordNew, Fed, ended, cutIn}
-use Rattle.promise.specs.Lists.{cut, IsUp, AllFurther, Further, runs, mediumOf, memoryOf, outcome, callOutcome, after, Allowed, Lawful, afterAll, cutLeft, fed, later, heard, fedAll, lastReported, tellings, finishedTold}
-use Rattle.promise.specs.Model.{Model, noBlock, startTally, grownTally, withBlocks, copiedTally, nextWindowTally, finishedTally, recordedTally, advancedTally, restartedTally, tallyAfter, checkpointFinishes, advanceFinishes, finishes, startPlain, withBlock, withAdded, saved, spoilt, startModel, accepting, modelAfter, modelled}
-use Rattle.promise.specs.Promise.{Start, Kept, formatted, begin, systemAfter, modelOf}
 use Rattle.worked.specs.Worked.{blockOf, workedStart, firstEvents, lastEvents, beforeRead, workedEvents, WorkedFacts, unlawful, NoneLawful, NotEmpty}
-
--- all definitions that the computations open
-unfoldable pub computing : Unit {0}
-unfolding count every sum table first lower lowest refusal minusMod moves partOf newDisk diskAfter movesFrom oldBlockSpot addedDisk addedSpot spotAfter history diskCount earlier oldCount addedCount rising spotOf atNewSpot liveSpot openBlocks recordedBy movedBlocks liveSpotOf waiting callsLeftOf movesNow targetOf nextBlock windowFull lastWindow windows windowOfRow markOfSpot spotOfMark rowExists oldSpot moving windowOf movingIn markOf blockOfMark markedBlocks partMoved nextOfWindow allCopied uncopied callsLeft noMarks within movingMarks zerosAfter place bytesNeeded observe apply MayLeave cutStore applyCut leading decimal blank isDigit columnStep columnFold readColumn isBlank field columns markBytes ending sector readField fieldsHold marksHold spacesHold isRecord numbersFound marksFound readNumbers readMarks noRecord readRecord number accepted reported isFinished toldFinished refused reporting telling tooShort formatTable formatOutcome restartTable restartOutcome growTable growOutcome writeTable writeOutcome readTable readOutcome copyTable copyStore copyOutcome checkpointTable checkpointStore checkpointOutcome advanceTable checkpointTold advancing advanceOutcome numbersOf recordOf stateOf stateRead isSoundRecord sizeHolds rowsHold disksHold limitsHold restHolds movingOf growthHolds stageHolds lengthsHold sound geometry historyOf disks modeOf tallyOf newState withGrowth zeros grown recordedOnly withCopy checkpointed mediumOf memoryOf outcome callOutcome after Allowed Lawful afterAll cutLeft fed later heard fedAll lastReported tellings finishedTold noBlock startTally grownTally withBlocks copiedTally nextWindowTally finishedTally recordedTally advancedTally restartedTally tallyAfter checkpointFinishes advanceFinishes finishes startPlain withBlock withAdded saved spoilt startModel accepting modelAfter modelled formatted begin systemAfter modelOf workedStart firstEvents lastEvents beforeRead workedEvents unlawful NoneLawful
-computing = tt
+use Rattle.worked.proofs.Computing.{computing}
 
 pub is-accepted : accepted (formatted workedStart .reply .answer) ≡ true
 unfolding computing

@@ -13,7 +13,8 @@ use Rattle.promise.specs.Lists.{Event, runs, outcome, Lawful, lastReported, fin
 use Rattle.promise.specs.Promise.{Start, formatted, begin, systemAfter, modelOf, PromiseOf}
 use Rattle.worked.specs.Worked.{blockOf, workedStart}
 use Rattle.worked.specs.WrongPrograms.{Act, program, writesNothing, writesWaiting, neverAdvances, marksLater, madeUpCount, keepsCopies, ShutOut}
-use Rattle.worked.proofs.Worked.{computing, is-accepted}
+use Rattle.worked.proofs.Computing.{computing}
+use Rattle.worked.proofs.Worked.{is-accepted}
 
 -- ---- what a promise would say of two things computed
 

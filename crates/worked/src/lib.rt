@@ -1,2 +1,2 @@
-// Checks that demand 3 is not empty: `specs/Worked.antt` states them and `proofs/Worked.antt` has the proof. There
-// is no code here.
+// Checks of demand 3: that it is not empty (`specs/Worked.antt`), and that wrong programs break it
+// (`specs/WrongPrograms.antt`). There is no code here.
