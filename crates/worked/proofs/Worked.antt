@@ -6,7 +6,7 @@ use mathlib.Core.Option.{Option, none, some}
 use mathlib.Core.Path.{_≡_, refl, sym, ap, _∙_, subst}
 use native.Mathlib.Nat.{mul-pos}
 use native.Mathlib.Omega.{arith}
-use lib.ListN.{length, replicate, length-replicate}
+use lib.ListN.{length, take, replicate, length-replicate}
 use borrow.Author.Tests.{le-ltb, lt-leb, eq-eqb, eqb-true}
 use Rattle.base.specs.Refusals.{refusal}
 use Rattle.layout.specs.Limits.{mostDisks, mostRows}
@@ -22,7 +22,7 @@ use Rattle.volume.proofs.Accepted.{format-accepted}
 use Rattle.volume.proofs.Judged.{judged-cases}
 use Rattle.volume.proofs.SoundLaws.{from-one}
 use Rattle.promise.specs.Calls.{Call, grow, copy, checkpoint, advance, write, read, restart, blockTorn, recordOld, recordNew, Fed, ended, cutIn}
-use Rattle.promise.specs.Lists.{cut, IsUp, AllFurther, Further, runs, mediumOf, memoryOf, outcome, callOutcome, after, Allowed, Lawful, afterAll, fedAll, lastReported, tellings, finishedTold}
+use Rattle.promise.specs.Lists.{Event, System, cut, IsUp, AllFurther, Further, runs, mediumOf, memoryOf, outcome, callOutcome, after, Allowed, Lawful, afterAll, fed, fedAll, lastReported, tellings, finishedTold}
 use Rattle.promise.specs.Model.{Model, startTally, finishes, startPlain, startModel, modelled}
 use Rattle.promise.specs.Promise.{Start, Kept, formatted, begin, systemAfter, modelOf}
 use Rattle.promise.proofs.Steps.{Up}
@@ -63,13 +63,19 @@ lastFed =
     ∷ ended restart true
     ∷ []
 
-first-fed : fedAll callOutcome (begin workedStart) firstEvents ≡ firstFed
-unfolding computing
-first-fed = refl
-
 all-fed : fedAll callOutcome (begin workedStart) beforeRead ≡ firstFed ++ lastFed
 unfolding computing
 all-fed = refl
+
+-- what is fed of the first events
+fed-before : (s : System) (es rest : List Event) → fedAll callOutcome s es ≡ take (length es) (fedAll callOutcome s (es ++ rest))
+unfolding fedAll
+fed-before s [] rest = refl
+fed-before s (e ∷ es) rest = ap (λ (fs : List Fed). fed callOutcome s e ∷ fs) (fed-before (after callOutcome s e) es rest)
+
+first-fed : fedAll callOutcome (begin workedStart) firstEvents ≡ firstFed
+unfolding beforeRead firstEvents
+first-fed = fed-before (begin workedStart) firstEvents lastEvents ∙ ap (take 6) all-fed
 
 abbrev firstModel : Model
 firstModel = modelled firstFed (startModel 1 1)
