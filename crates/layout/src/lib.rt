@@ -1,11 +1,10 @@
-// Where every block of the growing striped volume lives: document 01, "Layout after t growths", and
-// the windows and marks of a growth. Knows numbers only.
+// Where every block of the growing striped volume lives: document 01, "Layout after t growths". Knows
+// numbers only. The code for windows and marks, which are defined here too, stands in `window`.
 //
 // The functions here serve the crates above and are not offered to others: their `requires` are the
 // limits of a sound volume.
 mod growth;
 mod history;
-mod windows;
 
 pub use growth::change_of;
 pub use growth::moves_from;
@@ -14,12 +13,6 @@ pub use history::block_at;
 pub use history::newest_growth;
 pub use history::reason_of;
 pub use history::spot_of;
-pub use windows::calls_left;
-pub use windows::mark_of_spot;
-pub use windows::moves_of_window;
-pub use windows::row_exists;
-pub use windows::spot_of_mark;
-pub use windows::window_count;
 
 // Document 01's block: an address in the volume.
 pub struct Block(pub usize);

@@ -1,4 +1,4 @@
--- Document 01, "Medium, state, record": sets of 64 marks, and the counts after N[t]. Assumes nothing.
+-- Document 01, "Medium, state, record": sets of 64 marks, the counts after N[t], and the stages of a sound state. Assumes nothing.
 use Prim.Native.Nat.{ℕ, _*_}
 use mathlib.Core.Bool.{Bool, false, cond, not, _&&_, _||_}
 use mathlib.Core.List.{List}
@@ -6,7 +6,8 @@ use mathlib.Core.Option.{Option, none, some}
 use lib.Dec.{eqb, leb, ltb}
 use lib.ListN.{getD, replicate}
 use Rattle.base.specs.Below.{every, first, table}
-use Rattle.layout.specs.Windows.{rowExists, oldSpot, moving, partMoved}
+use Rattle.layout.specs.History.{oldCount, addedCount}
+use Rattle.layout.specs.Windows.{windows, rowExists, oldSpot, moving, partMoved}
 use Rattle.marks.specs.declared.OldSpot.{OldSpot}
 use Rattle.marks.specs.declared.OldSpot.the-variants.{Moving, NotMoving}
 use Rattle.marks.specs.declared.LiveBlock.{LiveBlock}
@@ -32,6 +33,24 @@ movingMarks m n s w = table (λ j. ltb j (m * n) && rowExists m n s w j) markCou
 -- "counts after N[t] are 0"
 unfoldable pub zerosAfter : (counts : List ℕ) (t : ℕ) → Bool
 zerosAfter counts t = every (λ i. leb i t || eqb (getD counts i 0) 0) 8
+
+-- "not growing means w = 0 and no marks"
+unfoldable pub atRest : (w : ℕ) (recorded copied : List Bool) → Bool
+atRest w recorded copied = eqb w 0 && (within recorded noMarks && within copied noMarks)
+
+-- the marks of the moving blocks of window w of the newest growth
+abbrev pub movingMarksIn : (s : ℕ) (h : List ℕ) (w : ℕ) → List Bool
+movingMarksIn s h w = movingMarks (oldCount h) (addedCount h) s w
+
+-- "growing means t > 0, w < R, recorded within copied, copied within the moving blocks of window w whose rows exist, and some moving
+-- block of w not recorded"
+unfoldable pub inGrowth : (t s : ℕ) (h : List ℕ) (w : ℕ) (recorded copied : List Bool) → Bool
+inGrowth t s h w recorded copied =
+    ltb 0 t
+    && (ltb w (windows (oldCount h) (addedCount h) s)
+    && (within recorded copied
+    && (within copied (movingMarksIn s h w)
+    && not (within (movingMarksIn s h w) recorded))))
 
 -- where block x moves from in the newest growth, as the code answers it
 unfoldable pub movingFrom : (s : ℕ) (h : List ℕ) (x : ℕ) → OldSpot

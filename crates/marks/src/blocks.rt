@@ -50,7 +50,7 @@ pub fn is_marked(
     if row.0 / (g.old + g.added) != w {
         return false;
     }
-    let j = layout::mark_of_spot(g.old, g.added, p);
+    let j = window::mark_of_spot(g.old, g.added, p);
     marks[j]
 }
 

@@ -36,7 +36,7 @@ pub fn with_mark(counts: [usize; 8], t: usize, s: usize, marks: [bool; 64], x: B
 {
     let g = layout::newest_growth(counts, t);
     let p = layout::spot_of(counts, t - 1, s, x);
-    let j = layout::mark_of_spot(g.old, g.added, p);
+    let j = window::mark_of_spot(g.old, g.added, p);
     let mut with = marks;
     with[j] = true;
     with
@@ -62,7 +62,7 @@ fn first_unmarked(m: usize, n: usize, s: usize, w: usize, marks: [bool; 64]) -> 
     let end = m * n;
     let mut j = 0;
     while j < end {
-        if layout::row_exists(m, n, s, w, j) {
+        if window::row_exists(m, n, s, w, j) {
             if !marks[j] {
                 return j;
             }
@@ -85,7 +85,7 @@ pub fn next_copy(counts: [usize; 8], t: usize, s: usize, w: usize, copied: [bool
     if j == m * n {
         return NextCopy::AllCopied;
     }
-    let p = layout::spot_of_mark(m, n, w, j);
+    let p = window::spot_of_mark(m, n, w, j);
     let row = p.row;
     let part = layout::part_of(m, n, row.0 % (m + n));
     let x = layout::block_at(counts, t - 1, s, p);

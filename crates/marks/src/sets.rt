@@ -32,7 +32,7 @@ pub fn moving_marks(m: usize, n: usize, s: usize, w: usize) -> [bool; 64]
     let mut j = 0;
     while j < 64 {
         if j < end {
-            marks[j] = layout::row_exists(m, n, s, w, j);
+            marks[j] = window::row_exists(m, n, s, w, j);
         }
         j += 1;
     }

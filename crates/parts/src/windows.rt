@@ -21,7 +21,7 @@ pub fn growth_windows(counts: [usize; 8], t: usize, s: usize) -> usize
         return 0;
     }
     let g = layout::newest_growth(counts, t);
-    layout::window_count(g.old, g.added, s)
+    window::window_count(g.old, g.added, s)
 }
 
 // Its old and its added disks; 0 and 0 if it has no window.
@@ -37,7 +37,7 @@ pub fn window_moves(counts: [usize; 8], t: usize, s: usize, w: usize) -> usize {
     if growth_windows(counts, t, s) <= w {
         return 0;
     }
-    layout::moves_of_window(counts, t, s, w)
+    window::moves_of_window(counts, t, s, w)
 }
 
 // The advance calls left when it begins; 0 if it has no window.
@@ -45,7 +45,7 @@ pub fn growth_calls(counts: [usize; 8], t: usize, s: usize) -> usize {
     if growth_windows(counts, t, s) == 0 {
         return 0;
     }
-    layout::calls_left(counts, t, s, 0, [false; 64])
+    window::calls_left(counts, t, s, 0, [false; 64])
 }
 
 // Is the growth from m disks by n within the limits.
@@ -77,7 +77,7 @@ fn mark_exists(m: usize, n: usize, s: usize, w: usize, j: usize) -> bool
     if m * n <= j {
         return false;
     }
-    layout::row_exists(m, n, s, w, j)
+    window::row_exists(m, n, s, w, j)
 }
 
 // Is j such a mark, and also the mark of the spot of mark j.
@@ -85,6 +85,6 @@ pub fn mark_agrees(m: usize, n: usize, s: usize, w: usize, j: usize) -> bool {
     if !mark_exists(m, n, s, w, j) {
         return false;
     }
-    let p = layout::spot_of_mark(m, n, w, j);
-    layout::mark_of_spot(m, n, p) == j
+    let p = window::spot_of_mark(m, n, w, j);
+    window::mark_of_spot(m, n, p) == j
 }

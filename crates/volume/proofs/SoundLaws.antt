@@ -14,7 +14,7 @@ use Rattle.layout.specs.History.{diskCount, oldCount, addedCount, rising}
 use Rattle.layout.specs.Limits.{Limits, mostDisks, mostGrowths, mostRows}
 use Rattle.layout.specs.Windows.{windows}
 use Rattle.layout.proofs.HistoryCode.{history-length, growths-most, newest-old}
-use Rattle.marks.specs.Marks.{markCount, noMarks, within, zerosAfter}
+use Rattle.marks.specs.Marks.{markCount, noMarks, within, zerosAfter, atRest, inGrowth}
 use Rattle.marks.proofs.MarkSets.{within-self, within-none, all-marked, one-unmarked}
 use Rattle.volume.specs.declared.Volume.{Volume}
 use Rattle.volume.specs.Laws.{RestFacts, GrowthFacts, SoundFacts}
@@ -121,7 +121,7 @@ zeros-make l t f =
 -- ---- the stages
 
 rest-use : (v : Volume) → length (v .recorded) ≡ markCount → length (v .copied) ≡ markCount → restHolds v ≡ true → RestFacts v
-unfolding restHolds
+unfolding atRest
 rest-use v a b e =
     let f = and-right (eqb (v .window) 0) (within (v .recorded) noMarks && within (v .copied) noMarks) e in
     record {
@@ -131,14 +131,14 @@ rest-use v a b e =
     }
 
 rest-make : (v : Volume) → RestFacts v → restHolds v ≡ true
-unfolding restHolds
+unfolding atRest
 rest-make v f =
     let recorded : within (v .recorded) noMarks ≡ true = rw (f .none-recorded) (within-self noMarks) in
     let copied : within (v .copied) noMarks ≡ true = rw (f .none-copied) (within-self noMarks) in
     and-both (eq-eqb (v .window) 0 (f .window-zero)) (and-both recorded copied)
 
 growth-use : (v : Volume) → Limits (v .rows) (historyOf v) → v .growing ≡ 1 → growthHolds v ≡ true → GrowthFacts v
-unfolding growthHolds movingOf tallyOf historyOf
+unfolding inGrowth movingOf tallyOf historyOf
 growth-use v l g e =
     let last = windows (oldCount (historyOf v)) (addedCount (historyOf v)) (v .rows) in
     let someLeft : Bool = not (within (movingOf v) (v .recorded)) in
@@ -161,7 +161,7 @@ growth-use v l g e =
     }
 
 growth-make : (v : Volume) → Limits (v .rows) (historyOf v) → GrowthFacts v → growthHolds v ≡ true
-unfolding growthHolds movingOf tallyOf historyOf
+unfolding inGrowth movingOf tallyOf historyOf
 growth-make v l f =
     let o = newest-old (v .rows) (v .growths) (v .counts) (f .has-growth) l in
     let x = f .one-unrecorded in

@@ -1,13 +1,12 @@
 -- Document 01, "Words and limits" and "A state is sound when". Assumes nothing.
 use Prim.Native.Nat.{ℕ, _%_}
-use mathlib.Core.Bool.{Bool, cond, not, _&&_}
+use mathlib.Core.Bool.{Bool, cond, _&&_}
 use mathlib.Core.List.{List}
-use lib.Dec.{eqb, leb, ltb}
+use lib.Dec.{eqb, leb}
 use lib.ListN.{length}
-use Rattle.layout.specs.History.{diskCount, oldCount, addedCount, rising}
+use Rattle.layout.specs.History.{diskCount, rising}
 use Rattle.layout.specs.Limits.{mostDisks, mostGrowths, mostRows}
-use Rattle.layout.specs.Windows.{windows}
-use Rattle.marks.specs.Marks.{markCount, noMarks, within, movingMarks, zerosAfter}
+use Rattle.marks.specs.Marks.{markCount, movingMarksIn, zerosAfter, atRest, inGrowth}
 use Rattle.volume.specs.declared.Volume.{Volume}
 use Rattle.volume.specs.States.{historyOf}
 
@@ -39,23 +38,16 @@ limitsHold v =
     && (rising (historyOf v)
     && leb (diskCount (historyOf v)) mostDisks)))
 
--- "not growing means w = 0 and no marks"
-unfoldable pub restHolds : (v : Volume) → Bool
-restHolds v = eqb (v .window) 0 && (within (v .recorded) noMarks && within (v .copied) noMarks)
-
 -- the marks of the moving blocks of the state's window
 unfoldable pub movingOf : (v : Volume) → List Bool
-movingOf v = movingMarks (oldCount (historyOf v)) (addedCount (historyOf v)) (v .rows) (v .window)
+movingOf v = movingMarksIn (v .rows) (historyOf v) (v .window)
 
--- "growing means t > 0, w < R, recorded within copied, copied within the moving blocks of window w whose rows exist, and some moving
--- block of w not recorded"
-unfoldable pub growthHolds : (v : Volume) → Bool
-growthHolds v =
-    ltb 0 (v .growths)
-    && (ltb (v .window) (windows (oldCount (historyOf v)) (addedCount (historyOf v)) (v .rows))
-    && (within (v .recorded) (v .copied)
-    && (within (v .copied) (movingOf v)
-    && not (within (movingOf v) (v .recorded)))))
+-- the stages that crate `marks` defines, of the state's window and marks: not growing, and growing
+abbrev pub restHolds : (v : Volume) → Bool
+restHolds v = atRest (v .window) (v .recorded) (v .copied)
+
+abbrev pub growthHolds : (v : Volume) → Bool
+growthHolds v = inGrowth (v .growths) (v .rows) (historyOf v) (v .window) (v .recorded) (v .copied)
 
 -- "growing (0 or 1)"
 unfoldable pub stageHolds : (v : Volume) → Bool

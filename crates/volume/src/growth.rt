@@ -46,7 +46,7 @@ impl Volume {
             return self.with_growth(t, counts, self.growing, w, copied, copied);
         }
         let g = layout::newest_growth(counts, t);
-        if w + 1 == layout::window_count(g.old, g.added, self.rows) {
+        if w + 1 == window::window_count(g.old, g.added, self.rows) {
             return self.with_growth(t, counts, 0, 0, [false; 64], [false; 64]);
         }
         self.with_growth(t, counts, self.growing, w + 1, [false; 64], [false; 64])

@@ -133,6 +133,6 @@ impl Volume {
         }
         let counts = self.counts;
         let copied = self.copied;
-        layout::calls_left(counts, self.growths, self.rows, self.window, copied)
+        window::calls_left(counts, self.growths, self.rows, self.window, copied)
     }
 }

@@ -1,7 +1,7 @@
 // The limits and soundness, tested.
 ghost use mathlib.Core.Path.{_≡_};
 ghost use mathlib.Core.Bool.{true};
-ghost use Rattle.volume.specs.Sound.{sizeHolds, rowsHold, disksHold, limitsHold, restHolds, growthHolds, stageHolds, sound};
+ghost use Rattle.volume.specs.Sound.{sizeHolds, rowsHold, disksHold, limitsHold, stageHolds, sound};
 use super::Volume;
 
 // Is z a block size?
@@ -58,57 +58,21 @@ impl Volume {
         counts[t] <= Volume::MOST_DISKS
     }
 
-    // Not growing: no window and no marks.
-    pub(crate) fn rest_holds(self) -> bool
-        ensures { λ r. ⌜ r ≡ restHolds self ⌝ }
-    {
-        if self.window != 0 {
-            return false;
-        }
-        let recorded = self.recorded;
-        if !marks::is_within(recorded, [false; 64]) {
-            return false;
-        }
-        let copied = self.copied;
-        marks::is_within(copied, [false; 64])
-    }
-
-    // Growing: a window, and marks that fit it.
-    pub(crate) fn growth_holds(self) -> bool
-        requires { ⌜ limitsHold self ≡ true ⌝ }
-        ensures { λ r. ⌜ r ≡ growthHolds self ⌝ }
-    {
-        if self.growths == 0 {
-            return false;
-        }
-        let counts = self.counts;
-        let g = layout::newest_growth(counts, self.growths);
-        if layout::window_count(g.old, g.added, self.rows) <= self.window {
-            return false;
-        }
-        let recorded = self.recorded;
-        let copied = self.copied;
-        if !marks::is_within(recorded, copied) {
-            return false;
-        }
-        let moving = marks::moving_marks(g.old, g.added, self.rows, self.window);
-        if !marks::is_within(copied, moving) {
-            return false;
-        }
-        !marks::is_within(moving, recorded)
-    }
-
     pub(crate) fn stage_holds(self) -> bool
         requires { ⌜ limitsHold self ≡ true ⌝ }
         ensures { λ r. ⌜ r ≡ stageHolds self ⌝ }
     {
+        let w = self.window;
+        let recorded = self.recorded;
+        let copied = self.copied;
         if self.growing == 0 {
-            return self.rest_holds();
+            return marks::at_rest(w, recorded, copied);
         }
         if self.growing != 1 {
             return false;
         }
-        self.growth_holds()
+        let counts = self.counts;
+        marks::in_growth(counts, self.growths, self.rows, w, recorded, copied)
     }
 
     // Is the state sound?

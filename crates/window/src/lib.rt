@@ -1,0 +1,152 @@
+// The windows of the growth from m disks by n, the marks of their moving blocks, and the calls left: code for
+// what `layout` defines in `specs/Windows.antt`.
+//
+// The functions here serve the crates above and are not offered to others: their `requires` are the
+// limits of a sound volume.
+ghost use mathlib.Core.Path.{_≡_};
+ghost use mathlib.Core.Bool.{true, false, not, _&&_};
+ghost use Prim.Native.Nat.{_+_, _*_, _<_, _≤_};
+ghost use lib.ListN.{getD};
+ghost use Rattle.base.specs.Below.{count};
+ghost use Rattle.layout.specs.Limits.{Limits, Grows, mostRows};
+ghost use Rattle.layout.specs.Growth.{movesFrom};
+ghost use Rattle.layout.specs.History.{history, oldCount, addedCount};
+ghost use Rattle.layout.specs.Windows.{windows, markOfSpot, spotOfMark, rowExists, cutMoves, laterMoves, movesOfWindow, markedBlocks, callsLeft, callsLeftByMarks};
+use layout::Row;
+use layout::Spot;
+use layout::newest_growth;
+
+// R, the number of windows.
+pub fn window_count(m: usize, n: usize, s: usize) -> usize
+    requires { ⌜ Grows m n ⌝ }
+    requires { ⌜ s ≤ mostRows ⌝ }
+    ensures { λ r. ⌜ r ≡ windows m n s ⌝ }
+{
+    (s + (m + n - 1)) / (m + n)
+}
+
+// The mark of the moving block at the old spot p.
+pub fn mark_of_spot(m: usize, n: usize, p: Spot) -> usize
+    requires { ⌜ Grows m n ⌝ }
+    requires { ⌜ (p .disk < m) × (movesFrom m n p ≡ true) ⌝ }
+    ensures { λ r. ⌜ r ≡ markOfSpot m n p ⌝ }
+{
+    let d0 = p.disk;
+    let row = p.row;
+    let b1 = row.0 % (m + n);
+    d0 * n + (b1 - d0)
+}
+
+// The old spot of mark j of window w.
+pub fn spot_of_mark(m: usize, n: usize, w: usize, j: usize) -> Spot
+    requires { ⌜ Grows m n ⌝ }
+    requires { ⌜ (w ≤ mostRows) × (j < 64) ⌝ }
+    ensures { λ r. ⌜ r ≡ spotOfMark m n w j ⌝ }
+{
+    let d0 = j / n;
+    let b = w * (m + n) + (d0 + j % n);
+    Spot {
+        disk: d0,
+        row: Row(b),
+    }
+}
+
+// Does the row of mark j of window w exist.
+pub fn row_exists(m: usize, n: usize, s: usize, w: usize, j: usize) -> bool
+    requires { ⌜ Grows m n ⌝ }
+    requires { ⌜ (w ≤ mostRows) × (j < 64) ⌝ }
+    ensures { λ r. ⌜ r ≡ rowExists m n s w j ⌝ }
+{
+    w * (m + n) + (j / n + j % n) < s
+}
+
+// The moving blocks of a window that is cut off to r rows.
+fn cut_moves(m: usize, n: usize, r: usize) -> usize
+    requires { ⌜ Grows m n ⌝ }
+    ensures { λ k. ⌜ k ≡ cutMoves m n r ⌝ }
+{
+    let end = if m < r { m } else { r };
+    let mut total = 0;
+    let mut d = 0;
+    while d < end {
+        let rest = r - d;
+        if n < rest {
+            total += n;
+        } else {
+            total += rest;
+        }
+        d += 1;
+    }
+    total
+}
+
+// The moving blocks of window w of the newest growth.
+pub fn moves_of_window(counts: [usize; 8], t: usize, s: usize, w: usize) -> usize
+    requires { ⌜ Limits s (history t counts) ⌝ }
+    requires { ⌜ (0 < t) × (w < windows (oldCount (history t counts)) (addedCount (history t counts)) s) ⌝ }
+    ensures { λ r. ⌜ r ≡ movesOfWindow s (history t counts) w ⌝ }
+{
+    let g = newest_growth(counts, t);
+    let m = g.old;
+    let n = g.added;
+    let rest = s - w * (m + n);
+    if m + n <= rest {
+        return m * n;
+    }
+    cut_moves(m, n, rest)
+}
+
+// The moving blocks of window w without a mark.
+fn unmarked(m: usize, n: usize, s: usize, w: usize, marks: [bool; 64]) -> usize
+    requires { ⌜ Grows m n ⌝ }
+    requires { ⌜ w ≤ mostRows ⌝ }
+    ensures { λ r. ⌜ r ≡ count (λ j. rowExists m n s w j && not (getD marks j false)) (m * n) ⌝ }
+{
+    let end = m * n;
+    let mut total = 0;
+    let mut j = 0;
+    while j < end {
+        if row_exists(m, n, s, w, j) {
+            if !marks[j] {
+                total += 1;
+            }
+        }
+        j += 1;
+    }
+    total
+}
+
+// The moving blocks of the windows after w.
+fn later_moves(m: usize, n: usize, s: usize, w: usize) -> usize
+    requires { ⌜ Grows m n ⌝ }
+    requires { ⌜ s ≤ mostRows ⌝ }
+    ensures { λ r. ⌜ r ≡ laterMoves m n s w ⌝ }
+{
+    let whole = s / (m + n);
+    if whole <= w {
+        return 0;
+    }
+    (whole - (w + 1)) * (m * n) + cut_moves(m, n, s % (m + n))
+}
+
+// U + R - w of the growth from m disks by n, from the marks of the copied blocks of window w.
+fn calls_left_by_marks(m: usize, n: usize, s: usize, w: usize, marks: [bool; 64]) -> usize
+    requires { ⌜ Grows m n ⌝ }
+    requires { ⌜ (s ≤ mostRows) × (w < windows m n s) ⌝ }
+    ensures { λ r. ⌜ r ≡ callsLeftByMarks m n s w marks ⌝ }
+{
+    let all = window_count(m, n, s);
+    let here = unmarked(m, n, s, w, marks);
+    let later = later_moves(m, n, s, w);
+    here + later + all - w
+}
+
+// U + R - w of the newest growth, where window w's copied blocks are those with a mark.
+pub fn calls_left(counts: [usize; 8], t: usize, s: usize, w: usize, copied: [bool; 64]) -> usize
+    requires { ⌜ Limits s (history t counts) ⌝ }
+    requires { ⌜ (0 < t) × (w < windows (oldCount (history t counts)) (addedCount (history t counts)) s) ⌝ }
+    ensures { λ r. ⌜ r ≡ callsLeft s (history t counts) w (markedBlocks s (history t counts) w copied) ⌝ }
+{
+    let g = newest_growth(counts, t);
+    calls_left_by_marks(g.old, g.added, s, w, copied)
+}
