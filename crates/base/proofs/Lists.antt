@@ -7,7 +7,7 @@ use native.Mathlib.Nat.{add-zero, add-suc, suc-add, not-suc-le-zero, le-of-suc-l
 use native.Mathlib.Numerals.{add-one}
 use native.Mathlib.Omega.{arith}
 use lib.ListN.{length, take, drop, getD, set, replicate, length-append, length-take, List·getD-append}
-use lib.Seq.{sets, sets-eq, take-at, drop-at, set-at, getD-at, append-snoc, drop-drop, drop-set-lt, drop-set-add, take-set-le, getD-set-other, ext-getD}
+use lib.Seq.{sets, sets-eq, take-at, drop-at, set-at, getD-at, append-snoc, drop-drop, drop-set-lt, drop-set-add, take-set-le, ext-getD}
 use Rattle.base.specs.Below.{table}
 
 module _ {A : Type 0} where
@@ -46,13 +46,6 @@ module _ {A : Type 0} where
       part-kept (set m at x) l (suc at) from n (inl (omega arith)) ∙ part-set m x at from n (inl (omega arith))
   part-kept m (x ∷ l) at from n (inr h) =
       part-kept (set m at x) l (suc at) from n (inr (omega arith)) ∙ part-set m x at from n (inr h)
-
-  pub getD-kept : (m l : List A) (at k : ℕ) (z : A) → (at + length l ≤ k) ⊎ (k < at) → getD (sets m at l) k z ≡ getD m k z
-  getD-kept m [] at k z h = refl
-  getD-kept m (x ∷ l) at k z (inl h) =
-      getD-kept (set m at x) l (suc at) k z (inl (omega arith)) ∙ getD-set-other m at k x z (λ e. omega arith)
-  getD-kept m (x ∷ l) at k z (inr h) =
-      getD-kept (set m at x) l (suc at) k z (inr (omega arith)) ∙ getD-set-other m at k x z (λ e. omega arith)
 
   pub drop-kept : (m l : List A) (at n : ℕ) → at + length l ≤ n → drop n (sets m at l) ≡ drop n m
   drop-kept m [] at n h = refl

@@ -1,11 +1,14 @@
 -- What the code of one growth needs besides the laws of one row. Assumes nothing.
-use Prim.Native.Nat.{ℕ, _+_, _*_, _≤_, _<_}
-use mathlib.Core.Path.{_≡_}
+use Prim.Native.Nat.{ℕ, _+_, _-_, _*_, _%_, _^_, _≤_, _<_}
+use mathlib.Core.Path.{_≡_, sym, _∙_}
 use native.Mathlib.Nat.{mul-le-mul}
 use native.Mathlib.Omega.{arith}
+use lib.Dec.{leb, ltb}
+use borrow.Author.Tests.{leb-true, leb-false, ltb-true, ltb-false, le-leb, lt-leb, le-ltb}
+use Rattle.base.proofs.Booleans.{by-test}
 use Rattle.layout.specs.declared.Part.{Part}
 use Rattle.layout.specs.declared.Part.the-variants.{Head, Body, Tail}
-use Rattle.layout.specs.Growth.{partOf}
+use Rattle.layout.specs.Growth.{partOf, moves}
 use Rattle.layout.specs.Limits.{Grows, mostDisks, mostRows}
 use Rattle.layout.proofs.OneRow.{rule-cases}
 
@@ -23,3 +26,16 @@ past-head m n b1 p is hm hn =
 -- there are few enough old blocks that m·s does not wrap
 pub old-blocks-most : (m n s : ℕ) → Grows m n → s ≤ mostRows → m * s ≤ 16_000_000
 old-blocks-most m n s g h = let l : m ≤ mostDisks = omega (arith, g .most) in mul-le-mul l h
+
+-- d0 ≤ b1 ≤ d0+n-1 as one test, of the difference that wraps
+pub one-test : (n d0 b1 past : ℕ) → 0 < n → n ≤ mostDisks → d0 < mostDisks → past < 2 ^ 64 → (past + d0) % 2 ^ 64 ≡ b1
+    → ltb past n ≡ moves n d0 b1
+unfolding moves
+one-test n d0 b1 past hn hm hd hp e =
+    by-test (leb d0 b1)
+    (λ t. let h = leb-true d0 b1 t in
+    let k : past + d0 ≡ b1 = omega (arith, e, h) in
+    rw t
+    (by-test (ltb past n) (λ u. let l = ltb-true past n u in u ∙ sym (le-leb b1 (d0 + n - 1) (omega (arith, l, k))))
+    (λ u. let l = ltb-false past n u in u ∙ sym (lt-leb b1 (d0 + n - 1) (omega (arith, l, k))))))
+    (λ f. let h = leb-false d0 b1 f in rw f (le-ltb past n (omega (arith, e, h))))

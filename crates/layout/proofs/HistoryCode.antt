@@ -7,8 +7,9 @@ use native.Mathlib.Nat.{mul-le-mul}
 use native.Mathlib.Decide.{ℕ-discrete}
 use native.Mathlib.Numerals.{add-one}
 use native.Mathlib.Omega.{arith}
+use lib.Dec.{ltb}
 use lib.ListN.{getD, length}
-use borrow.Author.Tests.{lt-ltb, le-leb, lt-leb}
+use borrow.Author.Tests.{ltb-true, lt-ltb, le-leb, lt-leb}
 use Rattle.layout.specs.declared.Change.{Change}
 use Rattle.layout.specs.declared.GrowthDisks.{GrowthDisks}
 use Rattle.layout.specs.declared.Reason.{Reason}
@@ -143,6 +144,16 @@ not-rising-later k (suc t) l h r =
 
 -- ---- the loop from format to now, at its turn k
 
+-- Block x is there after k growths; if it is, p is its spot and r its reason.
+abbrev pub There : (s k : ℕ) (l : List ℕ) (x : ℕ) → Type 0
+There s k l x = x < diskCount (history k l) * s
+
+abbrev pub SpotSo : (s k : ℕ) (l : List ℕ) (x : ℕ) (p : Spot) → Type 0
+SpotSo s k l x p = There s k l x → p ≡ spotOf s (history k l) x
+
+abbrev pub ReasonSo : (s k : ℕ) (l : List ℕ) (x : ℕ) (r : Reason) → Type 0
+ReasonSo s k l x r = There s k l x → r ≡ reasonOf s (history k l) x
+
 module _ (s t k : ℕ) (l : List ℕ) (a : Limits s (history t l)) where
   pub first-count : 0 < getD l 0 0
   first-count = rising-some _ _ (subst (λ (h : List ℕ). rising h ≡ true) (history-one 0 l) (limits-at s t 0 l a (omega arith) .rise))
@@ -156,11 +167,17 @@ module _ (s t k : ℕ) (l : List ℕ) (a : Limits s (history t l)) where
   pub turn-grows : k < t → Grows (getD l k 0) (getD l (k + 1) 0 - getD l k 0)
   turn-grows h = rw add-one (grows s k l (next-limits h))
 
-  pub turn-disk : (x : ℕ) (p : Spot) → k ≤ t → p ≡ spotOf s (history k l) x → x < getD l k 0 * s → p .disk < getD l k 0
+  -- the blocks after this turn do not wrap
+  pub turn-blocks : k < t → getD l (k + 1) 0 * s ≤ 16_000_000
+  turn-blocks h =
+      let d : getD l (k + 1) 0 ≤ mostDisks = rw add-one (count-most s k l (next-limits h)) in
+      mul-le-mul d (a .rows-most)
+
+  pub turn-disk : (x : ℕ) (p : Spot) → k ≤ t → SpotSo s k l x p → x < getD l k 0 * s → p .disk < getD l k 0
   turn-disk x p h e g =
       let b = bijection s (history k l) (limits-at s t k l a h .rise) in
       let w : x < diskCount (history k l) * s = rw (history-disks k l) g in
-      rw e (omega (arith, history-disks k l, b .spot-within x w .disk))
+      rw (e w) (omega (arith, history-disks k l, b .spot-within x w .disk))
 
 pub spot-first : (s : ℕ) (l : List ℕ) (x : ℕ) → _≡_ {A = Spot} (record { disk = x % getD l 0 0; row = record { 0 = x / getD l 0 0 } }) (spotOf s (history 0 l) x)
 unfolding history spotOf
@@ -172,9 +189,21 @@ unfolding history spotOf
 spot-suc s zero l x = refl
 spot-suc s (suc k) l x = refl
 
-pub spot-next : (s k : ℕ) (l : List ℕ) (x : ℕ) (p q : Spot) → p ≡ spotOf s (history k l) x
+-- A growth does not look at the old spot and the old reason of a block that it adds.
+spot-same : (m n s x : ℕ) (p q : Spot) → (x < m * s → p ≡ q) → spotAfter m n s x p ≡ spotAfter m n s x q
+unfolding spotAfter
+spot-same m n s x p q e = by-test (ltb x (m * s)) (λ h. rw (e (ltb-true x (m * s) h))) (λ h. rw h)
+
+reason-same : (m n s x i : ℕ) (p q : Spot) (r o : Reason) → (x < m * s → p ≡ q) → (x < m * s → r ≡ o)
+    → reasonAfter (changeOf m n s x p) i r ≡ reasonAfter (changeOf m n s x q) i o
+unfolding changeOf reasonAfter
+reason-same m n s x i p q r o e f =
+    by-test (ltb x (m * s)) (λ h. rw (e (ltb-true x (m * s) h), f (ltb-true x (m * s) h))) (λ h. rw h)
+
+pub spot-next : (s k : ℕ) (l : List ℕ) (x : ℕ) (p q : Spot) → SpotSo s k l x p
     → q ≡ spotAfter (getD l k 0) (getD l (k + 1) 0 - getD l k 0) s x p → q ≡ spotOf s (history (k + 1) l) x
-spot-next s k l x p q e f = rw (add-one k) (rw (e, add-one k) at f ∙ sym (spot-suc s k l x))
+spot-next s k l x p q e f =
+    rw (add-one k) (rw (add-one k) at f ∙ spot-same _ _ s x p _ (λ h. e (rw (history-disks k l) h)) ∙ sym (spot-suc s k l x))
 
 -- and the reason
 pub reason-first : (s : ℕ) (l : List ℕ) (x : ℕ) → SetOut ≡ reasonOf s (history 0 l) x
@@ -187,9 +216,17 @@ unfolding history reasonOf
 reason-suc s zero l x = refl
 reason-suc s (suc k) l x = rw (history-length k l)
 
-pub reason-next : (s k : ℕ) (l : List ℕ) (x : ℕ) (p : Spot) (c : Change) (r q : Reason) → p ≡ spotOf s (history k l) x → r ≡ reasonOf s (history k l) x
+pub reason-next : (s k : ℕ) (l : List ℕ) (x : ℕ) (p : Spot) (c : Change) (r q : Reason) → SpotSo s k l x p → ReasonSo s k l x r
     → c ≡ changeOf (getD l k 0) (getD l (k + 1) 0 - getD l k 0) s x p → q ≡ reasonAfter c (k + 1) r → q ≡ reasonOf s (history (k + 1) l) x
-reason-next s k l x p c r q e f g o = rw (add-one k) (rw (g, e, f, add-one k) at o ∙ sym (reason-suc s k l x))
+reason-next s k l x p c r q e f g o =
+    rw (add-one k)
+    (rw (g, add-one k) at o
+    ∙ reason-same _ _ s x (suc k) p _ r _ (λ h. e (rw (history-disks k l) h)) (λ h. f (rw (history-disks k l) h))
+    ∙ sym (reason-suc s k l x))
+
+-- before the growth that adds it a block is not there
+pub turn-left : {X : Type 0} (s k : ℕ) (l : List ℕ) (x : ℕ) → getD l (k + 1) 0 * s ≤ x → There s (k + 1) l x → X
+turn-left s k l x h w = let v : x < getD l (k + 1) 0 * s = rw (history-disks (k + 1) l) at w in absurd (omega arith)
 
 -- ---- the loop back from now to format, at its turn k = j + 1
 

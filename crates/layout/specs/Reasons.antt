@@ -3,6 +3,7 @@
 use Prim.Native.Nat.{ℕ, suc, _-_}
 use mathlib.Core.List.{List, [], _∷_}
 use lib.ListN.{length, drop}
+use Rattle.layout.specs.declared.Address.{Address}
 use Rattle.layout.specs.declared.Change.{Change}
 use Rattle.layout.specs.declared.Change.the-variants.{Moved, Added, Stays}
 use Rattle.layout.specs.declared.Reason.{Reason}
@@ -21,6 +22,10 @@ unfoldable pub reasonOf : (s : ℕ) (h : List ℕ) (x : ℕ) → Reason
 reasonOf s [] x = SetOut
 reasonOf s (c ∷ []) x = SetOut
 reasonOf s (c ∷ m ∷ h) x = reasonAfter (changeOf m (c - m) s x (spotOf s (m ∷ h) x)) (length (m ∷ h)) (reasonOf s (m ∷ h) x)
+
+-- "the live spot and why it is there", of one history
+unfoldable pub addressOf : (s : ℕ) (h : List ℕ) (x : ℕ) → Address
+addressOf s h x = record { spot = spotOf s h x; reason = reasonOf s h x }
 
 -- "Growths are told by number, 1 to t; format is 0."
 unfoldable pub growthTold : (r : Reason) → ℕ

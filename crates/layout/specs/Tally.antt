@@ -5,6 +5,7 @@ use mathlib.Core.Bool.{Bool, false, cond, not, _&&_, _||_}
 use mathlib.Core.List.{List}
 use mathlib.Core.Option.{Option, some}
 use lib.Dec.{ltb, eqb}
+use Rattle.layout.specs.declared.Address.{Address}
 use Rattle.layout.specs.declared.Reason.{Reason}
 use Rattle.layout.specs.declared.Spot.{Spot}
 use Rattle.layout.specs.History.{diskCount, earlier, oldCount, addedCount, spotOf, blockAt}
@@ -55,6 +56,10 @@ growthsOf t x = byMode (t .mode) (t .counts) (cond (atNewSpot (t .rows) (t .coun
 -- why x is at its live spot
 unfoldable pub liveReasonOf : (t : Tally) (x : ℕ) → Reason
 liveReasonOf t x = reasonOf (t .rows) (growthsOf t x) x
+
+-- "the live spot and why it is there"
+unfoldable pub liveAddressOf : (t : Tally) (x : ℕ) → Address
+liveAddressOf t x = record { spot = liveSpotOf t x; reason = liveReasonOf t x }
 
 -- "x copied but not recorded"
 unfoldable pub waiting : (t : Tally) (x : ℕ) → Bool

@@ -58,10 +58,9 @@ pub fn moves_from(m: usize, n: usize, p: Spot) -> bool
     let d0 = p.disk;
     let row = p.row;
     let b1 = row.0 % (m + n);
-    if b1 < d0 {
-        return false;
-    }
-    b1 <= d0 + n - 1
+    // One test for both ends: where b1 is below d0 the difference wraps, to far more than n.
+    let past = std::num::wrapping_sub_usize(b1, d0);
+    past < n
 }
 
 // The disk after the growth of the old block at spot p.
@@ -78,6 +77,17 @@ pub fn disk_after(m: usize, n: usize, p: Spot) -> usize
     d0
 }
 
+// The remainder of a by k, where a is less than two k: no division.
+fn once_around(a: usize, k: usize) -> usize
+    requires { ⌜ a < k + k ⌝ }
+    ensures { λ r. ⌜ r ≡ a % k ⌝ }
+{
+    if k <= a {
+        return a - k;
+    }
+    a
+}
+
 // The disk of the added block q of row b.
 pub fn added_disk(m: usize, n: usize, b: usize, q: usize) -> usize
     requires { ⌜ Grows m n ⌝ }
@@ -85,8 +95,8 @@ pub fn added_disk(m: usize, n: usize, b: usize, q: usize) -> usize
     ensures { λ r. ⌜ r ≡ addedDisk m n b q ⌝ }
 {
     let k = m + n;
-    let first = (b % k + (k - (n - 1))) % k;
-    (first + q) % k
+    let first = once_around(b % k + (k - (n - 1)), k);
+    once_around(first + q, k)
 }
 
 // The spot of block x after the growth, where p is its spot before.
@@ -131,7 +141,7 @@ pub fn added_index(m: usize, n: usize, d: usize, b: usize) -> usize
 {
     let k = m + n;
     let first = added_disk(m, n, b, 0);
-    (d + (k - first)) % k
+    once_around(d + (k - first), k)
 }
 
 // The old disk of the moved block that the added disk d has at row b1 of its window.

@@ -4,7 +4,8 @@ ghost use mathlib.Core.Bool.{true};
 ghost use Prim.Native.Nat.{_*_, _<_, _≤_};
 ghost use Rattle.layout.specs.Limits.{Limits, mostGrowths};
 ghost use Rattle.layout.specs.History.{Within, history, diskCount, rising, newestGrowth, spotOf, blockAt};
-ghost use Rattle.layout.specs.Reasons.{reasonAfter, reasonOf};
+ghost use Rattle.layout.specs.Reasons.{reasonAfter, addressOf};
+use super::Address;
 use super::Block;
 use super::Change;
 use super::GrowthDisks;
@@ -31,8 +32,11 @@ pub fn spot_of(counts: [usize; 8], t: usize, s: usize, x: Block) -> Spot
     let mut k = 0;
     while k < t {
         let m = counts[k];
-        let n = counts[k + 1] - m;
-        p = spot_after(m, n, s, number, p);
+        let grown = counts[k + 1];
+        // Before the growth that adds it a block has no spot.
+        if number < grown * s {
+            p = spot_after(m, grown - m, s, number, p);
+        }
         k += 1;
     }
     p
@@ -83,11 +87,11 @@ fn reason_after(change: Change, k: usize, before: Reason) -> Reason
     }
 }
 
-// Why block x is at its spot after t growths.
-pub fn reason_of(counts: [usize; 8], t: usize, s: usize, x: Block) -> Reason
+// The spot of block x after t growths, and why it is there.
+pub fn address_of(counts: [usize; 8], t: usize, s: usize, x: Block) -> Address
     requires { ⌜ Limits s (history t counts) ⌝ }
     requires { ⌜ x .0 < diskCount (history t counts) * s ⌝ }
-    ensures { λ r. ⌜ r ≡ reasonOf s (history t counts) (x .0) ⌝ }
+    ensures { λ r. ⌜ r ≡ addressOf s (history t counts) (x .0) ⌝ }
 {
     let first = counts[0];
     let number = x.0;
@@ -99,11 +103,13 @@ pub fn reason_of(counts: [usize; 8], t: usize, s: usize, x: Block) -> Reason
     let mut k = 0;
     while k < t {
         let m = counts[k];
-        let n = counts[k + 1] - m;
-        let change = change_of(m, n, s, number, at);
-        reason = reason_after(change, k + 1, reason);
-        at = spot_after(m, n, s, number, at);
+        let grown = counts[k + 1];
+        if number < grown * s {
+            let change = change_of(m, grown - m, s, number, at);
+            reason = reason_after(change, k + 1, reason);
+            at = spot_after(m, grown - m, s, number, at);
+        }
         k += 1;
     }
-    reason
+    Address { spot: at, reason }
 }

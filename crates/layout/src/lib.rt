@@ -9,9 +9,9 @@ mod history;
 pub use growth::change_of;
 pub use growth::moves_from;
 pub use growth::part_of;
+pub use history::address_of;
 pub use history::block_at;
 pub use history::newest_growth;
-pub use history::reason_of;
 pub use history::spot_of;
 
 // Document 01's block: an address in the volume.
@@ -52,4 +52,10 @@ pub enum Reason {
     SetOut,
     AddedBy(usize),
     MovedBy(usize, Part),
+}
+
+// What address tells of a block: its spot, and why it is there.
+pub struct Address {
+    pub spot: Spot,
+    pub reason: Reason,
 }

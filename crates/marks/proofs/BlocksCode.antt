@@ -1,13 +1,13 @@
 -- What the code that looks for a block of a growth under way meets. Assumes nothing.
 use Prim.Native.Nat.{ℕ, zero, suc, _+_, _-_, _*_, _/_, _≤_, _<_}
 use mathlib.Core.Path.{_≡_, refl, sym, _∙_, ap}
-use mathlib.Core.Bool.{Bool, true, false, cond, and-false, and-self-left}
+use mathlib.Core.Bool.{Bool, true, false, cond, _&&_, and-self-left}
 use mathlib.Core.List.{List}
 use native.Mathlib.Nat.{mul-le-mul}
 use native.Mathlib.Omega.{arith}
 use lib.Dec.{eqb}
 use lib.ListN.{getD}
-use borrow.Author.Tests.{lt-ltb, le-ltb, ltb-true, eq-eqb, ne-eqb}
+use borrow.Author.Tests.{lt-ltb, le-ltb, ltb-true}
 use Rattle.base.proofs.Booleans.{and-left}
 use Rattle.layout.specs.declared.Block.{Block}
 use Rattle.layout.specs.declared.GrowthDisks.{GrowthDisks}
@@ -28,6 +28,11 @@ use Rattle.marks.specs.declared.LiveBlock.the-variants.{Lives, Nothing}
 use Rattle.marks.specs.declared.OldSpot.{OldSpot}
 use Rattle.marks.specs.declared.OldSpot.the-variants.{Moving, NotMoving}
 use Rattle.marks.specs.Marks.{markCount, movingFrom, asLiveBlock}
+
+-- ---- the mark of a moving block
+
+pub mark-fits : (m n : ℕ) (p : Spot) → Grows m n → (p .disk < m) × (movesFrom m n p ≡ true) → markOfSpot m n p < markCount
+mark-fits m n p g k = omega (arith, mark-below m n (g .old) (g .added) p (k .0) (k .1), marks-most m n (g .most))
 
 -- ---- before the newest growth
 
@@ -160,9 +165,14 @@ module _ {s t : ℕ} {l : List ℕ} {g : GrowthDisks} {x : ℕ} {p : Spot} (f : 
   mark-told = rw (old-read (f .read), added-read (f .read), f .spot)
 
   pub mark-small : markOfSpot (g .old) (g .added) p < markCount
-  mark-small =
-      let k = mark-asks in
-      omega (arith, mark-below (g .old) (g .added) (k .0 .old) (k .0 .added) p (k .1 .0) (k .1 .1), marks-most (g .old) (g .added) (k .0 .most))
+  mark-small = let k = mark-asks in mark-fits (g .old) (g .added) p (k .0) (k .1)
+
+  -- whether it is of window w with its mark set
+  pub mark-set : (w : ℕ) (marks : List Bool) (r : Bool)
+      → r ≡ (eqb (p .row .0 / (g .old + g .added)) w && getD marks (markOfSpot (g .old) (g .added) p) false)
+      → r ≡ markedBlocks s (history t l) w marks x
+  unfolding markedBlocks movingIn
+  mark-set w marks r e = rw (f .moves) (rw (window-told, mark-told) at e)
 
 -- ---- marked blocks, and blocks at their new spots
 
@@ -174,15 +184,6 @@ module _ (s : ℕ) (h : List ℕ) (w x : ℕ) where
   pub unmoving-unmarked : (marks : List Bool) → moving s h x ≡ false → false ≡ markedBlocks s h w marks x
   unfolding markedBlocks movingIn
   unmoving-unmarked marks e = rw e
-
-  pub other-unmarked : (marks : List Bool) → (windowOf s h x ≡ w → ⊥) → false ≡ markedBlocks s h w marks x
-  unfolding markedBlocks movingIn
-  other-unmarked marks e = rw (ne-eqb _ _ e, and-false (moving s h x))
-
-  pub marked-here : (marks : List Bool) (j : ℕ) → j ≡ markOf s h x → moving s h x ≡ true → windowOf s h x ≡ w
-      → getD marks j false ≡ markedBlocks s h w marks x
-  unfolding markedBlocks movingIn
-  marked-here marks j k e f = rw (k, e, eq-eqb _ _ f)
 
   pub passed-new : (recorded : ℕ → Bool) → moving s h x ≡ true → windowOf s h x < w → true ≡ atNewSpot s h (recordedBy s h w recorded) x
   unfolding atNewSpot recordedBy

@@ -9,20 +9,28 @@ use lib.Dec.{eqb, leb}
 use lib.ListN.{getD, set, replicate}
 use lib.Seq.{append-snoc}
 use borrow.Author.Tests.{lt-ltb, le-ltb, le-leb, lt-leb, eq-eqb, ne-eqb}
-use Rattle.base.specs.Below.{table}
+use Rattle.base.specs.Below.{every, table}
 use Rattle.base.proofs.Counting.{every-fails}
 use Rattle.base.proofs.Lists.{table-next}
 use Rattle.layout.specs.History.{history, rising}
 use Rattle.layout.specs.Windows.{rowExists}
 use Rattle.layout.proofs.HistoryCode.{rising-first, rising-more, not-rising-first, not-rising-more, not-rising-later}
-use Rattle.marks.specs.Marks.{markCount, within, zerosAfter}
+use Rattle.marks.specs.Marks.{markCount, zerosAfter}
 use Rattle.marks.proofs.MarkSets.{keptAt, movingAt}
 
 -- ---- marks
 
-pub not-within : (a b : List Bool) (j : ℕ) → j < markCount → getD a j false ≡ true → getD b j false ≡ false → false ≡ within a b
-unfolding within
-not-within a b j h e f = sym (every-fails (keptAt a b) markCount j h (rw (e, f)))
+-- none lost where the tests so far passed, and one more that passes or fails
+pub none-more-lost : (p : ℕ → Bool) (j lost : ℕ) → eqb lost 0 ≡ every p j → p j ≡ true → eqb lost 0 ≡ every p (j + 1)
+unfolding every
+none-more-lost p j lost e f = rw (add-one, f) e
+
+pub one-more-lost : (p : ℕ → Bool) (j lost : ℕ) → p j ≡ false → eqb (lost + 1) 0 ≡ every p (j + 1)
+unfolding every
+one-more-lost p j lost f = rw (add-one j, f) (ne-eqb (lost + 1) 0 (λ e. absurd (omega arith)))
+
+pub not-kept : (a b : List Bool) (j : ℕ) → getD a j false ≡ true → getD b j false ≡ false → keptAt a b j ≡ false
+not-kept a b j e f = rw (e, f)
 
 pub kept-unset : (a b : List Bool) (j : ℕ) → getD a j false ≡ false → keptAt a b j ≡ true
 kept-unset a b j e = rw e

@@ -1,11 +1,15 @@
 // What the marks of window w say of the blocks of a growth under way.
 ghost use mathlib.Core.Path.{_≡_};
-ghost use Prim.Native.Nat.{_*_, _<_};
+ghost use mathlib.Core.Bool.{true, false, _&&_};
+ghost use Prim.Native.Nat.{_+_, _*_, _/_, _<_};
+ghost use lib.Dec.{eqb};
+ghost use lib.ListN.{getD};
+ghost use Rattle.layout.specs.Growth.{movesFrom};
 ghost use Rattle.layout.specs.History.{Within, history, oldCount};
-ghost use Rattle.layout.specs.Limits.{Limits};
+ghost use Rattle.layout.specs.Limits.{Limits, Grows};
 ghost use Rattle.layout.specs.Live.{atNewSpot, liveSpot, liveBlock};
 ghost use Rattle.layout.specs.Tally.{recordedBy};
-ghost use Rattle.layout.specs.Windows.{markedBlocks};
+ghost use Rattle.layout.specs.Windows.{markOfSpot, markedBlocks};
 ghost use Rattle.marks.specs.Marks.{movingFrom, asLiveBlock};
 use super::LiveBlock;
 use super::OldSpot;
@@ -29,6 +33,20 @@ pub(crate) fn moving_from(counts: [usize; 8], t: usize, s: usize, x: Block) -> O
     OldSpot::NotMoving
 }
 
+// Is the moving block at the old spot p one of window w with its mark set?
+fn is_marked_at(m: usize, n: usize, w: usize, marks: [bool; 64], p: Spot) -> bool
+    requires { ⌜ Grows m n ⌝ }
+    requires { ⌜ (p .disk < m) × (movesFrom m n p ≡ true) ⌝ }
+    ensures { λ r. ⌜ r ≡ (eqb (p .row .0 / (m + n)) w && getD marks (markOfSpot m n p) false) ⌝ }
+{
+    let row = p.row;
+    if row.0 / (m + n) != w {
+        return false;
+    }
+    let j = window::mark_of_spot(m, n, p);
+    marks[j]
+}
+
 // Is x a moving block of window w with its mark set?
 pub fn is_marked(
     counts: [usize; 8],
@@ -46,12 +64,7 @@ pub fn is_marked(
         return false;
     };
     let g = layout::newest_growth(counts, t);
-    let row = p.row;
-    if row.0 / (g.old + g.added) != w {
-        return false;
-    }
-    let j = window::mark_of_spot(g.old, g.added, p);
-    marks[j]
+    is_marked_at(g.old, g.added, w, marks, p)
 }
 
 // Is x at its new spot?
@@ -75,7 +88,7 @@ pub fn at_new_spot(
     if row.0 / (g.old + g.added) < w {
         return true;
     }
-    is_marked(counts, t, s, w, recorded, x)
+    is_marked_at(g.old, g.added, w, recorded, p)
 }
 
 // The live spot of x.

@@ -5,20 +5,24 @@ ghost use Rattle.layout.specs.History.{history, rising};
 ghost use Rattle.layout.specs.Limits.{Grows, mostGrowths, mostRows};
 ghost use Rattle.marks.specs.Marks.{within, movingMarks, zerosAfter};
 
-// Are the marks of a all in b?
+// Are the marks of a all in b? Counts in a byte and reads both sets at every turn, so that the compiler takes many
+// marks at a time.
 pub fn is_within(a: [bool; 64], b: [bool; 64]) -> bool
     ensures { λ r. ⌜ r ≡ within a b ⌝ }
 {
+    let mut lost = 0u8;
     let mut j = 0;
     while j < 64 {
-        if a[j] {
-            if !b[j] {
-                return false;
+        let in_a = a[j];
+        let in_b = b[j];
+        if in_a {
+            if !in_b {
+                lost += 1;
             }
         }
         j += 1;
     }
-    true
+    lost == 0
 }
 
 // The marks of the moving blocks of window w whose rows exist.

@@ -20,6 +20,10 @@ place g p = recordBytes + (p .disk * g .rows + p .row .0) * g .size
 unfoldable pub bytesNeeded : (g : Geometry) (disks : ℕ) → ℕ
 bytesNeeded g disks = recordBytes + disks * g .rows * g .size
 
+-- the most bytes that the code copies at once
+abbrev pub mostCopied : ℕ
+mostCopied = 65536
+
 -- ---- what a call sees of a medium
 
 pub record Observations : Type 0 where

@@ -1,9 +1,8 @@
 -- What the run-time tests of the cases show, and what the code of layout and medium then asks. Assumes nothing.
 use Prim.Native.Nat.{ℕ, suc, _*_, _≤_, _<_}
-use mathlib.Core.Path.{_≡_, ap}
+use mathlib.Core.Path.{_≡_}
 use mathlib.Core.Bool.{true, false, false≢true}
 use mathlib.Core.List.{List, [], _∷_}
-use mathlib.Core.Logic.{_≢_}
 use native.Mathlib.Nat.{mul-le-mul}
 use native.Mathlib.Omega.{arith}
 use lib.ListN.{getD}
@@ -19,7 +18,7 @@ use Rattle.layout.proofs.MarkSpots.{mark-spot-disk, mark-spot-moves}
 use Rattle.layout.proofs.NewestCode.{old-is, added-is, newest-grows}
 use Rattle.layout.proofs.Theorems.{spots-and-blocks}
 use Rattle.medium.specs.declared.Geometry.{Geometry}
-use Rattle.medium.specs.Medium.{bytesNeeded, Inside}
+use Rattle.medium.specs.Medium.{mostCopied, bytesNeeded, Inside}
 use Rattle.medium.proofs.Theorems.{medium-laws}
 
 -- a test that fails shows nothing
@@ -91,11 +90,11 @@ mark-asks m n w j p g h e =
 pub spot-inside : (h : Geometry) (n : ℕ) (p : Spot) → bytesNeeded h 5 ≤ n → p .disk < 5 → p .row .0 < h .rows → Inside h n p
 spot-inside h n p k d r = let a = medium-laws .inside h 5 p d r in record { row = r; fits = omega (arith, a .fits) }
 
-module _ (g h : Geometry) (e : g ≡ h) (z : 0 < h .size) (n : ℕ) (p : Spot) (a : Inside h n p) where
+module _ (g h : Geometry) (e : g ≡ h) (z : (0 < h .size) × (h .size ≤ mostCopied)) (n : ℕ) (p : Spot) (a : Inside h n p) where
   -- what storing and fetching a piece of k bytes take
-  pub piece-asks : (k : ℕ) → k ≡ h .size → (0 < g .size) × (Inside g n p × (k ≡ g .size))
+  pub piece-asks : (k : ℕ) → k ≡ h .size → ((0 < g .size) × (g .size ≤ mostCopied)) × (Inside g n p × (k ≡ g .size))
   piece-asks k f = rw e (z, (a, f))
 
   -- what copying to spot q takes
-  pub copy-asks : (q : Spot) → Inside h n q → p .disk ≢ q .disk → (0 < g .size) × (Inside g n p × (Inside g n q × (p ≢ q)))
-  copy-asks q b d = rw e (z, (a, (b, λ f. d (ap (λ (s : Spot). s .disk) f))))
+  pub copy-asks : (q : Spot) → Inside h n q → ((0 < g .size) × (g .size ≤ mostCopied)) × (Inside g n p × Inside g n q)
+  copy-asks q b = rw e (z, (a, b))

@@ -1,5 +1,5 @@
 -- What the code of copy, checkpoint and advance needs. Assumes nothing.
-use Prim.Native.Nat.{ℕ, _+_, _≤_, _<_}
+use Prim.Native.Nat.{ℕ, _+_, _-_, _≤_, _<_}
 use mathlib.Core.Path.{_≡_, refl, sym, _∙_}
 use mathlib.Core.Bool.{Bool, true, false, cond, not}
 use mathlib.Core.List.{List}
@@ -15,19 +15,18 @@ use Rattle.layout.specs.declared.Block.{Block}
 use Rattle.layout.specs.declared.GrowthDisks.{GrowthDisks}
 use Rattle.layout.specs.declared.Part.{Part}
 use Rattle.layout.specs.declared.Spot.{Spot}
-use Rattle.layout.specs.History.{oldCount, addedCount, newestGrowth, spotOf}
+use Rattle.layout.specs.History.{history, oldCount, addedCount, newestGrowth, spotOf}
 use Rattle.layout.specs.Limits.{mostRows}
-use Rattle.layout.specs.Live.{atNewSpot, liveSpot}
 use Rattle.layout.specs.Tally.{openBlocks, liveSpotOf, callsLeftOf, movesNow, targetOf, nextBlock, windowFull, lastWindow}
-use Rattle.layout.specs.Windows.{windows, moving, windowOf, movingIn, markedBlocks, partMoved, allCopied}
-use Rattle.layout.proofs.NextBlocks.{moving-old}
-use Rattle.layout.proofs.Theorems.{some-added, live-spots}
+use Rattle.layout.specs.Windows.{windows, oldSpot, moving, windowOf, movingIn, markedBlocks, partMoved, allCopied}
+use Rattle.layout.proofs.Theorems.{some-added}
 use Rattle.layout.proofs.WindowsCode.{windows-most}
 use Rattle.marks.specs.declared.NextCopy.{NextCopy}
 use Rattle.marks.specs.declared.NextCopy.the-variants.{CopyOf, AllCopied}
 use Rattle.marks.specs.Marks.{noMarks, within, asNextCopy}
+use Rattle.marks.proofs.BlocksCode.{history-before}
 use Rattle.medium.specs.declared.Geometry.{Geometry}
-use Rattle.medium.specs.Medium.{bytesNeeded, Observations, observe, recordStore, blockStore, apply, Inside}
+use Rattle.medium.specs.Medium.{mostCopied, bytesNeeded, Observations, observe, recordStore, blockStore, apply, Inside}
 use Rattle.volume.specs.declared.Advanced.{Advanced}
 use Rattle.volume.specs.declared.Advanced.the-variants.{Copied}
 use Rattle.volume.specs.declared.Answer.the-variants.{Told}
@@ -41,7 +40,7 @@ use Rattle.volume.proofs.Accepted.{CopyFacts}
 use Rattle.volume.proofs.CallsCode.{record-stored}
 use Rattle.volume.proofs.CopyLaws.{moves-open, source-spot}
 use Rattle.volume.proofs.Judged.{refused-when, accepted-when}
-use Rattle.volume.proofs.LiveCode.{countsNow}
+use Rattle.volume.proofs.LiveCode.{countsNow, has-growth}
 use Rattle.volume.proofs.LookUpLaws.{live-inside}
 use Rattle.volume.proofs.SoundLaws.{sound-facts, some-old}
 use Rattle.volume.proofs.StoresFit.{copy-inside}
@@ -123,29 +122,26 @@ unfolding movesNow movingIn tallyOf historyOf
 now-moving v x m = and-left (moving (v .rows) (countsNow v) x) (eqb (windowOf (v .rows) (countsNow v) x) (v .window)) m
 
 module _ (v : Volume) (x len : ℕ) (f : CopyFacts v x len) where
-  -- its old spot and its new one are two
-  apart : liveSpotOf (tallyOf v) x ≢ targetOf (tallyOf v) x
-  unfolding liveSpot atNewSpot targetOf tallyOf historyOf
-  apart q =
+  -- it lives at its spot before the newest growth
+  pub lives-before : spotOf (v .rows) (history (v .growths - 1) (v .counts)) x ≡ liveSpotOf (tallyOf v) x
+  unfolding oldSpot historyOf
+  lives-before =
       let a = f .advances in
-      let s = v .rows in
-      let h = countsNow v in
-      let moves = now-moving v x (f .moves) in
-      live-spots s h (sound-facts v (a .is-sound) .limits .rise) (some-old v (a .is-sound) (a .is-growing)) (λ y. false) .target-free x x
-      moves refl (moving-old s h x moves) (rw moves (sym (source-spot v x len f) ∙ q))
+      rw (history-before (v .growths) (v .counts) (has-growth v (a .is-growing) (a .is-sound))) (sym (source-spot v x len f))
 
-  -- what copying it from the one to the other requires
+  -- what copying it from its live spot to its new one requires
   pub copy-asks : (k : Geometry) → k ≡ geometry v
       → (from to : Spot) → from ≡ liveSpotOf (tallyOf v) x → to ≡ spotOf (v .rows) (countsNow v) x
-      → (0 < k .size) × (Inside k len from × (Inside k len to × (from ≢ to)))
+      → ((0 < k .size) × (k .size ≤ mostCopied)) × (Inside k len from × Inside k len to)
   unfolding geometry targetOf tallyOf historyOf
   copy-asks k same from to a b =
       let g = f .advances in
+      let size = sound-facts v (g .is-sound) in
       rw (same, a, b) (
-        omega (arith, sound-facts v (g .is-sound) .size-least),
+        (omega (arith, size .size-least), size .size-most),
         (
           live-inside v x len (g .is-sound) (f .block-open) (g .room),
-          (copy-inside v x len (g .is-sound) (g .is-growing) (f .moves) (g .room), apart),
+          copy-inside v x len (g .is-sound) (g .is-growing) (f .moves) (g .room),
         ),
       )
 

@@ -14,9 +14,9 @@ use Rattle.layout.specs.declared.Spot.{Spot}
 use Rattle.layout.specs.History.{history, diskCount, oldCount, addedCount, spotOf, blockAt}
 use Rattle.layout.specs.Limits.{Limits, mostDisks}
 use Rattle.layout.specs.Live.{atNewSpot, liveSpot, liveBlock}
-use Rattle.layout.specs.Reasons.{reasonOf}
-use Rattle.layout.specs.Tally.{notGrowing, growing, openBlocks, recordedBy, movedBlocks, liveSpotOf, liveBlockOf, growthsOf, liveReasonOf, waiting, callsLeftOf}
-use Rattle.layout.specs.Windows.{windows, markedBlocks, callsLeft}
+use Rattle.layout.specs.Reasons.{addressOf}
+use Rattle.layout.specs.Tally.{notGrowing, growing, openBlocks, recordedBy, movedBlocks, liveSpotOf, liveBlockOf, growthsOf, liveReasonOf, liveAddressOf, waiting, callsLeftOf}
+use Rattle.layout.specs.Windows.{windows, oldSpot, markedBlocks, callsLeft}
 use Rattle.layout.proofs.HistoryCode.{history-disks, growths-most}
 use Rattle.marks.specs.declared.LiveBlock.the-variants.{Lives}
 use Rattle.marks.specs.Marks.{asLiveBlock}
@@ -83,7 +83,7 @@ module _ (v : Volume) (g : v .growing ≡ 0) where
   pub rest-open : getD (v .counts) (v .growths) 0 * v .rows ≡ openBlocks (tallyOf v)
   rest-open = rw (rest-blocks, history-disks (v .growths) (v .counts))
 
-  -- what finding the spot of an open block asks, and its reason
+  -- what finding the spot of an open block asks, and its address
   pub rest-asks : (x : ℕ) → sound v ≡ true → x < openBlocks (tallyOf v) → Limits (v .rows) (countsNow v) × (x < diskCount (countsNow v) * v .rows)
   rest-asks x e h = (history-limits v e, rw rest-blocks at h)
 
@@ -91,9 +91,9 @@ module _ (v : Volume) (g : v .growing ≡ 0) where
   unfolding liveSpotOf tallyOf historyOf
   rest-spot x = rw rest-mode
 
-  pub rest-reason : (x : ℕ) → reasonOf (v .rows) (countsNow v) x ≡ liveReasonOf (tallyOf v) x
-  unfolding liveReasonOf growthsOf tallyOf historyOf
-  rest-reason x = rw rest-mode
+  pub rest-address : (x : ℕ) → addressOf (v .rows) (countsNow v) x ≡ liveAddressOf (tallyOf v) x
+  unfolding addressOf liveAddressOf liveSpotOf liveReasonOf growthsOf tallyOf historyOf
+  rest-address x = rw rest-mode
 
   pub rest-block : (p : Spot) (x : Block) → x .0 ≡ blockAt (v .rows) (countsNow v) p → Lives x ≡ asLiveBlock (liveBlockOf (tallyOf v) p)
   unfolding asLiveBlock liveBlockOf tallyOf historyOf
@@ -136,9 +136,9 @@ module _ (v : Volume) (g : v .growing ≢ 0) where
   unfolding liveBlockOf movedBlocks tallyOf historyOf
   growing-block p = rw growing-mode
 
-  pub new-reason : (x : ℕ) → atNewSpot (v .rows) (countsNow v) moved x ≡ true → reasonOf (v .rows) (countsNow v) x ≡ liveReasonOf (tallyOf v) x
-  unfolding liveReasonOf growthsOf movedBlocks tallyOf historyOf
-  new-reason x e = rw (growing-mode, e)
+  pub new-address : (x : ℕ) → atNewSpot (v .rows) (countsNow v) moved x ≡ true → addressOf (v .rows) (countsNow v) x ≡ liveAddressOf (tallyOf v) x
+  unfolding addressOf liveAddressOf liveSpotOf liveSpot liveReasonOf growthsOf movedBlocks tallyOf historyOf
+  new-address x e = rw (growing-mode, e)
 
   -- waiting, by what the code found of the marks of x
   pub not-copied : (x : ℕ) (copied : Bool) → copied ≡ marked (v .copied) x → copied ≡ false → false ≡ waiting (tallyOf v) x
@@ -172,7 +172,7 @@ module _ (v : Volume) (g : v .growing ≢ 0) where
     unfolding oldCount
     growing-open = rw (growing-blocks, ← history-before (v .growths) (v .counts) has-growth, history-disks (v .growths - 1) (v .counts))
 
-    -- what finding the reason of an open block asks, after the newest growth and before it
+    -- what finding the address of an open block asks, after the newest growth and before it
     pub asks-now : (x : ℕ) → x < openBlocks (tallyOf v) → Limits (v .rows) (countsNow v) × (x < diskCount (countsNow v) * v .rows)
     asks-now x h =
         let a = history-limits v e in
@@ -182,6 +182,6 @@ module _ (v : Volume) (g : v .growing ≢ 0) where
     asks-before x h =
         (limits-then, block-before (v .rows) (v .growths) (v .counts) (history-limits v e) has-growth x (old-block x h))
 
-    pub old-reason : (x : ℕ) → atNewSpot (v .rows) (countsNow v) moved x ≡ false → reasonOf (v .rows) (countsBefore v) x ≡ liveReasonOf (tallyOf v) x
-    unfolding liveReasonOf growthsOf movedBlocks tallyOf historyOf
-    old-reason x f = rw (growing-mode, f, history-before (v .growths) (v .counts) has-growth)
+    pub old-address : (x : ℕ) → atNewSpot (v .rows) (countsNow v) moved x ≡ false → addressOf (v .rows) (countsBefore v) x ≡ liveAddressOf (tallyOf v) x
+    unfolding addressOf liveAddressOf liveSpotOf liveSpot oldSpot liveReasonOf growthsOf movedBlocks tallyOf historyOf
+    old-address x f = rw (growing-mode, f, history-before (v .growths) (v .counts) has-growth)

@@ -82,8 +82,9 @@ impl Volume {
         ensures { λ _. ⌜ now (medium .exit) ≡ apply (geometry self) (copyStore self (x .0) (observe (now (medium .entry)))) (now (medium .entry)) ⌝ }
     {
         let counts = self.counts;
-        let from = self.live_spot(x);
-        let to = layout::spot_of(counts, self.growths, self.rows, x);
+        let t = self.growths;
+        let from = layout::spot_of(counts, t - 1, self.rows, x);
+        let to = layout::spot_of(counts, t, self.rows, x);
         let g = self.geometry();
         medium::copy_block(medium, g, from, to);
     }

@@ -4,14 +4,14 @@ ghost use mathlib.Core.Bool.{true};
 ghost use Prim.Native.Nat.{_≤_, _<_};
 ghost use Rattle.layout.specs.History.{Within};
 ghost use Rattle.layout.specs.Limits.{mostDisks};
-ghost use Rattle.layout.specs.Tally.{openBlocks, liveSpotOf, liveBlockOf, liveReasonOf, waiting, callsLeftOf};
+ghost use Rattle.layout.specs.Tally.{openBlocks, liveSpotOf, liveBlockOf, liveAddressOf, waiting, callsLeftOf};
 ghost use Rattle.marks.specs.Marks.{asLiveBlock};
 ghost use Rattle.volume.specs.Calls.{tooShort};
 ghost use Rattle.volume.specs.Sound.{sound};
 ghost use Rattle.volume.specs.States.{geometry, historyOf, disks, tallyOf};
 use super::Volume;
+use layout::Address;
 use layout::Block;
-use layout::Reason;
 use layout::Spot;
 use marks::LiveBlock;
 use medium::Geometry;
@@ -74,22 +74,22 @@ impl Volume {
         marks::live_spot(counts, self.growths, self.rows, self.window, recorded, x)
     }
 
-    // Why block x is at its live spot.
-    pub(crate) fn live_reason(self, x: Block) -> Reason
+    // The live spot of block x, and why it is there.
+    pub(crate) fn live_address(self, x: Block) -> Address
         requires { ⌜ sound self ≡ true ⌝ }
         requires { ⌜ x .0 < openBlocks (tallyOf self) ⌝ }
-        ensures { λ r. ⌜ r ≡ liveReasonOf (tallyOf self) (x .0) ⌝ }
+        ensures { λ r. ⌜ r ≡ liveAddressOf (tallyOf self) (x .0) ⌝ }
     {
         let counts = self.counts;
         let t = self.growths;
         if self.growing == 0 {
-            return layout::reason_of(counts, t, self.rows, x);
+            return layout::address_of(counts, t, self.rows, x);
         }
         let recorded = self.recorded;
         if marks::at_new_spot(counts, t, self.rows, self.window, recorded, x) {
-            return layout::reason_of(counts, t, self.rows, x);
+            return layout::address_of(counts, t, self.rows, x);
         }
-        layout::reason_of(counts, t - 1, self.rows, x)
+        layout::address_of(counts, t - 1, self.rows, x)
     }
 
     // The block that lives at p.

@@ -35,11 +35,12 @@ impl Volume {
                 answer: AddressAnswer::Refused(k),
             };
         }
-        let p = self.live_spot(x);
-        let reason = self.live_reason(x);
+        let found = self.live_address(x);
+        let spot = found.spot;
+        let reason = found.reason;
         AddressReply {
             state: self,
-            answer: AddressAnswer::At(p, reason),
+            answer: AddressAnswer::At(spot, reason),
         }
     }
 

@@ -57,7 +57,12 @@ pub fn row_exists(m: usize, n: usize, s: usize, w: usize, j: usize) -> bool
     requires { ⌜ (w ≤ mostRows) × (j < 64) ⌝ }
     ensures { λ r. ⌜ r ≡ rowExists m n s w j ⌝ }
 {
-    w * (m + n) + (j / n + j % n) < s
+    let start = w * (m + n);
+    // A mark is at most 63 rows into its window. So far from the end no division is needed.
+    if start + 64 <= s {
+        return true;
+    }
+    start + (j / n + j % n) < s
 }
 
 // The moving blocks of a window that is cut off to r rows.

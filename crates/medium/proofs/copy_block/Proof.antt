@@ -1,7 +1,6 @@
 -- `copy_block` meets its contract. Assumes nothing.
 use borrow.Author.Needs.{needs}
 use Rattle.medium.specs.Medium.{apply, observe}
-use Rattle.medium.proofs.Places.{disjoint}
 use Rattle.medium.proofs.copy_block.Statement.{statement}
 use Rattle.medium.proofs.copy_block.Tie as tie
 
@@ -13,10 +12,8 @@ place-of-requires-2 c κs = search needs
 
 copy-bytes-requires : tie.Need-copy-bytes-requires
 copy-bytes-requires c κs =
-    let a = c .before .before .before .before .args in
     let p = c .before .before .before .before .pre in
-    let apart = disjoint (a .g) (a .from) (a .to) (p .1 .0 .row) (p .1 .1 .0 .row) (p .1 .1 .1) in
-    rw (c .before .before .place-of .ensures, c .before .place-of2 .ensures) (p .1 .0 .fits, (p .1 .1 .0 .fits, apart))
+    rw (c .before .before .place-of .ensures, c .before .place-of2 .ensures) (p .0 .1, (p .1 .0 .fits, p .1 .1 .fits))
 
 same-length : tie.Need-same-length
 same-length c = search needs

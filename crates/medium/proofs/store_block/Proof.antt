@@ -13,17 +13,17 @@ place-of-requires c κs = search needs
 add-end : tie.Need-add-end
 add-end c = search needs
 
-sub-copy : tie.Need-sub-copy
-sub-copy c = search needs
+sub-copy-all : tie.Need-sub-copy-all
+sub-copy-all c = search needs
 
-part-copy-start : tie.Need-part-copy-start
-part-copy-start c = search needs
+part-copy-all-start : tie.Need-part-copy-all-start
+part-copy-all-start c = search needs
 
-part-copy-end : tie.Need-part-copy-end
-part-copy-end c = search needs
+part-copy-all-end : tie.Need-part-copy-all-end
+part-copy-all-end c = search needs
 
-copy-requires : tie.Need-copy-requires
-copy-requires c κs = search needs
+copy-all-requires : tie.Need-copy-all-requires
+copy-all-requires c κs = search needs
 
 same-length : tie.Need-same-length
 same-length c = search needs
@@ -34,7 +34,7 @@ returns c =
     let a = c .before .before .before .before .before .before .before .args in
     let p = c .before .before .before .before .place-of in
     let e : p .result ≡ place (a .g) (a .p) = p .ensures in
-    rw (← e) (copied-in (a .medium .now) (a .piece .now) (c .before .before .copy .last .1 .0) (p .result) (omega arith) (c .before .before .copy .ensures .1))
+    rw (← e) (copied-in (a .medium .now) (a .piece .now) (c .before .before .copy-all .last .1 .0) (p .result) (omega arith) (c .before .before .copy-all .ensures))
 
 pub store-block-spec : {M : Type 1} → statement M
 store-block-spec =
@@ -42,9 +42,9 @@ store-block-spec =
     (tie.spec
     place-of-requires
     add-end
-    sub-copy
-    part-copy-start
-    part-copy-end
-    copy-requires
+    sub-copy-all
+    part-copy-all-start
+    part-copy-all-end
+    copy-all-requires
     same-length
     returns)

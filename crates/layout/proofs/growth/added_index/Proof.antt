@@ -14,22 +14,29 @@ add-k c = search needs
 added-disk-requires : tie.Need-added-disk-requires
 added-disk-requires c κs = search needs
 
-sub-result : tie.Need-sub-result
-sub-result c =
+sub-once-around : tie.Need-sub-once-around
+sub-once-around c =
     let a = c .before .args in
     let h : c .added-disk .result < a .m + a .n = rw (c .added-disk .ensures) (added-there (a .m) (a .n) (a .b) (omega arith) (omega arith) 0 (omega arith) .0) in
     omega arith
 
-add-result : tie.Need-add-result
-add-result c = search needs
+add-once-around : tie.Need-add-once-around
+add-once-around c = search needs
 
-rem-result : tie.Need-rem-result
-rem-result c = search needs
+once-around-requires : tie.Need-once-around-requires
+once-around-requires c κs = search needs
 
 returns : tie.Need-returns
 unfolding addedIndex addedDisk minusMod
-returns c = rw (c .added-disk .ensures, add-zero)
+returns c = rw (c .once-around .ensures, c .before .added-disk .ensures, add-zero)
 
 pub added-index-spec : {M : Type 1} → statement M
 added-index-spec =
-    tie.close (tie.spec add-k added-disk-requires sub-result add-result rem-result returns)
+    tie.close
+    (tie.spec
+    add-k
+    added-disk-requires
+    sub-once-around
+    add-once-around
+    once-around-requires
+    returns)

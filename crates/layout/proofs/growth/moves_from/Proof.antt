@@ -1,7 +1,8 @@
 -- `moves_from` meets its contract. Assumes nothing.
-use borrow.Author.Tests.{le-leb, lt-leb}
+use native.Mathlib.Omega.{arith}
 use borrow.Author.Needs.{needs}
-use Rattle.layout.specs.Growth.{movesFrom, moves}
+use Rattle.layout.specs.Growth.{movesFrom}
+use Rattle.layout.proofs.GrowthCode.{one-test}
 use Rattle.layout.proofs.growth.moves_from.Statement.{statement}
 use Rattle.layout.proofs.growth.moves_from.Tie as tie
 
@@ -11,19 +12,12 @@ add-b1 c = search needs
 rem-b1 : tie.Need-rem-b1
 rem-b1 c = search needs
 
+wrapping-sub-usize-requires : tie.Need-wrapping-sub-usize-requires
+wrapping-sub-usize-requires c κs = search needs
+
 returns : tie.Need-returns
-unfolding movesFrom moves
-returns c = simp (lt-leb _ _ (c .if1 .taken))
-
-add-result : tie.Need-add-result
-add-result c = search needs
-
-sub-result : tie.Need-sub-result
-sub-result c = search needs
-
-returns-2 : tie.Need-returns-2
-unfolding movesFrom moves
-returns-2 c = simp (le-leb _ _ (c .if1 .left))
+unfolding movesFrom
+returns c = one-test _ _ _ _ (omega arith) (omega arith) (omega arith) (omega arith) (c .wrapping-sub-usize .ensures)
 
 pub moves-from-spec : {M : Type 1} → statement M
-moves-from-spec = tie.close (tie.spec add-b1 rem-b1 returns add-result sub-result returns-2)
+moves-from-spec = tie.close (tie.spec add-b1 rem-b1 wrapping-sub-usize-requires returns)

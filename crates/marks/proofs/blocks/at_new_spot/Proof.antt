@@ -2,7 +2,7 @@
 use native.Mathlib.Omega.{arith}
 use borrow.Author.Needs.{needs}
 use Rattle.layout.proofs.NewestCode.{newest-asks}
-use Rattle.marks.proofs.BlocksCode.{MovingSpot, grows-read, told-unmoving, told-moving, window-told, unmoving-old, passed-new, marked-new}
+use Rattle.marks.proofs.BlocksCode.{MovingSpot, grows-read, told-unmoving, told-moving, mark-asks, mark-set, window-told, unmoving-old, passed-new, marked-new}
 use Rattle.marks.proofs.blocks.at_new_spot.Statement.{statement}
 use Rattle.marks.proofs.blocks.at_new_spot.Tie as tie
 
@@ -43,13 +43,13 @@ returns-2 c =
     let f = found (c .before .before .before .before) in
     passed-new _ _ _ _ _ (f .moves) (rw (window-told f) at (c .if1 .taken))
 
-is-marked-requires : tie.Need-is-marked-requires
-is-marked-requires c κs = search needs
+is-marked-at-requires : tie.Need-is-marked-at-requires
+is-marked-at-requires c κs = mark-asks (found (c .before .before .before .before))
 
 returns-3 : tie.Need-returns-3
 returns-3 c =
     let f = found (c .before .before .before .before .before) in
-    marked-new _ _ _ _ _ _ (c .is-marked .ensures) (f .moves) (rw (window-told f) at (c .before .if1 .left))
+    marked-new _ _ _ _ _ _ (mark-set f _ _ _ (c .is-marked-at .ensures)) (f .moves) (rw (window-told f) at (c .before .if1 .left))
 
 pub at-new-spot-spec : {M : Type 1} → statement M
 at-new-spot-spec =
@@ -63,5 +63,5 @@ at-new-spot-spec =
     add-if1
     div-if1
     returns-2
-    is-marked-requires
+    is-marked-at-requires
     returns-3)

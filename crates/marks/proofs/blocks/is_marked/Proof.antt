@@ -1,9 +1,7 @@
 -- `is_marked` meets its contract. Assumes nothing.
-use mathlib.Core.Path.{sym, _∙_}
-use native.Mathlib.Omega.{arith}
 use borrow.Author.Needs.{needs}
 use Rattle.layout.proofs.NewestCode.{newest-asks}
-use Rattle.marks.proofs.BlocksCode.{MovingSpot, grows-read, told-unmoving, told-moving, mark-asks, mark-small, window-told, mark-told, unmoving-unmarked, other-unmarked, marked-here}
+use Rattle.marks.proofs.BlocksCode.{MovingSpot, told-unmoving, told-moving, mark-asks, mark-set, unmoving-unmarked}
 use Rattle.marks.proofs.blocks.is_marked.Statement.{statement}
 use Rattle.marks.proofs.blocks.is_marked.Tie as tie
 
@@ -33,25 +31,11 @@ found c =
     told-moving _ (record { limits = start (c .before) .pre .0; grown = start (c .before) .pre .1; growth = c .newest-growth .ensures })
     (c .before .before .before .before .moving-from .ensures) (c .before .before .p .given .1)
 
-add-if1 : tie.Need-add-if1
-add-if1 c = omega (arith, grows-read (found (c .before .before) .read) .most)
-
-div-if1 : tie.Need-div-if1
-div-if1 c = omega (arith, grows-read (found (c .before .before .before) .read) .old)
+is-marked-at-requires : tie.Need-is-marked-at-requires
+is-marked-at-requires c κs = mark-asks (found c)
 
 returns-2 : tie.Need-returns-2
-returns-2 c = other-unmarked _ _ _ _ _ (λ f. c .if1 .taken (window-told (found (c .before .before .before .before)) ∙ f))
-
-mark-of-spot-requires : tie.Need-mark-of-spot-requires
-mark-of-spot-requires c κs = mark-asks (found (c .before .before .before .before))
-
-array-read-result : tie.Need-array-read-result
-array-read-result c = omega (arith, c .mark-of-spot .ensures, mark-small (found (c .before .before .before .before .before)))
-
-returns-3 : tie.Need-returns-3
-returns-3 c =
-    let f = found (c .before .before .before .before .before) in
-    marked-here _ _ _ _ _ _ (c .mark-of-spot .ensures ∙ mark-told f) (f .moves) (sym (window-told f) ∙ c .before .if1 .left)
+returns-2 c = mark-set (found (c .before)) _ _ _ (c .is-marked-at .ensures)
 
 pub is-marked-spec : {M : Type 1} → statement M
 is-marked-spec =
@@ -62,9 +46,5 @@ is-marked-spec =
     enum-told
     returns
     newest-growth-requires
-    add-if1
-    div-if1
-    returns-2
-    mark-of-spot-requires
-    array-read-result
-    returns-3)
+    is-marked-at-requires
+    returns-2)

@@ -30,7 +30,7 @@ copy-block-requires c κs =
     let b = tested .before .exists2 .ensures (not-false _ (tested .if2 .left)) in
     let earlier = tested .before .before in
     let a = earlier .before .exists .ensures (not-false _ (earlier .if1 .left)) in
-    copy-asks _ _ (c .geometry .ensures) (omega arith) _ _ a _ b (c .before .before .if3 .left)
+    copy-asks _ _ (c .geometry .ensures) (omega arith, omega arith) _ _ a _ b
 
 same-length : tie.Need-same-length
 same-length c = search needs

@@ -22,7 +22,7 @@ store-block-requires : tie.Need-store-block-requires
 store-block-requires c κs =
     let tested = c .before .before .before in
     let a = tested .before .exists .ensures (not-false _ (tested .if1 .left)) in
-    piece-asks _ _ (c .geometry .ensures) (omega arith) _ _ a _ (omega arith)
+    piece-asks _ _ (c .geometry .ensures) (omega arith, omega arith) _ _ a _ (omega arith)
 
 same-length : tie.Need-same-length
 same-length c = search needs

@@ -1,6 +1,7 @@
 -- `address` meets its contract. Assumes nothing.
 use mathlib.Core.Path.{sym, _∙_}
 use borrow.Author.Needs.{needs}
+use Rattle.layout.specs.Tally.{liveAddressOf}
 use Rattle.volume.proofs.Accepted.{AddressFacts, address-accepted}
 use Rattle.volume.proofs.LookUpLaws.{address-refused, address-found}
 use Rattle.volume.proofs.Volume.address.Statement.{statement}
@@ -15,18 +16,14 @@ returns c = sym (address-refused _ _ _ (c .before .address-refusal .ensures) (c 
 accepted : (c : tie.Else1) → AddressFacts (c .before .before .args .self) (c .before .before .args .x .0)
 accepted c = address-accepted _ _ (sym (c .before .address-refusal .ensures) ∙ c .if1 .left)
 
-live-spot-requires : tie.Need-live-spot-requires
-live-spot-requires c κs = (accepted c .is-sound, accepted c .block-open)
-
-live-reason-requires : tie.Need-live-reason-requires
-live-reason-requires c κs = (accepted (c .before) .is-sound, accepted (c .before) .block-open)
+live-address-requires : tie.Need-live-address-requires
+live-address-requires c κs = (accepted c .is-sound, accepted c .block-open)
 
 returns-2 : tie.Need-returns-2
+unfolding liveAddressOf
 returns-2 c =
-    rw (c .before .live-spot .ensures, c .live-reason .ensures)
+    rw (c .before .live-address .ensures)
     (sym (address-found _ _ _ (c .before .before .before .address-refusal .ensures) (c .before .before .if1 .left)))
 
 pub address-spec : {M : Type 1} → statement M
-address-spec =
-    tie.close
-    (tie.spec address-refusal-requires returns live-spot-requires live-reason-requires returns-2)
+address-spec = tie.close (tie.spec address-refusal-requires returns live-address-requires returns-2)

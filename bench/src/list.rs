@@ -1,0 +1,158 @@
+//! The rows of the table.
+
+use crate::cases::*;
+use crate::compared;
+use crate::lookup::{Address, Holder, Soundness};
+use crate::media::{Media, Shared, CACHED_BYTES, LARGE_BYTES};
+use crate::moves::{self, Moves};
+use crate::order;
+use crate::record::{self, Recording};
+use crate::row::{Label, Row};
+use crate::transfer::{Direction, Transfer};
+use crate::volume::{self, Words};
+use crate::ROUNDS;
+
+const SIZES: [u64; 3] = [512, 4096, 65_536];
+const LOOKUP_ROWS: u64 = 100_000;
+/// Calls of a lookup in a round.
+const LOOKUPS: usize = 65_536;
+/// Calls in a round of those that store or read the record.
+pub const RECORDS: usize = 16_384;
+
+pub const DIRECTIONS: [(&str, Direction); 2] =
+    [("read", Direction::Read), ("write", Direction::Write)];
+
+pub fn all(media: &Media) -> Vec<Box<dyn Row>> {
+    let mut rows = lookups();
+    for z in SIZES {
+        rows.extend(cached_transfers(media, z));
+    }
+    for z in SIZES {
+        rows.extend(large_transfers(media, z));
+    }
+    rows.push(large_moves(media, "copy", moves::Call::Copy, 4096));
+    for z in SIZES {
+        rows.push(large_moves(media, "advance", moves::Call::Advance, z));
+    }
+    let words = large_growing(4096);
+    rows.extend(recordings(label("", MOVING, &words), &media.large, words));
+    for s in media.rows {
+        rows.extend(compared::lookups(s));
+        rows.extend(compared::calls(media, s));
+    }
+    rows
+}
+
+pub fn soundness(label: Label, words: Words) -> Box<dyn Row> {
+    let calls = LOOKUPS;
+    Box::new(Soundness {
+        label,
+        words,
+        calls,
+    })
+}
+
+/// Address for blocks below `open`.
+pub fn address(label: Label, words: Words, open: u64) -> Box<dyn Row> {
+    let blocks = order::drawn(LOOKUPS, open);
+    Box::new(Address {
+        label,
+        words,
+        blocks,
+    })
+}
+
+/// Holder on 16 disks.
+pub fn holder(label: Label, words: Words) -> Box<dyn Row> {
+    let spots = order::drawn(LOOKUPS, 16 * words[1]);
+    let spots = spots.iter().map(|i| (i % 16, i / 16)).collect();
+    Box::new(Holder {
+        label,
+        words,
+        spots,
+    })
+}
+
+fn lookups() -> Vec<Box<dyn Row>> {
+    let s = LOOKUP_ROWS;
+    let formatted = volume::grown(512, s, &[16]);
+    let grown = volume::grown(512, s, &COUNTS);
+    let old = volume::grown(512, s, &OLD_COUNTS);
+    let growing = half_grown(s);
+    let label = |call, case| lookup_label(call, case, s);
+    vec![
+        soundness(label("soundness", FORMATTED), formatted),
+        soundness(label("soundness", GROWN), grown),
+        soundness(label("soundness", GROWING), growing),
+        address(label("address", FORMATTED), formatted, 16 * s),
+        address(label("address", GROWN), grown, 16 * s),
+        address(label("address", OLD_BLOCKS), old, 16 * s),
+        address(label("address", GROWING), growing, 14 * s),
+        holder(label("holder", GROWN), grown),
+    ]
+}
+
+fn cached_transfers(media: &Media, z: u64) -> Vec<Box<dyn Row>> {
+    let words = volume::grown(z, CACHED_BYTES / (16 * z), &COUNTS);
+    let blocks = 16 * words[1];
+    let calls = match z {
+        512 => 65_536,
+        4096 => 32_768,
+        _ => 2048,
+    };
+    let row = |(call, direction)| -> Box<dyn Row> {
+        let order = order::shuffled((0..blocks).collect(), calls);
+        let label = label(call, CACHED, &words);
+        let row = Transfer::new(label, direction, &media.cached, words, order);
+        Box::new(row.warmed(blocks as usize))
+    };
+    DIRECTIONS.map(row).into()
+}
+
+fn large_transfers(media: &Media, z: u64) -> Vec<Box<dyn Row>> {
+    let words = volume::grown(z, LARGE_BYTES / (16 * z), &COUNTS);
+    let blocks = 16 * words[1];
+    let row = |(call, direction)| -> Box<dyn Row> {
+        let order = order::shuffled((0..blocks).collect(), blocks as usize);
+        let label = label(call, LARGE, &words);
+        let row = Transfer::new(label, direction, &media.large, words, order);
+        Box::new(row.in_sections(ROUNDS))
+    };
+    DIRECTIONS.map(row).into()
+}
+
+/// The start of a growth on all of the large medium.
+fn large_growing(z: u64) -> Words {
+    volume::growing(z, LARGE_BYTES / (12 * z), &MOVE_COUNTS, 0)
+}
+
+fn large_moves(media: &Media, name: &'static str, call: moves::Call, z: u64) -> Box<dyn Row> {
+    let words = large_growing(z);
+    let windows = 0..volume::whole_windows(&words);
+    let label = label(name, MOVING, &words);
+    let row = Moves::new(label, call, &media.large, words, windows);
+    Box::new(row.in_sections(ROUNDS))
+}
+
+/// Checkpoint, the advance that records and restart. `model` is their label but for the call.
+pub fn recordings(model: Label, medium: &Shared, words: Words) -> Vec<Box<dyn Row>> {
+    let calls = [
+        ("checkpoint", record::Call::Checkpoint),
+        ("advance that records", record::Call::Advance),
+        ("restart", record::Call::Restart),
+    ];
+    let row = |(name, call)| {
+        let label = Label {
+            call: name,
+            ..model
+        };
+        recording(label, call, medium, words)
+    };
+    calls.map(row).into()
+}
+
+pub fn recording(label: Label, call: record::Call, medium: &Shared, words: Words) -> Box<dyn Row> {
+    // The growth goes on after each of these windows.
+    let windows = order::drawn(RECORDS, volume::whole_windows(&words) - 1);
+    Box::new(Recording::new(label, call, medium, words, windows))
+}

@@ -1,0 +1,111 @@
+//! Calls without a medium: soundness, address, holder.
+
+use crate::row::{timed, Label, Row, Side, SLICE};
+use crate::volume::Words;
+use reference::fast;
+use reference::spot::{Block, Row as DiskRow};
+use reference::state::State;
+use std::hint::black_box;
+use streterva::raw;
+
+/// Times soundness.
+pub struct Soundness {
+    pub label: Label,
+    pub words: Words,
+    pub calls: usize,
+}
+
+impl Row for Soundness {
+    fn label(&self) -> Label {
+        self.label
+    }
+
+    fn sample(&mut self, side: Side, _: usize) -> Option<f64> {
+        let state = State::from_words(&self.words);
+        let calls = 0..self.calls;
+        match side {
+            Side::Library => timed(calls, SLICE, |slice| {
+                slice.fold(0, |bad, _| bad | raw::soundness(black_box(&self.words)))
+            }),
+            Side::Reference => timed(calls, SLICE, |slice| {
+                slice.fold(0, |bad, _| bad | !fast::sound(black_box(&state)) as u64)
+            }),
+            Side::Memcpy => None,
+        }
+    }
+}
+
+/// Times address for blocks in a given order.
+pub struct Address {
+    pub label: Label,
+    pub words: Words,
+    pub blocks: Vec<u64>,
+}
+
+impl Row for Address {
+    fn label(&self) -> Label {
+        self.label
+    }
+
+    fn sample(&mut self, side: Side, _: usize) -> Option<f64> {
+        let state = State::from_words(&self.words);
+        match side {
+            Side::Library => timed(0..self.blocks.len(), SLICE, |slice| {
+                let (mut figures, mut refused) = ([0; raw::ADDRESS_FIGURES], 0);
+                for &block in &self.blocks[slice] {
+                    refused |= raw::address(black_box(&self.words), block, &mut figures);
+                    black_box(&figures);
+                }
+                refused
+            }),
+            Side::Reference => timed(0..self.blocks.len(), SLICE, |slice| {
+                let mut refused = 0;
+                for &block in &self.blocks[slice] {
+                    let answer = fast::address(black_box(&state), Block(block));
+                    black_box(&answer);
+                    refused |= answer.is_err() as u64;
+                }
+                refused
+            }),
+            Side::Memcpy => None,
+        }
+    }
+}
+
+/// Times holder for spots in a given order.
+pub struct Holder {
+    pub label: Label,
+    pub words: Words,
+    /// Disks and rows.
+    pub spots: Vec<(u64, u64)>,
+}
+
+impl Row for Holder {
+    fn label(&self) -> Label {
+        self.label
+    }
+
+    fn sample(&mut self, side: Side, _: usize) -> Option<f64> {
+        let state = State::from_words(&self.words);
+        match side {
+            Side::Library => timed(0..self.spots.len(), SLICE, |slice| {
+                let (mut figures, mut refused) = ([0; raw::HOLDER_FIGURES], 0);
+                for &(disk, row) in &self.spots[slice] {
+                    refused |= raw::holder(black_box(&self.words), disk, row, &mut figures);
+                    black_box(&figures);
+                }
+                refused
+            }),
+            Side::Reference => timed(0..self.spots.len(), SLICE, |slice| {
+                let mut refused = 0;
+                for &(disk, row) in &self.spots[slice] {
+                    let answer = fast::holder(black_box(&state), disk, DiskRow(row));
+                    black_box(&answer);
+                    refused |= answer.is_err() as u64;
+                }
+                refused
+            }),
+            Side::Memcpy => None,
+        }
+    }
+}

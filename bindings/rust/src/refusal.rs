@@ -1,0 +1,97 @@
+use std::error::Error;
+use std::fmt;
+
+/// Why a call was refused. The values are document 01's numbers.
+#[derive(Clone, Copy, Debug, PartialEq, Eq, Hash)]
+#[repr(u64)]
+pub enum Refusal {
+    /// 1: the state is not sound.
+    NotSound = 1,
+    /// 2: the medium is too short for the record and all disks.
+    MediumTooShort = 2,
+    /// 3: the block is not open: past the end, or added by the growth under way.
+    BlockNotOpen = 3,
+    /// 4: the piece is not one block long.
+    PieceSize = 4,
+    /// 5: no growth is under way.
+    NotGrowing = 5,
+    /// 6: a growth is under way already.
+    Growing = 6,
+    /// 7: the block is copied but not recorded. After a checkpoint it can be written.
+    CopyNotRecorded = 7,
+    /// 8: a block size, a number of rows or a disk count is outside its limits.
+    OutsideLimits = 8,
+    /// 9: the volume has had its 7 growths.
+    NoMoreGrowths = 9,
+    /// 10: the block does not move, or is not in the window under way.
+    NotMoving = 10,
+    /// 11: the block is copied already.
+    AlreadyCopied = 11,
+    /// 12: all copies are recorded.
+    NothingToRecord = 12,
+    /// 13: bytes 0 to 511 are not the record of a sound state.
+    NoRecord = 13,
+    /// 14: the disk or the row does not exist.
+    NoSuchSpot = 14,
+    /// 15: no open block lives at the spot.
+    NoBlockThere = 15,
+}
+
+impl Refusal {
+    /// Every refusal, by rising number.
+    pub const ALL: [Refusal; 15] = [
+        Refusal::NotSound,
+        Refusal::MediumTooShort,
+        Refusal::BlockNotOpen,
+        Refusal::PieceSize,
+        Refusal::NotGrowing,
+        Refusal::Growing,
+        Refusal::CopyNotRecorded,
+        Refusal::OutsideLimits,
+        Refusal::NoMoreGrowths,
+        Refusal::NotMoving,
+        Refusal::AlreadyCopied,
+        Refusal::NothingToRecord,
+        Refusal::NoRecord,
+        Refusal::NoSuchSpot,
+        Refusal::NoBlockThere,
+    ];
+
+    /// Document 01's number.
+    pub const fn number(self) -> u64 {
+        self as u64
+    }
+
+    /// The refusal with this number, if there is one.
+    pub fn from_number(number: u64) -> Option<Refusal> {
+        Self::ALL
+            .into_iter()
+            .find(|refusal| refusal.number() == number)
+    }
+}
+
+impl fmt::Display for Refusal {
+    fn fmt(&self, f: &mut fmt::Formatter<'_>) -> fmt::Result {
+        f.write_str(match self {
+            Refusal::NotSound => "the state is not sound",
+            Refusal::MediumTooShort => "the medium is too short",
+            Refusal::BlockNotOpen => "the block is not open",
+            Refusal::PieceSize => "the piece is not one block long",
+            Refusal::NotGrowing => "no growth is under way",
+            Refusal::Growing => "a growth is under way",
+            Refusal::CopyNotRecorded => "the block is copied but not recorded",
+            Refusal::OutsideLimits => {
+                "a size, a number of rows or a disk count is outside its limits"
+            }
+            Refusal::NoMoreGrowths => "the volume has had its last growth",
+            Refusal::NotMoving => "the block does not move in this window",
+            Refusal::AlreadyCopied => "the block is copied already",
+            Refusal::NothingToRecord => "all copies are recorded",
+            Refusal::NoRecord => "the medium has no record of a sound state",
+            Refusal::NoSuchSpot => "the disk or the row does not exist",
+            Refusal::NoBlockThere => "no open block lives at the spot",
+        })
+    }
+}
+
+impl Error for Refusal {}

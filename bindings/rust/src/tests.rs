@@ -1,0 +1,575 @@
+//! Each call accepted and refused, on document 01's cases.
+
+use crate::raw;
+use crate::{Address, Advanced, Block, Part, Reason, Refusal, Row, Spot, State, Step};
+
+/// A medium of arbitrary bytes, with room for `disks` disks.
+fn medium(size: u64, rows: u64, disks: u64) -> Vec<u8> {
+    (0..State::medium_bytes(size, rows, disks))
+        .map(|i| (i * 37 + i / 256) as u8)
+        .collect()
+}
+
+/// 3 disks of 5 rows, blocks of 512 bytes, room for 6 disks; each block is saved.
+fn three_disks() -> (Vec<u8>, State) {
+    let mut medium = medium(512, 5, 6);
+    let volume = State::format(&mut medium, 512, 5, 3).unwrap();
+    for block in 0..15 {
+        volume
+            .write(&mut medium, Block(block), &picture(block))
+            .unwrap();
+    }
+    (medium, volume)
+}
+
+fn picture(block: u64) -> [u8; 512] {
+    std::array::from_fn(|i| (block * 11 + i as u64) as u8)
+}
+
+/// Takes a growth to its end and counts the calls.
+fn finish(volume: &mut State, medium: &mut [u8]) -> u64 {
+    let mut calls = 0;
+    while volume.is_growing() {
+        volume.advance(medium).unwrap();
+        calls += 1;
+    }
+    calls
+}
+
+fn at(volume: &State, block: u64) -> (u64, u64) {
+    let spot = volume.address(Block(block)).unwrap().spot;
+    (spot.disk, spot.row.0)
+}
+
+fn with_word(state: &State, word: usize, value: u64) -> State {
+    let mut words = state.words();
+    words[word] = value;
+    State::from_words(words)
+}
+
+#[test]
+fn format_stores_the_record_and_nothing_else() {
+    let before = medium(512, 5, 3);
+    let mut after = before.clone();
+    let volume = State::format(&mut after, 512, 5, 3).unwrap();
+    assert_eq!(
+        volume.words(),
+        [512, 5, 0, 3, 0, 0, 0, 0, 0, 0, 0, 0, 0, 0, 0]
+    );
+    assert!(volume.is_sound());
+    assert_eq!(after[512..], before[512..]);
+    let mut record = format!(
+        "{:10}{:10}{:10}{:10}{:70}{:10}{:10}",
+        512, 5, 0, 3, "", 0, 0
+    );
+    record += &"0".repeat(64);
+    record += &" ".repeat(317);
+    record += "\n";
+    assert_eq!(after[..512], *record.as_bytes());
+}
+
+#[test]
+fn format_refuses() {
+    let mut small = vec![0; State::medium_bytes(512, 5, 3) - 1];
+    let before = small.clone();
+    for (size, rows, disks) in [
+        (0, 5, 3),
+        (511, 5, 3),
+        (513, 5, 3),
+        (66_048, 5, 3),
+        (512, 0, 3),
+        (512, 1_000_001, 3),
+        (512, 5, 0),
+        (512, 5, 17),
+        (u64::MAX, u64::MAX, u64::MAX),
+    ] {
+        assert_eq!(
+            State::format(&mut small, size, rows, disks),
+            Err(Refusal::OutsideLimits)
+        );
+    }
+    assert_eq!(
+        State::format(&mut small, 512, 5, 3),
+        Err(Refusal::MediumTooShort)
+    );
+    assert_eq!(
+        State::format(
+            &mut small,
+            State::MOST_SIZE,
+            State::MOST_ROWS,
+            State::MOST_DISKS
+        ),
+        Err(Refusal::MediumTooShort)
+    );
+    assert_eq!(small, before);
+}
+
+#[test]
+fn layout_cases() {
+    let (mut medium, mut volume) = three_disks();
+    assert_eq!(volume.grow(&mut medium, 5), Ok(7));
+    assert_eq!(finish(&mut volume, &mut medium), 7);
+    for (block, spot) in [
+        (0, (3, 0)),
+        (4, (4, 1)),
+        (7, (3, 2)),
+        (11, (4, 3)),
+        (12, (0, 4)),
+        (15, (4, 0)),
+        (16, (0, 0)),
+    ] {
+        assert_eq!(at(&volume, block), spot, "block {block}");
+    }
+    volume.grow(&mut medium, 6).unwrap();
+    finish(&mut volume, &mut medium);
+    assert_eq!(at(&volume, 16), (5, 0));
+    assert_eq!(at(&volume, 25), (0, 0));
+    assert_eq!(volume.counts(), [3, 5, 6, 0, 0, 0, 0, 0]);
+
+    for (rows, first, last, block, spot) in [(3, 1, 4, 1, (2, 1)), (6, 4, 6, 9, (4, 2))] {
+        let mut medium = self::medium(512, rows, last);
+        let mut volume = State::format(&mut medium, 512, rows, first).unwrap();
+        volume.grow(&mut medium, last).unwrap();
+        finish(&mut volume, &mut medium);
+        assert_eq!(at(&volume, block), spot);
+        assert_eq!(
+            volume.address(Block(block)).unwrap().reason,
+            Reason::Moved {
+                growth: 1,
+                part: Part::Body
+            }
+        );
+    }
+
+    let mut medium = self::medium(512, 6, 5);
+    let mut volume = State::format(&mut medium, 512, 6, 3).unwrap();
+    assert_eq!(volume.grow(&mut medium, 5), Ok(9));
+    assert_eq!(finish(&mut volume, &mut medium), 9);
+}
+
+#[test]
+fn restart_reads_the_record() {
+    let (mut medium, mut volume) = three_disks();
+    volume.grow(&mut medium, 5).unwrap();
+    volume.copy(&mut medium, Block(0)).unwrap();
+    volume.copy(&mut medium, Block(3)).unwrap();
+    volume.checkpoint(&mut medium).unwrap();
+    let recorded = volume;
+    assert_eq!(volume.copy(&mut medium, Block(4)), Ok(4));
+    assert_eq!((volume.recorded(), volume.copied()), (3, 7));
+
+    // Document 01's example of a record.
+    let mut record = format!("{:10}{:10}{:10}{:10}{:10}{:60}", 512, 5, 1, 3, 5, "");
+    record += &format!("{:10}{:10}11{}{:317}\n", 1, 0, "0".repeat(62), "");
+    assert_eq!(medium[..512], *record.as_bytes());
+
+    let restarted = State::restart(&medium).unwrap();
+    assert_eq!(restarted.state, recorded);
+    assert_eq!(restarted.calls_left, 5);
+}
+
+#[test]
+fn restart_refuses() {
+    let (mut medium, _) = three_disks();
+    assert_eq!(State::restart(&medium[..511]), Err(Refusal::MediumTooShort));
+    assert_eq!(State::restart(&medium[..512]), Err(Refusal::MediumTooShort));
+    assert_eq!(State::restart(&[]), Err(Refusal::MediumTooShort));
+    medium[511] = b' ';
+    assert_eq!(State::restart(&medium[..512]), Err(Refusal::NoRecord));
+}
+
+#[test]
+fn every_byte_of_the_record_counts() {
+    let (mut medium, volume) = three_disks();
+    for place in 0..512 {
+        let byte = medium[place];
+        medium[place] = b'x';
+        assert_eq!(State::restart(&medium), Err(Refusal::NoRecord));
+        medium[place] = byte;
+    }
+    assert_eq!(State::restart(&medium).unwrap().state, volume);
+}
+
+#[test]
+fn grow_refuses_and_leaves_the_state() {
+    let (mut medium, mut volume) = three_disks();
+    let before = (medium.clone(), volume);
+    for count in [0, 3, 17, u64::MAX] {
+        assert_eq!(volume.grow(&mut medium, count), Err(Refusal::OutsideLimits));
+    }
+    assert_eq!(volume.grow(&mut medium, 7), Err(Refusal::MediumTooShort));
+    assert_eq!((&medium, volume), (&before.0, before.1));
+
+    volume.grow(&mut medium, 5).unwrap();
+    assert_eq!(volume.grow(&mut medium, 6), Err(Refusal::Growing));
+    assert_eq!(State::restart(&medium).unwrap().state, volume);
+
+    let mut medium = self::medium(512, 1, 16);
+    let mut volume = State::format(&mut medium, 512, 1, 1).unwrap();
+    for count in 2..=8 {
+        volume.grow(&mut medium, count).unwrap();
+        finish(&mut volume, &mut medium);
+    }
+    assert_eq!(volume.grow(&mut medium, 9), Err(Refusal::NoMoreGrowths));
+    assert_eq!(volume.disks(), 8);
+}
+
+#[test]
+fn copy_and_checkpoint_by_hand() {
+    let (mut medium, mut volume) = three_disks();
+    assert_eq!(volume.copy(&mut medium, Block(0)), Err(Refusal::NotGrowing));
+    assert_eq!(volume.checkpoint(&mut medium), Err(Refusal::NotGrowing));
+    assert_eq!(volume.grow(&mut medium, 5), Ok(7));
+    assert_eq!(
+        volume.checkpoint(&mut medium),
+        Err(Refusal::NothingToRecord)
+    );
+    assert_eq!(
+        volume.copy(&mut medium, Block(15)),
+        Err(Refusal::BlockNotOpen)
+    );
+    assert_eq!(volume.copy(&mut medium, Block(12)), Err(Refusal::NotMoving));
+    let moving = [11, 8, 7, 4, 3, 0];
+    for (done, block) in (1..).zip(moving) {
+        assert_eq!(volume.copy(&mut medium, Block(block)), Ok(7 - done));
+        assert_eq!(
+            volume.copy(&mut medium, Block(block)),
+            Err(Refusal::AlreadyCopied)
+        );
+    }
+    assert_eq!(volume.checkpoint(&mut medium), Ok(0));
+    assert!(!volume.is_growing());
+    let mut piece = [0; 512];
+    for block in 0..15 {
+        volume.read(&medium, Block(block), &mut piece).unwrap();
+        assert_eq!(piece, picture(block));
+    }
+}
+
+#[test]
+fn advance_tells_each_step() {
+    let (mut medium, mut volume) = three_disks();
+    assert_eq!(volume.advance(&mut medium), Err(Refusal::NotGrowing));
+    volume.grow(&mut medium, 5).unwrap();
+    let copied = [
+        (0, Part::Head),
+        (3, Part::Head),
+        (4, Part::Head),
+        (7, Part::Tail),
+        (8, Part::Tail),
+        (11, Part::Tail),
+    ];
+    let left = volume.advance(&mut medium[..512]);
+    assert_eq!(left, Err(Refusal::MediumTooShort));
+    for (done, (block, part)) in (1..).zip(copied) {
+        let block = Block(block);
+        assert_eq!(
+            volume.advance(&mut medium),
+            Ok(Advanced {
+                step: Step::Copied { block, part },
+                calls_left: 7 - done
+            })
+        );
+    }
+    assert_eq!(
+        volume.advance(&mut medium),
+        Ok(Advanced {
+            step: Step::Finished,
+            calls_left: 0
+        })
+    );
+
+    // With 6 rows there is a second window.
+    let mut medium = self::medium(512, 6, 5);
+    let mut volume = State::format(&mut medium, 512, 6, 3).unwrap();
+    volume.grow(&mut medium, 5).unwrap();
+    for _ in 0..6 {
+        volume.advance(&mut medium).unwrap();
+    }
+    let recorded = volume.advance(&mut medium).unwrap();
+    assert_eq!(recorded.step, Step::Recorded);
+    assert_eq!((recorded.calls_left, volume.window()), (2, 1));
+}
+
+#[test]
+fn write_waits_for_the_checkpoint() {
+    let (mut medium, mut volume) = three_disks();
+    let piece = [0x5A; 512];
+    volume.grow(&mut medium, 5).unwrap();
+    assert_eq!(volume.write(&mut medium, Block(14), &piece), Ok(()));
+    assert_eq!(
+        volume.write(&mut medium, Block(15), &piece),
+        Err(Refusal::BlockNotOpen)
+    );
+    volume.copy(&mut medium, Block(0)).unwrap();
+    let before = medium.clone();
+    assert_eq!(
+        volume.write(&mut medium, Block(0), &piece),
+        Err(Refusal::CopyNotRecorded)
+    );
+    assert_eq!(medium, before);
+    volume.checkpoint(&mut medium).unwrap();
+    let before = medium.clone();
+    assert_eq!(volume.write(&mut medium, Block(0), &piece), Ok(()));
+    assert_eq!(medium[..8192], before[..8192]);
+    assert_eq!(medium[8192..8704], piece);
+    assert_eq!(medium[8704..], before[8704..]);
+}
+
+#[test]
+fn read_and_write_refuse() {
+    let (mut medium, volume) = three_disks();
+    let enough = State::medium_bytes(512, 5, 3);
+    let before = medium.clone();
+    for length in [0, 511, 513] {
+        let mut piece = vec![0x77; length];
+        assert_eq!(
+            volume.write(&mut medium, Block(3), &piece),
+            Err(Refusal::PieceSize)
+        );
+        assert_eq!(
+            volume.read(&medium, Block(3), &mut piece),
+            Err(Refusal::PieceSize)
+        );
+        assert_eq!(
+            volume.read(&medium, Block(15), &mut piece),
+            Err(Refusal::BlockNotOpen)
+        );
+        assert_eq!(
+            volume.read(&medium[..enough - 1], Block(15), &mut piece),
+            Err(Refusal::MediumTooShort)
+        );
+        assert!(piece.iter().all(|byte| *byte == 0x77));
+    }
+    assert_eq!(medium, before);
+    let mut piece = [0; 512];
+    assert_eq!(volume.read(&medium[..enough], Block(3), &mut piece), Ok(()));
+    assert_eq!(piece, picture(3));
+    assert_eq!(
+        volume.read(&medium, Block(u64::MAX), &mut piece),
+        Err(Refusal::BlockNotOpen)
+    );
+}
+
+#[test]
+fn address_tells_why() {
+    let (mut medium, mut volume) = three_disks();
+    let old = Address {
+        spot: Spot {
+            disk: 0,
+            row: Row(0),
+        },
+        reason: Reason::SetOut,
+    };
+    let new = Address {
+        spot: Spot {
+            disk: 3,
+            row: Row(0),
+        },
+        reason: Reason::Moved {
+            growth: 1,
+            part: Part::Head,
+        },
+    };
+    assert_eq!(volume.address(Block(0)), Ok(old));
+    assert_eq!(volume.address(Block(15)), Err(Refusal::BlockNotOpen));
+    volume.grow(&mut medium, 5).unwrap();
+    volume.copy(&mut medium, Block(0)).unwrap();
+    assert_eq!(volume.address(Block(0)), Ok(old));
+    volume.checkpoint(&mut medium).unwrap();
+    assert_eq!(volume.address(Block(0)), Ok(new));
+    assert_eq!(volume.address(Block(15)), Err(Refusal::BlockNotOpen));
+    finish(&mut volume, &mut medium);
+    assert_eq!(
+        volume.address(Block(15)).unwrap().reason,
+        Reason::Added { growth: 1 }
+    );
+    assert_eq!(volume.address(Block(12)).unwrap().reason, Reason::SetOut);
+}
+
+#[test]
+fn holder_is_the_way_back() {
+    let (mut medium, mut volume) = three_disks();
+    assert_eq!(volume.holder(2, Row(4)), Ok(Block(14)));
+    assert_eq!(volume.holder(3, Row(0)), Err(Refusal::NoSuchSpot));
+    assert_eq!(volume.holder(0, Row(5)), Err(Refusal::NoSuchSpot));
+    volume.grow(&mut medium, 5).unwrap();
+    assert_eq!(volume.holder(3, Row(0)), Err(Refusal::NoBlockThere));
+    finish(&mut volume, &mut medium);
+    for disk in 0..5 {
+        for row in (0..5).map(Row) {
+            let block = volume.holder(disk, row).unwrap();
+            assert_eq!(volume.address(block).unwrap().spot, Spot { disk, row });
+        }
+    }
+}
+
+#[test]
+fn a_damaged_state_is_refused() {
+    let (mut medium, mut volume) = three_disks();
+    volume.grow(&mut medium, 5).unwrap();
+    let before = medium.clone();
+    for (word, value) in [
+        (0, 513),
+        (1, 0),
+        (2, 8),
+        (2, u64::MAX),
+        (3, 5),
+        (10, 1),
+        (11, 2),
+        (12, 1),
+        (13, 1),
+        (14, 1 << 63),
+    ] {
+        let mut damaged = with_word(&volume, word, value);
+        let kept = damaged;
+        let mut piece = [0; 512];
+        assert!(!damaged.is_sound(), "word {word} is {value}");
+        let refused = Err(Refusal::NotSound);
+        assert_eq!(damaged.grow(&mut medium, 6), refused);
+        assert_eq!(damaged.copy(&mut medium, Block(0)), refused);
+        assert_eq!(damaged.checkpoint(&mut medium), refused);
+        assert_eq!(damaged.advance(&mut medium), Err(Refusal::NotSound));
+        assert_eq!(
+            damaged.write(&mut medium, Block(0), &piece),
+            Err(Refusal::NotSound)
+        );
+        assert_eq!(
+            damaged.read(&medium, Block(0), &mut piece),
+            Err(Refusal::NotSound)
+        );
+        assert_eq!(damaged.address(Block(0)), Err(Refusal::NotSound));
+        assert_eq!(damaged.holder(0, Row(0)), Err(Refusal::NotSound));
+        assert_eq!(damaged, kept);
+    }
+    assert_eq!(medium, before);
+    assert!(with_word(&volume, 14, 1).is_sound());
+    assert_eq!(with_word(&volume, 2, u64::MAX).disks(), 0);
+    assert!(!State::from_words([0; 15]).is_sound());
+}
+
+/// With a state or figures of a wrong length a function returns 100 and touches nothing, also when a refusal of document
+/// 01 fits too.
+#[test]
+fn wrong_lengths_touch_nothing() {
+    let (mut medium, volume) = three_disks();
+    let before = medium.clone();
+    let mut piece = [9; 512];
+    for words in (0..=17).filter(|words| *words != raw::STATE_WORDS) {
+        let mut state = [7; 17];
+        let state = &mut state[..words];
+        let mut figures = [8; 5];
+        let answers = [
+            raw::format(state, &mut medium, 512, 5, 3),
+            raw::format(state, &mut [], 0, 0, 0),
+            raw::restart(state, &medium, &mut figures[..1]),
+            raw::grow(state, &mut medium, 5, &mut figures[..1]),
+            raw::copy(state, &mut medium, 0, &mut figures[..1]),
+            raw::checkpoint(state, &mut medium, &mut figures[..1]),
+            raw::advance(state, &mut medium, &mut figures[..4]),
+            raw::write(state, &mut medium, 0, &piece),
+            raw::read(state, &medium, 0, &mut piece),
+            raw::address(state, 0, &mut figures),
+            raw::holder(state, 0, 0, &mut figures[..1]),
+            raw::soundness(state),
+        ];
+        assert_eq!(answers, [raw::WRONG_LENGTH; 12]);
+        assert!(state.iter().all(|word| *word == 7));
+        assert_eq!(figures, [8; 5]);
+    }
+    for words in 0..=6 {
+        let mut figures = [8; 6];
+        let figures = &mut figures[..words];
+        let mut state = volume.words();
+        let mut answers = vec![];
+        if words != raw::LEFT_FIGURES {
+            answers.push(raw::restart(&mut state, &medium, figures));
+            answers.push(raw::restart(&mut state, &[], figures));
+            answers.push(raw::grow(&mut state, &mut medium, 5, figures));
+            answers.push(raw::copy(&mut state, &mut medium, 0, figures));
+            answers.push(raw::checkpoint(&mut state, &mut medium, figures));
+        }
+        if words != raw::ADVANCE_FIGURES {
+            answers.push(raw::advance(&mut state, &mut medium, figures));
+        }
+        if words != raw::ADDRESS_FIGURES {
+            answers.push(raw::address(&state, 0, figures));
+        }
+        if words != raw::HOLDER_FIGURES {
+            answers.push(raw::holder(&state, 0, 0, figures));
+        }
+        assert!(answers.iter().all(|answer| *answer == raw::WRONG_LENGTH));
+        assert!(figures.iter().all(|word| *word == 8));
+        assert_eq!(state, volume.words());
+    }
+    assert_eq!(medium, before);
+    assert_eq!(piece, [9; 512]);
+}
+
+/// A refusal of document 01 has 0 for every figure; format and restart also hand back a state of zeros.
+#[test]
+fn refusals_have_zeros() {
+    let (mut medium, volume) = three_disks();
+    let zeros = [0; raw::STATE_WORDS];
+    let mut state = volume.words();
+    assert_eq!(raw::format(&mut state, &mut medium, 512, 5, 17), 8);
+    assert_eq!(state, zeros);
+    state = volume.words();
+    let mut left = [6];
+    assert_eq!(raw::restart(&mut state, &medium[..100], &mut left), 2);
+    assert_eq!((state, left), (zeros, [0]));
+    state = volume.words();
+    left = [6];
+    assert_eq!(raw::grow(&mut state, &mut medium, 3, &mut left), 8);
+    assert_eq!((state, left), (volume.words(), [0]));
+    left = [6];
+    assert_eq!(raw::copy(&mut state, &mut medium, 0, &mut left), 5);
+    assert_eq!(left, [0]);
+    left = [6];
+    assert_eq!(raw::checkpoint(&mut state, &mut medium, &mut left), 5);
+    assert_eq!(left, [0]);
+    let mut figures = [6; 4];
+    assert_eq!(raw::advance(&mut state, &mut medium, &mut figures), 5);
+    assert_eq!(figures, [0; 4]);
+    let mut figures = [6; 5];
+    assert_eq!(raw::address(&state, 15, &mut figures), 3);
+    assert_eq!(figures, [0; 5]);
+    left = [6];
+    assert_eq!(raw::holder(&state, 3, 0, &mut left), 14);
+    assert_eq!(left, [0]);
+    assert_eq!(state, volume.words());
+}
+
+#[test]
+fn refusals_have_their_numbers() {
+    for (number, refusal) in (1..).zip(Refusal::ALL) {
+        assert_eq!(refusal.number(), number);
+        assert_eq!(Refusal::from_number(number), Some(refusal));
+        assert!(!refusal.to_string().is_empty());
+    }
+    for number in [0, 16, raw::WRONG_LENGTH, u64::MAX] {
+        assert_eq!(Refusal::from_number(number), None);
+    }
+}
+
+#[test]
+fn a_state_shows_its_numbers() {
+    let (mut medium, mut volume) = three_disks();
+    volume.grow(&mut medium, 5).unwrap();
+    volume.advance(&mut medium).unwrap();
+    assert_eq!(
+        format!("{volume:?}"),
+        "State { size: 512, rows: 5, growths: 1, counts: [3, 5, 0, 0, 0, 0, 0, 0], \
+         growing: 1, window: 0, recorded: 0, copied: 1 }"
+    );
+    assert_eq!(
+        (
+            volume.size(),
+            volume.rows(),
+            volume.growths(),
+            volume.disks()
+        ),
+        (512, 5, 1, 5)
+    );
+    assert_eq!(State::from_words(volume.words()), volume);
+}

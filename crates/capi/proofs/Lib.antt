@@ -1,0 +1,5 @@
+pub mod WordsCode
+pub mod ExportedCode
+pub mod WordLaws
+pub mod RefusedLaws
+pub mod Theorems

@@ -1,0 +1,246 @@
+-- What the exported functions leave: no call has the number of a wrong length, and a refused call leaves the words as they were, zeros as
+-- figures and nothing stored. Assumes nothing.
+use Prim.Native.Nat.{ℕ, zero, suc, _<_}
+use mathlib.Core.Path.{_≡_, refl, ap, _∙_}
+use mathlib.Core.Bool.{Bool, true, false, cond, _&&_, false≢true}
+use mathlib.Core.List.{List, [], _∷_}
+use mathlib.Core.Logic.{_≢_}
+use native.Mathlib.Omega.{arith}
+use lib.Dec.{ltb}
+use lib.ListN.{length, replicate}
+use borrow.Author.Tests.{ltb-true}
+use Rattle.base.specs.Refusals.{refusal}
+use Rattle.base.proofs.Booleans.{cond-cases, and-left, and-right}
+use Rattle.layout.specs.declared.Spot.{Spot}
+use Rattle.marks.specs.Marks.{noMarks}
+use Rattle.medium.specs.Medium.{Observations}
+use Rattle.volume.specs.declared.Volume.{Volume}
+use Rattle.volume.specs.declared.Answer.{Answer}
+use Rattle.volume.specs.declared.Answer.the-variants.{Refused, Done, CallsLeft, Told}
+use Rattle.volume.specs.declared.AddressAnswer.{AddressAnswer}
+use Rattle.volume.specs.declared.AddressAnswer.the-variants as address
+use Rattle.volume.specs.declared.HolderAnswer.{HolderAnswer}
+use Rattle.volume.specs.declared.HolderAnswer.the-variants as holder
+use Rattle.volume.specs.Answers.{number, callsTold, addressNumber, holderNumber, blockTold}
+use Rattle.volume.specs.Calls.{Outcome, refused, formatTable, formatOutcome, restartTable, restartOutcome, growTable, growOutcome, writeTable, writeOutcome, readTable, readOutcome, copyTable, copyOutcome, checkpointTable, checkpointOutcome, advanceTable, advanceOutcome, addressTable, addressReply, holderTable, holderReply}
+use Rattle.volume.specs.Laws.{Refuses}
+use Rattle.volume.specs.Records.{numbersOf}
+use Rattle.volume.specs.States.{newState, zeros}
+use Rattle.volume.proofs.Judged.{judged-cases}
+use Rattle.volume.proofs.Theorems.{volume-laws}
+use Rattle.capi.specs.Exported.{Left, wrongLength, lengthsFit, untouched, handedBack, lookedUp, formatLeft, restartLeft, growLeft, copyLeft, checkpointLeft, advanceLeft, writeLeft, readLeft, addressLeft, holderLeft}
+use Rattle.capi.specs.Figures.{toldFigures, noFigures, callsFigures, advanceFigures, addressFigures, holderFigures}
+use Rattle.capi.specs.Laws.{Words, RefusedLeft}
+use Rattle.capi.specs.Words.{stateWords, wordOf, wordsOf, stateFrom}
+use Rattle.capi.proofs.WordLaws.{words-back}
+
+-- ---- numbers
+
+-- are all numbers of a table below that of a wrong length
+abbrev allBelow : (table : List (ℕ × Bool)) → Bool
+allBelow [] = true
+allBelow (check ∷ table) = ltb (check .0) wrongLength && allBelow table
+
+refusal-below : (table : List (ℕ × Bool)) → allBelow table ≡ true → refusal table < wrongLength
+unfolding refusal
+refusal-below [] h = omega arith
+refusal-below (check ∷ table) h =
+    cond-cases (λ k. k < wrongLength) (check .1)
+    (λ _. ltb-true (check .0) wrongLength (and-left (ltb (check .0) wrongLength) (allBelow table) h))
+    (λ _. refusal-below table (and-right (ltb (check .0) wrongLength) (allBelow table) h))
+
+-- the number of a call is its table's
+other-number : (table : List (ℕ × Bool)) (k : ℕ) → k ≡ refusal table → allBelow table ≡ true → k ≢ wrongLength
+other-number table k e h w = let below = refusal-below table h in omega (arith, e, w, below)
+
+pub format-number : (z s n : ℕ) (o : Observations) → number (formatOutcome z s n o .reply .answer) ≢ wrongLength
+unfolding formatTable
+format-number z s n o = other-number (formatTable z s n (o .byteCount)) _ (volume-laws .format-refuses z s n o .number-told) refl
+
+pub restart-number : (o : Observations) → number (restartOutcome o .reply .answer) ≢ wrongLength
+unfolding restartTable
+restart-number o = other-number (restartTable o) _ (volume-laws .restart-refuses o .number-told) refl
+
+pub address-number : (v : Volume) (x : ℕ) → addressNumber (addressReply v x .answer) ≢ wrongLength
+unfolding addressTable
+address-number v x = other-number (addressTable v x) _ (volume-laws .address-refuses v x .number-told) refl
+
+pub holder-number : (v : Volume) (p : Spot) → holderNumber (holderReply v p .answer) ≢ wrongLength
+unfolding holderTable
+holder-number v p = other-number (holderTable v p) _ (volume-laws .holder-refuses v p .number-told) refl
+
+module _ (v : Volume) where
+  pub grow-number : (count : ℕ) (o : Observations) → number (growOutcome v count o .reply .answer) ≢ wrongLength
+  unfolding growTable
+  grow-number count o = other-number (growTable v count (o .byteCount)) _ (volume-laws .grow-refuses v count o .number-told) refl
+
+  pub copy-number : (x : ℕ) (o : Observations) → number (copyOutcome v x o .reply .answer) ≢ wrongLength
+  unfolding copyTable
+  copy-number x o = other-number (copyTable v x (o .byteCount)) _ (volume-laws .copy-refuses v x o .number-told) refl
+
+  pub checkpoint-number : (o : Observations) → number (checkpointOutcome v o .reply .answer) ≢ wrongLength
+  unfolding checkpointTable
+  checkpoint-number o = other-number (checkpointTable v (o .byteCount)) _ (volume-laws .checkpoint-refuses v o .number-told) refl
+
+  pub advance-number : (o : Observations) → number (advanceOutcome v o .reply .answer) ≢ wrongLength
+  unfolding advanceTable
+  advance-number o = other-number (advanceTable v (o .byteCount)) _ (volume-laws .advance-refuses v o .number-told) refl
+
+  pub write-number : (x : ℕ) (piece : List ℕ) (o : Observations) → number (writeOutcome v x piece o .reply .answer) ≢ wrongLength
+  unfolding writeTable
+  write-number x piece o =
+      other-number (writeTable v x (length piece) (o .byteCount)) _ (volume-laws .write-refuses v x piece o .number-told) refl
+
+  pub read-number : (x : ℕ) (piece : List ℕ) (o : Observations) → number (readOutcome v x piece o .reply .answer) ≢ wrongLength
+  unfolding readTable
+  read-number x piece o =
+      other-number (readTable v x (length piece) (o .byteCount)) _ (volume-laws .read-refuses v x piece o .number-told) refl
+
+-- ---- figures of refusals
+
+calls-zero : (a : Answer) → number a ≢ 0 → callsFigures a ≡ replicate 1 0
+unfolding number callsTold
+calls-zero (Refused k) h = refl
+calls-zero Done h = refl
+calls-zero (CallsLeft n) h = absurd (h refl)
+calls-zero (Told did n) h = absurd (h refl)
+
+advance-zero : (a : Answer) → number a ≢ 0 → advanceFigures a ≡ replicate 4 0
+unfolding number callsTold toldFigures
+advance-zero (Refused k) h = refl
+advance-zero Done h = refl
+advance-zero (CallsLeft n) h = absurd (h refl)
+advance-zero (Told did n) h = absurd (h refl)
+
+address-zero : (a : AddressAnswer) → addressNumber a ≢ 0 → addressFigures a ≡ replicate 5 0
+unfolding addressNumber addressFigures
+address-zero (address.Refused k) h = refl
+address-zero (address.At p reason) h = absurd (h refl)
+
+holder-zero : (a : HolderAnswer) → holderNumber a ≢ 0 → holderFigures a ≡ replicate 1 0
+unfolding holderNumber blockTold
+holder-zero (holder.Refused k) h = refl
+holder-zero (holder.Has x) h = absurd (h refl)
+
+-- ---- refused calls
+
+-- a call that has refused a state
+module _ (words : List ℕ) (figureCount : ℕ) (figuresOf : Answer → List ℕ)
+    (zero-figures : (a : Answer) → number a ≢ 0 → figuresOf a ≡ replicate figureCount 0) where
+  refused-left : {table : List (ℕ × Bool)} {v : Volume} {out : Outcome} (fits : Bool) (other : Left) → Refuses table v [] out
+      → wordsOf v ≡ words → fits ≡ true → cond fits (handedBack figuresOf out) other .number ≢ 0
+      → RefusedLeft words figureCount (cond fits (handedBack figuresOf out) other)
+  unfolding handedBack
+  refused-left {table = table} {out = out} true other r same e h =
+      let f : refusal table ≢ 0 = λ z. h (r .number-told ∙ z) in
+      record {
+        words-kept = ap wordsOf (r .state-kept f) ∙ same;
+        figures-zero = zero-figures (out .reply .answer) h;
+        nothing-stored = r .nothing-stored f;
+      }
+  refused-left false other r same e h = absurd (false≢true e)
+
+-- a look-up that has refused
+looked-left : (words : List ℕ) (figureCount k : ℕ) (figures : List ℕ) (fits : Bool) (other : Left)
+    → (k ≢ 0 → figures ≡ replicate figureCount 0) → fits ≡ true → cond fits (lookedUp k figures words) other .number ≢ 0
+    → RefusedLeft words figureCount (cond fits (lookedUp k figures words) other)
+unfolding lookedUp
+looked-left words figureCount k figures true other none e h = record { words-kept = refl; figures-zero = none h; nothing-stored = refl }
+looked-left words figureCount k figures false other none e h = absurd (false≢true e)
+
+module _ (words : List ℕ) where
+  pub grow-refused : (count : ℕ) (figures : List ℕ) (o : Observations) → Words words
+      → lengthsFit words 1 figures ≡ true → growLeft words count figures o .number ≢ 0 → RefusedLeft words 1 (growLeft words count figures o)
+  unfolding growLeft
+  grow-refused count figures o f =
+      refused-left words 1 callsFigures calls-zero (lengthsFit words 1 figures) (untouched words figures [])
+      (volume-laws .grow-refuses (stateFrom words) count o) (words-back words f)
+
+  pub copy-refused : (x : ℕ) (figures : List ℕ) (o : Observations) → Words words
+      → lengthsFit words 1 figures ≡ true → copyLeft words x figures o .number ≢ 0 → RefusedLeft words 1 (copyLeft words x figures o)
+  unfolding copyLeft
+  copy-refused x figures o f =
+      refused-left words 1 callsFigures calls-zero (lengthsFit words 1 figures) (untouched words figures [])
+      (volume-laws .copy-refuses (stateFrom words) x o) (words-back words f)
+
+  pub checkpoint-refused : (figures : List ℕ) (o : Observations) → Words words
+      → lengthsFit words 1 figures ≡ true → checkpointLeft words figures o .number ≢ 0 → RefusedLeft words 1 (checkpointLeft words figures o)
+  unfolding checkpointLeft
+  checkpoint-refused figures o f =
+      refused-left words 1 callsFigures calls-zero (lengthsFit words 1 figures) (untouched words figures [])
+      (volume-laws .checkpoint-refuses (stateFrom words) o) (words-back words f)
+
+  pub advance-refused : (figures : List ℕ) (o : Observations) → Words words
+      → lengthsFit words 4 figures ≡ true → advanceLeft words figures o .number ≢ 0 → RefusedLeft words 4 (advanceLeft words figures o)
+  unfolding advanceLeft
+  advance-refused figures o f =
+      refused-left words 4 advanceFigures advance-zero (lengthsFit words 4 figures) (untouched words figures [])
+      (volume-laws .advance-refuses (stateFrom words) o) (words-back words f)
+
+  pub address-refused : (x : ℕ) (figures : List ℕ)
+      → lengthsFit words 5 figures ≡ true → addressLeft words x figures .number ≢ 0 → RefusedLeft words 5 (addressLeft words x figures)
+  unfolding addressLeft
+  address-refused x figures =
+      let answer = addressReply (stateFrom words) x .answer in
+      looked-left words 5 (addressNumber answer) (addressFigures answer) (lengthsFit words 5 figures) (untouched words figures []) (address-zero answer)
+
+  pub holder-refused : (p : Spot) (figures : List ℕ)
+      → lengthsFit words 1 figures ≡ true → holderLeft words p figures .number ≢ 0 → RefusedLeft words 1 (holderLeft words p figures)
+  unfolding holderLeft
+  holder-refused p figures =
+      let answer = holderReply (stateFrom words) p .answer in
+      looked-left words 1 (holderNumber answer) (holderFigures answer) (lengthsFit words 1 figures) (untouched words figures []) (holder-zero answer)
+
+-- ---- restart, which hands back a state of zeros
+
+no-marks-word : (k : ℕ) → wordOf (replicate k false) ≡ 0
+unfolding wordOf
+no-marks-word zero = refl
+no-marks-word (suc k) = rw (no-marks-word k)
+
+zero-words : wordsOf zeros ≡ replicate stateWords 0
+unfolding wordsOf numbersOf zeros newState noMarks
+zero-words = rw (no-marks-word 64)
+
+pub format-refused : (words : List ℕ) (z s n : ℕ) (o : Observations)
+    → lengthsFit words 0 [] ≡ true → formatLeft words z s n o .number ≢ 0 → RefusedLeft (replicate stateWords 0) 0 (formatLeft words z s n o)
+unfolding formatLeft
+format-refused words z s n o =
+    refused-left (replicate stateWords 0) 0 noFigures (λ _ _. refl) (lengthsFit words 0 []) (untouched words [] [])
+    (volume-laws .format-refuses z s n o) zero-words
+
+pub restart-refused : (words figures : List ℕ) (o : Observations)
+    → lengthsFit words 1 figures ≡ true → restartLeft words figures o .number ≢ 0
+    → RefusedLeft (replicate stateWords 0) 1 (restartLeft words figures o)
+unfolding restartLeft
+restart-refused words figures o =
+    refused-left (replicate stateWords 0) 1 callsFigures calls-zero (lengthsFit words 1 figures) (untouched words figures [])
+    (volume-laws .restart-refuses o) zero-words
+
+-- ---- write and read, which hand back the state
+
+module _ (v : Volume) (x : ℕ) (piece : List ℕ) (o : Observations) where
+  write-state : writeOutcome v x piece o .reply .state ≡ v
+  unfolding writeOutcome refused
+  write-state =
+      judged-cases (λ (out : Outcome). out .reply .state ≡ v) (writeTable v x (length piece) (o .byteCount))
+      (λ k. refused v k piece) _ (λ _. refl) (λ _. refl)
+
+  read-state : readOutcome v x piece o .reply .state ≡ v
+  unfolding readOutcome refused
+  read-state =
+      judged-cases (λ (out : Outcome). out .reply .state ≡ v) (readTable v x (length piece) (o .byteCount))
+      (λ k. refused v k piece) _ (λ _. refl) (λ _. refl)
+
+module _ (words : List ℕ) (x : ℕ) (piece : List ℕ) (o : Observations) (f : Words words) where
+  pub write-keeps : writeLeft words x piece o .words ≡ words
+  unfolding writeLeft handedBack untouched
+  write-keeps =
+      cond-cases (λ (left : Left). left .words ≡ words) (lengthsFit words 0 [])
+      (λ _. ap wordsOf (write-state (stateFrom words) x piece o) ∙ words-back words f) (λ _. refl)
+
+  pub read-keeps : readLeft words x piece o .words ≡ words
+  unfolding readLeft handedBack untouched
+  read-keeps =
+      cond-cases (λ (left : Left). left .words ≡ words) (lengthsFit words 0 [])
+      (λ _. ap wordsOf (read-state (stateFrom words) x piece o) ∙ words-back words f) (λ _. refl)

@@ -1,0 +1,48 @@
+-- `streterva_restart` meets its contract. Assumes nothing.
+use mathlib.Core.Path.{_≡_, refl, sym}
+use mathlib.Core.Bool.{true}
+use borrow.Author.Needs.{needs}
+use Rattle.capi.specs.Exported.{lengthsFit, untouched, handedBack, restartLeft}
+use Rattle.capi.proofs.ExportedCode.{words-wrong, figures-wrong, lengths-right}
+use Rattle.capi.proofs.calls.streterva_restart.Statement.{statement}
+use Rattle.capi.proofs.calls.streterva_restart.Tie as tie
+
+returns : tie.Need-returns
+unfolding restartLeft untouched
+returns c = rw (words-wrong _ 1 _ (c .if1 .taken)) (refl, (refl, refl))
+
+returns-2 : tie.Need-returns-2
+unfolding restartLeft untouched
+returns-2 c = rw (figures-wrong _ 1 _ (c .before .if1 .left) (c .if2 .taken)) (refl, (refl, refl))
+
+-- both lengths are right
+fits : (c : tie.Else2) → let a = c .before .before .before .before .before .args in lengthsFit (a .state .now) 1 (a .figures .now) ≡ true
+fits c = lengths-right _ 1 _ (c .before .if1 .left) (c .if2 .left)
+
+restart-requires : tie.Need-restart-requires
+restart-requires c κs = search needs
+
+hand-back-requires : tie.Need-hand-back-requires
+hand-back-requires c κs = search needs
+
+same-length : tie.Need-same-length
+same-length c = search needs
+
+same-length-2 : tie.Need-same-length-2
+same-length-2 c = search needs
+
+returns-3 : tie.Need-returns-3
+unfolding restartLeft handedBack
+returns-3 c = rw (fits (c .before .before .before .before .before .before .before .before), sym (c .before .before .before .before .before .before .before .restart .ensures)) (c .before .before .before .before .hand-back .ensures)
+
+pub streterva-restart-spec : {M : Type 1} → statement M
+streterva-restart-spec =
+    tie.close
+    (tie.spec
+    returns
+    returns-2
+    restart-requires
+    hand-back-requires
+    same-length
+    same-length-2
+    returns-3)

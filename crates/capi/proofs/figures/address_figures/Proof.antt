@@ -1,0 +1,49 @@
+-- `address_figures` meets its contract. Assumes nothing.
+use mathlib.Core.Path.{_≡_}
+use lib.ListN.{length}
+use borrow.Author.Needs.{needs}
+use Rattle.capi.specs.Figures.{addressFigures}
+use Rattle.capi.proofs.WordsCode.{three-listed}
+use Rattle.capi.proofs.figures.address_figures.Statement.{statement}
+use Rattle.capi.proofs.figures.address_figures.Tie as tie
+
+enum-told : tie.Need-enum-told
+enum-told c = search needs
+
+enum-known-a : tie.Need-enum-known-a
+enum-known-a c = search needs
+
+reason-figures-requires : tie.Need-reason-figures-requires
+reason-figures-requires c κs = search needs
+
+array-read-t10 : tie.Need-array-read-t10
+array-read-t10 c = search needs
+
+array-read-t13 : tie.Need-array-read-t13
+array-read-t13 c = search needs
+
+array-read-t16 : tie.Need-array-read-t16
+array-read-t16 c = search needs
+
+returns : tie.Need-returns
+unfolding addressFigures
+returns c = rw (c .enum-told .given .1)
+
+returns-2 : tie.Need-returns-2
+unfolding addressFigures
+returns-2 c =
+    let e : length (c .before .reason-figures .result) ≡ 3 = search needs in
+    rw (c .before .before .before .a .given .1, three-listed _ e, c .before .reason-figures .ensures)
+
+pub address-figures-spec : {M : Type 1} → statement M
+address-figures-spec =
+    tie.close
+    (tie.spec
+    enum-told
+    enum-known-a
+    reason-figures-requires
+    array-read-t10
+    array-read-t13
+    array-read-t16
+    returns
+    returns-2)

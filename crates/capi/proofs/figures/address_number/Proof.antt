@@ -1,0 +1,22 @@
+-- `address_number` meets its contract. Assumes nothing.
+use borrow.Author.Needs.{needs}
+use Rattle.volume.specs.Answers.{addressNumber}
+use Rattle.capi.proofs.figures.address_number.Statement.{statement}
+use Rattle.capi.proofs.figures.address_number.Tie as tie
+
+enum-known-a : tie.Need-enum-known-a
+enum-known-a c = search needs
+
+enum-told : tie.Need-enum-told
+enum-told c = search needs
+
+returns : tie.Need-returns
+unfolding addressNumber
+returns c = rw (c .before .a .given .1)
+
+returns-2 : tie.Need-returns-2
+unfolding addressNumber
+returns-2 c = rw (c .enum-told .given .1)
+
+pub address-number-spec : {M : Type 1} → statement M
+address-number-spec = tie.close (tie.spec enum-known-a enum-told returns returns-2)

@@ -1,0 +1,63 @@
+-- `streterva_address` meets its contract. Assumes nothing.
+use mathlib.Core.Path.{_≡_, refl, sym, _∙_}
+use mathlib.Core.Bool.{true}
+use borrow.Author.Needs.{needs}
+use Rattle.capi.specs.Exported.{lengthsFit, untouched, lookedUp, addressLeft}
+use Rattle.capi.proofs.ExportedCode.{words-wrong, figures-wrong, lengths-right}
+use Rattle.capi.proofs.lookups.streterva_address.Statement.{statement}
+use Rattle.capi.proofs.lookups.streterva_address.Tie as tie
+
+returns : tie.Need-returns
+unfolding addressLeft untouched
+returns c = rw (words-wrong _ 5 _ (c .if1 .taken)) (refl, refl)
+
+returns-2 : tie.Need-returns-2
+unfolding addressLeft untouched
+returns-2 c = rw (figures-wrong _ 5 _ (c .before .if1 .left) (c .if2 .taken)) (refl, refl)
+
+-- both lengths are right
+fits : (c : tie.Else2) → let a = c .before .before .before .before .args in lengthsFit (a .state .now) 5 (a .figures .now) ≡ true
+fits c = lengths-right _ 5 _ (c .before .if1 .left) (c .if2 .left)
+
+state-of-requires : tie.Need-state-of-requires
+state-of-requires c κs = search needs
+
+address-requires : tie.Need-address-requires
+address-requires c κs = search needs
+
+address-figures-requires : tie.Need-address-figures-requires
+address-figures-requires c κs = search needs
+
+slice-aggregate-put : tie.Need-slice-aggregate-put
+slice-aggregate-put c = search needs
+
+put-requires : tie.Need-put-requires
+put-requires c κs = search needs
+
+address-number-requires : tie.Need-address-number-requires
+address-number-requires c κs = search needs
+
+same-length : tie.Need-same-length
+same-length c = search needs
+
+returns-3 : tie.Need-returns-3
+unfolding addressLeft lookedUp
+returns-3 c =
+    let made = rw (c .before .before .before .before .before .before .before .before .state-of .ensures) at (c .before .before .before .before .before .before .before .address .ensures) in
+    let told = c .before .before .before .put .ensures ∙ c .before .before .before .before .before .before .address-figures .ensures in
+    rw (fits (c .before .before .before .before .before .before .before .before .before), sym made) (c .address-number .ensures, told)
+
+pub streterva-address-spec : {M : Type 1} → statement M
+streterva-address-spec =
+    tie.close
+    (tie.spec
+    returns
+    returns-2
+    state-of-requires
+    address-requires
+    address-figures-requires
+    slice-aggregate-put
+    put-requires
+    address-number-requires
+    same-length
+    returns-3)

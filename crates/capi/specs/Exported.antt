@@ -1,0 +1,97 @@
+-- What each exported function leaves: the number that it returns, the lent words of the state, the lent figures, its store and the lent
+-- piece. It is the volume's own outcome, of the state that the words hold. Assumes nothing.
+use Prim.Native.Nat.{ℕ}
+use mathlib.Core.Bool.{Bool, cond, _&&_}
+use mathlib.Core.List.{List, []}
+use lib.Dec.{eqb}
+use lib.ListN.{length}
+use Rattle.layout.specs.declared.Spot.{Spot}
+use Rattle.medium.specs.Medium.{Observations, Store, noStore}
+use Rattle.volume.specs.declared.Answer.{Answer}
+use Rattle.volume.specs.Answers.{number, addressNumber, holderNumber}
+use Rattle.volume.specs.Calls.{Outcome, formatOutcome, restartOutcome, growOutcome, copyOutcome, checkpointOutcome, advanceOutcome, writeOutcome, readOutcome, addressReply, holderReply}
+use Rattle.volume.specs.Sound.{sound}
+use Rattle.capi.specs.Figures.{noFigures, callsFigures, advanceFigures, addressFigures, holderFigures}
+use Rattle.capi.specs.Words.{stateWords, wordsOf, stateFrom}
+
+pub record Left : Type 0 where
+  pub number : ℕ
+  pub words : List ℕ
+  pub figures : List ℕ
+  pub store : Store
+  pub piece : List ℕ
+
+-- the number of a lent slice that has the wrong length; no call has it
+abbrev pub wrongLength : ℕ
+wrongLength = 100
+
+-- do the words of a state and so many figures fit the lent slices
+unfoldable pub lengthsFit : (words : List ℕ) (figureCount : ℕ) (figures : List ℕ) → Bool
+lengthsFit words figureCount figures = eqb (length words) stateWords && eqb (length figures) figureCount
+
+-- "nothing touched"
+unfoldable pub untouched : (words figures piece : List ℕ) → Left
+untouched words figures piece = record { number = wrongLength; words = words; figures = figures; store = noStore; piece = piece }
+
+-- what a call hands back, in words and figures
+unfoldable pub handedBack : (figuresOf : Answer → List ℕ) (o : Outcome) → Left
+handedBack figuresOf o =
+    record {
+      number = number (o .reply .answer);
+      words = wordsOf (o .reply .state);
+      figures = figuresOf (o .reply .answer);
+      store = o .store;
+      piece = o .piece;
+    }
+
+-- what a call leaves that looks up a spot: the words as they were, and nothing stored
+unfoldable pub lookedUp : (number : ℕ) (figures words : List ℕ) → Left
+lookedUp number figures words = record { number = number; words = words; figures = figures; store = noStore; piece = [] }
+
+-- ---- the calls, each with its own count of figures
+
+unfoldable pub formatLeft : (words : List ℕ) (z s n : ℕ) (o : Observations) → Left
+formatLeft words z s n o = cond (lengthsFit words 0 []) (handedBack noFigures (formatOutcome z s n o)) (untouched words [] [])
+
+unfoldable pub restartLeft : (words figures : List ℕ) (o : Observations) → Left
+restartLeft words figures o =
+    cond (lengthsFit words 1 figures) (handedBack callsFigures (restartOutcome o)) (untouched words figures [])
+
+unfoldable pub growLeft : (words : List ℕ) (count : ℕ) (figures : List ℕ) (o : Observations) → Left
+growLeft words count figures o =
+    cond (lengthsFit words 1 figures) (handedBack callsFigures (growOutcome (stateFrom words) count o)) (untouched words figures [])
+
+unfoldable pub copyLeft : (words : List ℕ) (x : ℕ) (figures : List ℕ) (o : Observations) → Left
+copyLeft words x figures o =
+    cond (lengthsFit words 1 figures) (handedBack callsFigures (copyOutcome (stateFrom words) x o)) (untouched words figures [])
+
+unfoldable pub checkpointLeft : (words figures : List ℕ) (o : Observations) → Left
+checkpointLeft words figures o =
+    cond (lengthsFit words 1 figures) (handedBack callsFigures (checkpointOutcome (stateFrom words) o)) (untouched words figures [])
+
+unfoldable pub advanceLeft : (words figures : List ℕ) (o : Observations) → Left
+advanceLeft words figures o =
+    cond (lengthsFit words 4 figures) (handedBack advanceFigures (advanceOutcome (stateFrom words) o)) (untouched words figures [])
+
+unfoldable pub writeLeft : (words : List ℕ) (x : ℕ) (piece : List ℕ) (o : Observations) → Left
+writeLeft words x piece o =
+    cond (lengthsFit words 0 []) (handedBack noFigures (writeOutcome (stateFrom words) x piece o)) (untouched words [] piece)
+
+unfoldable pub readLeft : (words : List ℕ) (x : ℕ) (piece : List ℕ) (o : Observations) → Left
+readLeft words x piece o =
+    cond (lengthsFit words 0 []) (handedBack noFigures (readOutcome (stateFrom words) x piece o)) (untouched words [] piece)
+
+unfoldable pub addressLeft : (words : List ℕ) (x : ℕ) (figures : List ℕ) → Left
+addressLeft words x figures =
+    let answer = addressReply (stateFrom words) x .answer in
+    cond (lengthsFit words 5 figures) (lookedUp (addressNumber answer) (addressFigures answer) words) (untouched words figures [])
+
+unfoldable pub holderLeft : (words : List ℕ) (p : Spot) (figures : List ℕ) → Left
+holderLeft words p figures =
+    let answer = holderReply (stateFrom words) p .answer in
+    cond (lengthsFit words 1 figures) (lookedUp (holderNumber answer) (holderFigures answer) words) (untouched words figures [])
+
+-- "1: state not sound", as a number of its own
+unfoldable pub soundnessLeft : (words : List ℕ) → Left
+soundnessLeft words =
+    cond (lengthsFit words 0 []) (lookedUp (cond (sound (stateFrom words)) 0 1) [] words) (untouched words [] [])

@@ -1,0 +1,71 @@
+-- What is proved of the words of a state and of the exported functions: `CapiLaws`. `proofs/Theorems.antt` has the proof. Assumes nothing.
+use Prim.Native.Nat.{ℕ, _^_, _<_}
+use mathlib.Core.Path.{_≡_}
+use mathlib.Core.Bool.{Bool, true}
+use mathlib.Core.List.{List, []}
+use mathlib.Core.Logic.{_≢_}
+use lib.ListN.{length, getD, replicate}
+use Rattle.layout.specs.declared.Spot.{Spot}
+use Rattle.marks.specs.Marks.{markCount}
+use Rattle.medium.specs.Medium.{Observations, noStore}
+use Rattle.volume.specs.declared.Volume.{Volume}
+use Rattle.volume.specs.Answers.{number, addressNumber, holderNumber}
+use Rattle.volume.specs.Calls.{formatOutcome, restartOutcome, growOutcome, copyOutcome, checkpointOutcome, advanceOutcome, writeOutcome, readOutcome, addressReply, holderReply}
+use Rattle.capi.specs.Exported.{Left, wrongLength, lengthsFit, formatLeft, restartLeft, growLeft, copyLeft, checkpointLeft, advanceLeft, writeLeft, readLeft, addressLeft, holderLeft}
+use Rattle.capi.specs.Words.{stateWords, wordOf, wordsOf, stateFrom}
+
+-- the lengths that the types of the code give the arrays of a state
+pub record Arrays (v : Volume) : Type 0 where
+  pub counts-length : length (v .counts) ≡ 8
+  pub recorded-length : length (v .recorded) ≡ markCount
+  pub copied-length : length (v .copied) ≡ markCount
+
+-- fifteen numbers of 64 bits
+pub record Words (words : List ℕ) : Type 0 where
+  pub count : length words ≡ stateWords
+  pub each : (i : ℕ) → i < stateWords → getD words i 0 < 2 ^ 64
+
+-- what a call leaves that refuses a state: the words as they were, zeros as figures, nothing stored
+pub record RefusedLeft (words : List ℕ) (figureCount : ℕ) (left : Left) : Type 0 where
+  pub words-kept : left .words ≡ words
+  pub figures-zero : left .figures ≡ replicate figureCount 0
+  pub nothing-stored : left .store ≡ noStore
+
+pub record CapiLaws : Type 0 where
+  -- the two conversions are inverse: every state is fifteen words, and all fifteen words are a state
+  pub words-count : (v : Volume) → Arrays v → length (wordsOf v) ≡ stateWords
+  pub marks-fit : (marks : List Bool) → length marks ≡ markCount → wordOf marks < 2 ^ 64
+  pub state-back : (v : Volume) → Arrays v → stateFrom (wordsOf v) ≡ v
+  pub state-arrays : (words : List ℕ) → length words ≡ stateWords → Arrays (stateFrom words)
+  pub words-back : (words : List ℕ) → Words words → wordsOf (stateFrom words) ≡ words
+  -- no call has the number of a wrong length
+  pub format-number : (z s n : ℕ) (o : Observations) → number (formatOutcome z s n o .reply .answer) ≢ wrongLength
+  pub restart-number : (o : Observations) → number (restartOutcome o .reply .answer) ≢ wrongLength
+  pub grow-number : (v : Volume) (count : ℕ) (o : Observations) → number (growOutcome v count o .reply .answer) ≢ wrongLength
+  pub copy-number : (v : Volume) (x : ℕ) (o : Observations) → number (copyOutcome v x o .reply .answer) ≢ wrongLength
+  pub checkpoint-number : (v : Volume) (o : Observations) → number (checkpointOutcome v o .reply .answer) ≢ wrongLength
+  pub advance-number : (v : Volume) (o : Observations) → number (advanceOutcome v o .reply .answer) ≢ wrongLength
+  pub write-number : (v : Volume) (x : ℕ) (piece : List ℕ) (o : Observations) → number (writeOutcome v x piece o .reply .answer) ≢ wrongLength
+  pub read-number : (v : Volume) (x : ℕ) (piece : List ℕ) (o : Observations) → number (readOutcome v x piece o .reply .answer) ≢ wrongLength
+  pub address-number : (v : Volume) (x : ℕ) → addressNumber (addressReply v x .answer) ≢ wrongLength
+  pub holder-number : (v : Volume) (p : Spot) → holderNumber (holderReply v p .answer) ≢ wrongLength
+  -- a refused call leaves the words as they were, has zeros as figures and stores nothing
+  pub grow-refused : (words : List ℕ) (count : ℕ) (figures : List ℕ) (o : Observations) → Words words
+      → lengthsFit words 1 figures ≡ true → growLeft words count figures o .number ≢ 0 → RefusedLeft words 1 (growLeft words count figures o)
+  pub copy-refused : (words : List ℕ) (x : ℕ) (figures : List ℕ) (o : Observations) → Words words
+      → lengthsFit words 1 figures ≡ true → copyLeft words x figures o .number ≢ 0 → RefusedLeft words 1 (copyLeft words x figures o)
+  pub checkpoint-refused : (words figures : List ℕ) (o : Observations) → Words words
+      → lengthsFit words 1 figures ≡ true → checkpointLeft words figures o .number ≢ 0 → RefusedLeft words 1 (checkpointLeft words figures o)
+  pub advance-refused : (words figures : List ℕ) (o : Observations) → Words words
+      → lengthsFit words 4 figures ≡ true → advanceLeft words figures o .number ≢ 0 → RefusedLeft words 4 (advanceLeft words figures o)
+  pub format-refused : (words : List ℕ) (z s n : ℕ) (o : Observations)
+      → lengthsFit words 0 [] ≡ true → formatLeft words z s n o .number ≢ 0 → RefusedLeft (replicate stateWords 0) 0 (formatLeft words z s n o)
+  pub restart-refused : (words figures : List ℕ) (o : Observations)
+      → lengthsFit words 1 figures ≡ true → restartLeft words figures o .number ≢ 0 → RefusedLeft (replicate stateWords 0) 1 (restartLeft words figures o)
+  pub address-refused : (words : List ℕ) (x : ℕ) (figures : List ℕ)
+      → lengthsFit words 5 figures ≡ true → addressLeft words x figures .number ≢ 0 → RefusedLeft words 5 (addressLeft words x figures)
+  pub holder-refused : (words : List ℕ) (p : Spot) (figures : List ℕ)
+      → lengthsFit words 1 figures ≡ true → holderLeft words p figures .number ≢ 0 → RefusedLeft words 1 (holderLeft words p figures)
+  -- write and read leave the words as they were, which is why they are lent to be read only
+  pub write-keeps : (words : List ℕ) (x : ℕ) (piece : List ℕ) (o : Observations) → Words words → writeLeft words x piece o .words ≡ words
+  pub read-keeps : (words : List ℕ) (x : ℕ) (piece : List ℕ) (o : Observations) → Words words → readLeft words x piece o .words ≡ words

@@ -1,0 +1,4 @@
+pub mod Exported
+pub mod Figures
+pub mod Laws
+pub mod Words

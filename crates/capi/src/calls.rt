@@ -1,0 +1,109 @@
+// Format, restart, write, read, and the test of soundness.
+ghost use mathlib.Core.Path.{_≡_};
+ghost use Rattle.medium.specs.Medium.{observe, apply};
+ghost use Rattle.volume.specs.States.{geometry};
+ghost use Rattle.capi.specs.Exported.{formatLeft, restartLeft, writeLeft, readLeft, soundnessLeft};
+ghost use Rattle.capi.specs.Words.{stateFrom};
+use super::CALLS_FIGURES;
+use super::STATE_WORDS;
+use super::WRONG_LENGTH;
+use super::figures::number;
+use super::handed::hand_back;
+use super::handed::put_state;
+use super::words::state_of;
+use layout::Block;
+use volume::Volume;
+
+#[no_mangle]
+pub extern "C" fn streterva_format(
+    state: &mut [usize],
+    medium: &mut [u8],
+    size: usize,
+    rows: usize,
+    disks: usize,
+) -> usize
+    ensures { λ r. ⌜ r ≡ formatLeft (now (state .entry)) size rows disks (observe (now (medium .entry))) .number ⌝ }
+    ensures { λ _. ⌜ now (state .exit) ≡ formatLeft (now (state .entry)) size rows disks (observe (now (medium .entry))) .words ⌝ }
+    ensures { λ _. ⌜ now (medium .exit) ≡ apply (record { size = size; rows = rows }) (formatLeft (now (state .entry)) size rows disks (observe (now (medium .entry))) .store) (now (medium .entry)) ⌝ }
+{
+    if state.len() != STATE_WORDS {
+        return WRONG_LENGTH;
+    }
+    let reply = Volume::format(medium, size, rows, disks);
+    let next = reply.state;
+    let answer = reply.answer;
+    put_state(state, next);
+    number(answer)
+}
+
+#[no_mangle]
+pub extern "C" fn streterva_restart(
+    state: &mut [usize],
+    medium: &[u8],
+    figures: &mut [usize],
+) -> usize
+    ensures { λ r. ⌜ r ≡ restartLeft (now (state .entry)) (now (figures .entry)) (observe (now (medium .entry))) .number ⌝ }
+    ensures { λ _. ⌜ now (state .exit) ≡ restartLeft (now (state .entry)) (now (figures .entry)) (observe (now (medium .entry))) .words ⌝ }
+    ensures { λ _. ⌜ now (figures .exit) ≡ restartLeft (now (state .entry)) (now (figures .entry)) (observe (now (medium .entry))) .figures ⌝ }
+{
+    if state.len() != STATE_WORDS {
+        return WRONG_LENGTH;
+    }
+    if figures.len() != CALLS_FIGURES {
+        return WRONG_LENGTH;
+    }
+    let reply = Volume::restart(medium);
+    hand_back(reply, state, figures)
+}
+
+#[no_mangle]
+pub extern "C" fn streterva_write(
+    state: &[usize],
+    medium: &mut [u8],
+    block: usize,
+    piece: &[u8],
+) -> usize
+    ensures { λ r. ⌜ r ≡ writeLeft (now (state .entry)) block (now (piece .entry)) (observe (now (medium .entry))) .number ⌝ }
+    ensures { λ _. ⌜ now (medium .exit) ≡ apply (geometry (stateFrom (now (state .entry)))) (writeLeft (now (state .entry)) block (now (piece .entry)) (observe (now (medium .entry))) .store) (now (medium .entry)) ⌝ }
+{
+    if state.len() != STATE_WORDS {
+        return WRONG_LENGTH;
+    }
+    let v = state_of(state);
+    let reply = v.write(medium, Block(block), piece);
+    let answer = reply.answer;
+    number(answer)
+}
+
+#[no_mangle]
+pub extern "C" fn streterva_read(
+    state: &[usize],
+    medium: &[u8],
+    block: usize,
+    piece: &mut [u8],
+) -> usize
+    ensures { λ r. ⌜ r ≡ readLeft (now (state .entry)) block (now (piece .entry)) (observe (now (medium .entry))) .number ⌝ }
+    ensures { λ _. ⌜ now (piece .exit) ≡ readLeft (now (state .entry)) block (now (piece .entry)) (observe (now (medium .entry))) .piece ⌝ }
+{
+    if state.len() != STATE_WORDS {
+        return WRONG_LENGTH;
+    }
+    let v = state_of(state);
+    let reply = v.read(medium, Block(block), piece);
+    let answer = reply.answer;
+    number(answer)
+}
+
+#[no_mangle]
+pub extern "C" fn streterva_soundness(state: &[usize]) -> usize
+    ensures { λ r. ⌜ r ≡ soundnessLeft (now (state .entry)) .number ⌝ }
+{
+    if state.len() != STATE_WORDS {
+        return WRONG_LENGTH;
+    }
+    let v = state_of(state);
+    if v.is_sound() {
+        return 0;
+    }
+    1
+}

@@ -1,0 +1,112 @@
+// Grow, copy, checkpoint and advance.
+ghost use mathlib.Core.Path.{_≡_};
+ghost use Rattle.medium.specs.Medium.{observe, apply};
+ghost use Rattle.volume.specs.States.{geometry};
+ghost use Rattle.capi.specs.Exported.{growLeft, copyLeft, checkpointLeft, advanceLeft};
+ghost use Rattle.capi.specs.Words.{stateFrom};
+use super::ADVANCE_FIGURES;
+use super::CALLS_FIGURES;
+use super::STATE_WORDS;
+use super::WRONG_LENGTH;
+use super::figures::advance_figures;
+use super::figures::number;
+use super::handed::hand_back;
+use super::handed::put;
+use super::handed::put_state;
+use super::words::state_of;
+use layout::Block;
+
+#[no_mangle]
+pub extern "C" fn streterva_grow(
+    state: &mut [usize],
+    medium: &mut [u8],
+    count: usize,
+    figures: &mut [usize],
+) -> usize
+    ensures { λ r. ⌜ r ≡ growLeft (now (state .entry)) count (now (figures .entry)) (observe (now (medium .entry))) .number ⌝ }
+    ensures { λ _. ⌜ now (state .exit) ≡ growLeft (now (state .entry)) count (now (figures .entry)) (observe (now (medium .entry))) .words ⌝ }
+    ensures { λ _. ⌜ now (figures .exit) ≡ growLeft (now (state .entry)) count (now (figures .entry)) (observe (now (medium .entry))) .figures ⌝ }
+    ensures { λ _. ⌜ now (medium .exit) ≡ apply (geometry (stateFrom (now (state .entry)))) (growLeft (now (state .entry)) count (now (figures .entry)) (observe (now (medium .entry))) .store) (now (medium .entry)) ⌝ }
+{
+    if state.len() != STATE_WORDS {
+        return WRONG_LENGTH;
+    }
+    if figures.len() != CALLS_FIGURES {
+        return WRONG_LENGTH;
+    }
+    let v = state_of(state);
+    let reply = v.grow(medium, count);
+    hand_back(reply, state, figures)
+}
+
+#[no_mangle]
+pub extern "C" fn streterva_copy(
+    state: &mut [usize],
+    medium: &mut [u8],
+    block: usize,
+    figures: &mut [usize],
+) -> usize
+    ensures { λ r. ⌜ r ≡ copyLeft (now (state .entry)) block (now (figures .entry)) (observe (now (medium .entry))) .number ⌝ }
+    ensures { λ _. ⌜ now (state .exit) ≡ copyLeft (now (state .entry)) block (now (figures .entry)) (observe (now (medium .entry))) .words ⌝ }
+    ensures { λ _. ⌜ now (figures .exit) ≡ copyLeft (now (state .entry)) block (now (figures .entry)) (observe (now (medium .entry))) .figures ⌝ }
+    ensures { λ _. ⌜ now (medium .exit) ≡ apply (geometry (stateFrom (now (state .entry)))) (copyLeft (now (state .entry)) block (now (figures .entry)) (observe (now (medium .entry))) .store) (now (medium .entry)) ⌝ }
+{
+    if state.len() != STATE_WORDS {
+        return WRONG_LENGTH;
+    }
+    if figures.len() != CALLS_FIGURES {
+        return WRONG_LENGTH;
+    }
+    let v = state_of(state);
+    let reply = v.copy(medium, Block(block));
+    hand_back(reply, state, figures)
+}
+
+#[no_mangle]
+pub extern "C" fn streterva_checkpoint(
+    state: &mut [usize],
+    medium: &mut [u8],
+    figures: &mut [usize],
+) -> usize
+    ensures { λ r. ⌜ r ≡ checkpointLeft (now (state .entry)) (now (figures .entry)) (observe (now (medium .entry))) .number ⌝ }
+    ensures { λ _. ⌜ now (state .exit) ≡ checkpointLeft (now (state .entry)) (now (figures .entry)) (observe (now (medium .entry))) .words ⌝ }
+    ensures { λ _. ⌜ now (figures .exit) ≡ checkpointLeft (now (state .entry)) (now (figures .entry)) (observe (now (medium .entry))) .figures ⌝ }
+    ensures { λ _. ⌜ now (medium .exit) ≡ apply (geometry (stateFrom (now (state .entry)))) (checkpointLeft (now (state .entry)) (now (figures .entry)) (observe (now (medium .entry))) .store) (now (medium .entry)) ⌝ }
+{
+    if state.len() != STATE_WORDS {
+        return WRONG_LENGTH;
+    }
+    if figures.len() != CALLS_FIGURES {
+        return WRONG_LENGTH;
+    }
+    let v = state_of(state);
+    let reply = v.checkpoint(medium);
+    hand_back(reply, state, figures)
+}
+
+#[no_mangle]
+pub extern "C" fn streterva_advance(
+    state: &mut [usize],
+    medium: &mut [u8],
+    figures: &mut [usize],
+) -> usize
+    ensures { λ r. ⌜ r ≡ advanceLeft (now (state .entry)) (now (figures .entry)) (observe (now (medium .entry))) .number ⌝ }
+    ensures { λ _. ⌜ now (state .exit) ≡ advanceLeft (now (state .entry)) (now (figures .entry)) (observe (now (medium .entry))) .words ⌝ }
+    ensures { λ _. ⌜ now (figures .exit) ≡ advanceLeft (now (state .entry)) (now (figures .entry)) (observe (now (medium .entry))) .figures ⌝ }
+    ensures { λ _. ⌜ now (medium .exit) ≡ apply (geometry (stateFrom (now (state .entry)))) (advanceLeft (now (state .entry)) (now (figures .entry)) (observe (now (medium .entry))) .store) (now (medium .entry)) ⌝ }
+{
+    if state.len() != STATE_WORDS {
+        return WRONG_LENGTH;
+    }
+    if figures.len() != ADVANCE_FIGURES {
+        return WRONG_LENGTH;
+    }
+    let v = state_of(state);
+    let reply = v.advance(medium);
+    let next = reply.state;
+    let answer = reply.answer;
+    put_state(state, next);
+    let told = advance_figures(answer);
+    put(figures, &told);
+    number(answer)
+}

@@ -1,0 +1,26 @@
+// The calls for programs in C and Rust, as a static library: one exported function for each call, on numbers and lent
+// slices. The state crosses as fifteen words, the figures of an answer as a lent slice; each function returns
+// document 01's number, or WRONG_LENGTH. What each of them leaves is in `specs/Exported.antt`, and for C in
+// include/streterva.h.
+//
+// The exported functions take any input. What has a `requires` is seen in this crate alone.
+mod calls;
+mod figures;
+mod growth;
+mod handed;
+mod lookups;
+mod words;
+
+// The number of a lent slice that has the wrong length.
+const WRONG_LENGTH: usize = 100;
+
+// The words of a state, and the figures of the calls that report.
+const STATE_WORDS: usize = 15;
+
+const CALLS_FIGURES: usize = 1;
+
+const ADVANCE_FIGURES: usize = 4;
+
+const ADDRESS_FIGURES: usize = 5;
+
+const HOLDER_FIGURES: usize = 1;

@@ -1,0 +1,198 @@
+/*
+ * One show on a volume in plain memory: pictures are saved, the volume grows from 3 disks to 5 while it is read and written,
+ * the power fails in the middle of a store, and at the end every picture is read back and compared.
+ * Exits with 1 at the first difference.
+ */
+#include "streterva.h"
+
+#include <stdio.h>
+#include <stdlib.h>
+#include <string.h>
+
+enum { SIZE = 1024, ROWS = 12, OLD_DISKS = 3, NEW_DISKS = 5, OLD_BLOCKS = OLD_DISKS * ROWS, NEW_BLOCKS = NEW_DISKS * ROWS };
+
+static streterva_state state;
+static uint8_t *medium;
+static size_t medium_bytes;
+static unsigned saves[NEW_BLOCKS]; /* how often each block was saved; the picture depends on it */
+static unsigned checkpoints;       /* made because a save was refused with 7 */
+
+static void fail(const char *what, uint64_t got, uint64_t wanted)
+{
+    printf("%s: %llu, expected %llu\n", what, (unsigned long long)got, (unsigned long long)wanted);
+    exit(1);
+}
+
+static void expect(const char *what, uint64_t got, uint64_t wanted)
+{
+    if (got != wanted)
+        fail(what, got, wanted);
+}
+
+/* The picture of a block after so many saves. */
+static void draw(uint8_t *piece, uint64_t block, unsigned save)
+{
+    for (size_t i = 0; i < SIZE; i++)
+        piece[i] = (uint8_t)(block * 7 + save * 101 + i * (block + save + 1) / 3);
+}
+
+/* Saves the next picture of a block. A block that is copied but not recorded is written after a checkpoint. */
+static void save(uint64_t block)
+{
+    uint8_t piece[SIZE];
+    draw(piece, block, saves[block] + 1);
+    uint64_t answer = streterva_write(state.words, STRETERVA_STATE_WORDS, medium, medium_bytes, block, piece, SIZE);
+    if (answer == STRETERVA_COPY_NOT_RECORDED) {
+        uint64_t left[STRETERVA_LEFT_FIGURES];
+        expect("checkpoint",
+               streterva_checkpoint(state.words, STRETERVA_STATE_WORDS, medium, medium_bytes, left, STRETERVA_LEFT_FIGURES),
+               STRETERVA_ACCEPTED);
+        checkpoints++;
+        answer = streterva_write(state.words, STRETERVA_STATE_WORDS, medium, medium_bytes, block, piece, SIZE);
+    }
+    expect("write", answer, STRETERVA_ACCEPTED);
+    saves[block]++;
+}
+
+/* Reads a saved block and compares it with its last picture. */
+static void check(uint64_t block)
+{
+    uint8_t piece[SIZE], wanted[SIZE];
+    draw(wanted, block, saves[block]);
+    expect("read", streterva_read(state.words, STRETERVA_STATE_WORDS, medium, medium_bytes, block, piece, SIZE),
+           STRETERVA_ACCEPTED);
+    for (size_t i = 0; i < SIZE; i++)
+        expect("a byte of a picture", piece[i], wanted[i]);
+}
+
+static void check_all(uint64_t blocks)
+{
+    for (uint64_t block = 0; block < blocks; block++)
+        check(block);
+}
+
+/* One advance call. Returns the calls left after it. */
+static uint64_t advance(uint64_t *figures)
+{
+    expect("advance",
+           streterva_advance(state.words, STRETERVA_STATE_WORDS, medium, medium_bytes, figures, STRETERVA_ADVANCE_FIGURES),
+           STRETERVA_ACCEPTED);
+    return figures[STRETERVA_ADVANCE_LEFT];
+}
+
+/* Start-up: nothing in memory but what restart reads from the record. Returns the calls left. */
+static uint64_t restart(void)
+{
+    uint64_t left[STRETERVA_LEFT_FIGURES];
+    memset(&state, 0xFF, sizeof state);
+    expect("restart",
+           streterva_restart(state.words, STRETERVA_STATE_WORDS, medium, medium_bytes, left, STRETERVA_LEFT_FIGURES),
+           STRETERVA_ACCEPTED);
+    return left[0];
+}
+
+/* The power fails within the store of a copy: one half of the spot has the new bytes, the other half has any. */
+static uint64_t cut_in_copy(void)
+{
+    uint64_t figures[STRETERVA_ADVANCE_FIGURES];
+    uint8_t *before = malloc(medium_bytes);
+    if (before == NULL)
+        fail("memory", 0, medium_bytes);
+    memcpy(before, medium, medium_bytes);
+    advance(figures);
+    expect("the step that is cut", figures[STRETERVA_ADVANCE_DID], STRETERVA_COPIED);
+    size_t first = 0;
+    while (first < medium_bytes && medium[first] == before[first])
+        first++;
+    free(before);
+    if (first < STRETERVA_RECORD_BYTES || first == medium_bytes)
+        fail("the first byte stored", first, STRETERVA_RECORD_BYTES);
+    size_t spot = first - (first - STRETERVA_RECORD_BYTES) % SIZE;
+    memset(medium + spot + SIZE / 2, 0xEE, SIZE / 2);
+    return figures[STRETERVA_ADVANCE_BLOCK];
+}
+
+static void tell(uint64_t block)
+{
+    static const char *const parts[] = {"", ", head", ", body", ", tail"};
+    static const char *const whys[] = {"", "set out at format", "added by growth", "moved by growth"};
+    uint64_t at[STRETERVA_ADDRESS_FIGURES];
+    expect("address", streterva_address(state.words, STRETERVA_STATE_WORDS, block, at, STRETERVA_ADDRESS_FIGURES),
+           STRETERVA_ACCEPTED);
+    printf("block %llu: disk %llu, row %llu, %s", (unsigned long long)block,
+           (unsigned long long)at[STRETERVA_ADDRESS_DISK], (unsigned long long)at[STRETERVA_ADDRESS_ROW],
+           whys[at[STRETERVA_ADDRESS_WHY]]);
+    if (at[STRETERVA_ADDRESS_GROWTH] > 0)
+        printf(" %llu%s", (unsigned long long)at[STRETERVA_ADDRESS_GROWTH], parts[at[STRETERVA_ADDRESS_PART]]);
+    printf("\n");
+}
+
+int main(void)
+{
+    medium_bytes = (size_t)streterva_medium_bytes(SIZE, ROWS, NEW_DISKS);
+    medium = malloc(medium_bytes);
+    if (medium == NULL)
+        fail("memory", 0, medium_bytes);
+    memset(medium, 0x55, medium_bytes);
+
+    expect("format", streterva_format(state.words, STRETERVA_STATE_WORDS, medium, medium_bytes, SIZE, ROWS, OLD_DISKS),
+           STRETERVA_ACCEPTED);
+    printf("formatted: %d disks of %d rows, blocks of %d bytes\n", OLD_DISKS, ROWS, SIZE);
+    for (uint64_t block = 0; block < OLD_BLOCKS; block++)
+        save(block);
+    check_all(OLD_BLOCKS);
+    printf("saved: blocks 0 to %d\n", OLD_BLOCKS - 1);
+
+    uint64_t left[STRETERVA_LEFT_FIGURES];
+    expect("grow",
+           streterva_grow(state.words, STRETERVA_STATE_WORDS, medium, medium_bytes, NEW_DISKS, left, STRETERVA_LEFT_FIGURES),
+           STRETERVA_ACCEPTED);
+    printf("growing: %d disks to %d, %llu advance calls left\n", OLD_DISKS, NEW_DISKS, (unsigned long long)left[0]);
+
+    uint64_t figures[STRETERVA_ADVANCE_FIGURES];
+    for (unsigned step = 1; state.growing == 1; step++) {
+        if (step == 10) {
+            uint64_t block = cut_in_copy();
+            uint64_t again = restart();
+            check_all(OLD_BLOCKS);
+            printf("power cut while block %llu was copied: restarted, %llu advance calls left, blocks 0 to %d are right\n",
+                   (unsigned long long)block, (unsigned long long)again, OLD_BLOCKS - 1);
+        }
+        advance(figures);
+        check_all(OLD_BLOCKS);
+        if (figures[STRETERVA_ADVANCE_DID] == STRETERVA_COPIED && step % 4 == 0)
+            save(figures[STRETERVA_ADVANCE_BLOCK]); /* copied a moment ago, so the write is refused with 7 */
+        save(step * 5 % OLD_BLOCKS);
+    }
+    expect("calls left at the end", figures[STRETERVA_ADVANCE_LEFT], 0);
+    expect("the last step", figures[STRETERVA_ADVANCE_DID], STRETERVA_FINISHED);
+    printf("finished: saved and read all along, %u saves waited for a checkpoint\n", checkpoints);
+    check_all(OLD_BLOCKS);
+
+    for (uint64_t block = OLD_BLOCKS; block < NEW_BLOCKS; block++)
+        save(block);
+    check_all(NEW_BLOCKS);
+    printf("saved: blocks %d to %d, on the added space\n", OLD_BLOCKS, NEW_BLOCKS - 1);
+
+    expect("calls left at start-up", restart(), 0);
+    check_all(NEW_BLOCKS);
+    printf("restarted: blocks 0 to %d are right\n", NEW_BLOCKS - 1);
+
+    tell(0);
+    tell(1);
+    tell(4);
+    tell(OLD_BLOCKS);
+    for (uint64_t block = 0; block < NEW_BLOCKS; block++) {
+        uint64_t at[STRETERVA_ADDRESS_FIGURES], holder[STRETERVA_HOLDER_FIGURES];
+        expect("address", streterva_address(state.words, STRETERVA_STATE_WORDS, block, at, STRETERVA_ADDRESS_FIGURES),
+               STRETERVA_ACCEPTED);
+        expect("holder",
+               streterva_holder(state.words, STRETERVA_STATE_WORDS, at[STRETERVA_ADDRESS_DISK],
+                                at[STRETERVA_ADDRESS_ROW], holder, STRETERVA_HOLDER_FIGURES),
+               STRETERVA_ACCEPTED);
+        expect("the holder of a block's spot", holder[0], block);
+    }
+    printf("address and holder agree on blocks 0 to %d\n", NEW_BLOCKS - 1);
+    free(medium);
+    return 0;
+}

@@ -1,0 +1,253 @@
+/*
+ * Streterva: a RAID-0 volume (striping without parity) that takes more disks while it is in use.
+ *
+ * Link with libcapi.a (x86-64). "Document 01" is the specification; numbers and words here are its own: a block is an address
+ * in the volume, a row is a position on one disk, a spot is a disk and a row.
+ *
+ * Answers. Every function returns 0 when it accepts the call, or else the number of the refusal (enum streterva_refusal).
+ * Tests are made in the order given at each function, and the first that fails gives the number. A refused call changes
+ * nothing in the medium, the state and the piece, and sets every figure to 0; format and restart, refused, also set the
+ * state to zeros.
+ *
+ * Slices. A buffer is lent for the call as a pointer and, directly after it, the number of its elements: bytes for a medium or
+ * a piece, words of 64 bits for a state or figures. The pointer must be valid for that many elements, and aligned for them. A
+ * state has exactly STRETERVA_STATE_WORDS words and figures have exactly the number told at the function. Any other number is
+ * refused with STRETERVA_WRONG_LENGTH, before all other tests, and then nothing at all is touched, figures and state included.
+ * A medium that is too short is refused with 2, a piece that is not one block long with 4.
+ *
+ * No overlap. No two buffers of one call may overlap, unless the call only reads both. Calls may run at the same time if no
+ * buffer that one of them writes is lent to another.
+ *
+ * State. It is plain data that the caller keeps; the library keeps nothing between calls. Every 15 words are some state, and a
+ * state that is not sound is refused with 1. A state belongs to one medium: lend a medium only with the state that the last
+ * accepted call left for it, never with one of another medium or an older copy. The library cannot tell these apart.
+ *
+ * Medium. One buffer: the record in bytes 0 to 511, then spot (d, b) at byte 512 + (d * rows + b) * size. Bytes beyond the last
+ * disk are never touched. A call stores to one place at most, the record or one spot.
+ *
+ * Power cuts. The state is lost with memory, so after a cut restart is the first call: it reads the state back from the record.
+ * That no saved block is then lost rests on two things outside the library: stores reach the drives in the order of the
+ * calls, and of a record store that was cut the drives hold the 512 bytes of the old record or of the new one, never a mixture.
+ * A block whose write was cut may hold any bytes until it is written again.
+ */
+#ifndef STRETERVA_H
+#define STRETERVA_H
+
+#include <stddef.h>
+#include <stdint.h>
+
+#ifdef __cplusplus
+extern "C" {
+#define STRETERVA_ASSERT(condition, text) static_assert(condition, text)
+#else
+#define STRETERVA_ASSERT(condition, text) _Static_assert(condition, text)
+#endif
+
+/* Anonymous structures are standard in C11 and an extension in C++. */
+#if defined(__cplusplus) && defined(__GNUC__)
+#define STRETERVA_ANONYMOUS __extension__
+#else
+#define STRETERVA_ANONYMOUS
+#endif
+
+/* Limits of a volume. A block size is a multiple of STRETERVA_SIZE_STEP, from one step to STRETERVA_MOST_SIZE. */
+#define STRETERVA_MOST_DISKS 16
+#define STRETERVA_MOST_GROWTHS 7
+#define STRETERVA_LEAST_ROWS 1
+#define STRETERVA_MOST_ROWS 1000000
+#define STRETERVA_SIZE_STEP 512
+#define STRETERVA_MOST_SIZE 65536
+
+/* Bytes of the record, at the start of the medium. */
+#define STRETERVA_RECORD_BYTES 512
+
+/* Words of a state. */
+#define STRETERVA_STATE_WORDS 15
+
+/* Numbers of figures. The first is for restart, grow, copy and checkpoint: figure 0 is the number of advance calls left. */
+#define STRETERVA_LEFT_FIGURES 1
+#define STRETERVA_ADVANCE_FIGURES 4
+#define STRETERVA_ADDRESS_FIGURES 5
+#define STRETERVA_HOLDER_FIGURES 1
+
+/* The state. Lend `words` to the functions; read it by the names. */
+typedef union streterva_state {
+    STRETERVA_ANONYMOUS struct {
+        uint64_t size;      /* Z: bytes in a block */
+        uint64_t rows;      /* s: rows on each disk */
+        uint64_t growths;   /* t: number of growths, one under way included */
+        uint64_t counts[8]; /* N[0] to N[7]: disk counts, 0 after N[t] */
+        uint64_t growing;   /* 1 while a growth is under way, else 0 */
+        uint64_t window;    /* w: windows finished of the growth under way */
+        uint64_t recorded;  /* recorded marks of window w: mark j is bit j, of value 2^j */
+        uint64_t copied;    /* copied marks of window w */
+    };
+    uint64_t words[STRETERVA_STATE_WORDS];
+} streterva_state;
+
+STRETERVA_ASSERT(sizeof(streterva_state) == 120, "a state is 15 words of 64 bits");
+STRETERVA_ASSERT(offsetof(streterva_state, copied) == 112, "the copied marks are the last word");
+STRETERVA_ASSERT(sizeof(size_t) == 8, "the library is for x86-64 with 64-bit sizes");
+
+/* What a function returns. */
+enum streterva_refusal {
+    STRETERVA_ACCEPTED = 0,
+    STRETERVA_NOT_SOUND = 1,           /* the state is not sound */
+    STRETERVA_MEDIUM_TOO_SHORT = 2,    /* the medium is too short for the record and all disks */
+    STRETERVA_BLOCK_NOT_OPEN = 3,      /* the block is not open: past the end, or added by the growth under way */
+    STRETERVA_PIECE_SIZE = 4,          /* the piece is not one block long */
+    STRETERVA_NOT_GROWING = 5,         /* no growth is under way */
+    STRETERVA_GROWING = 6,             /* a growth is under way already */
+    STRETERVA_COPY_NOT_RECORDED = 7,   /* the block is copied but not recorded: checkpoint first */
+    STRETERVA_OUTSIDE_LIMITS = 8,      /* a size, a number of rows or a disk count is outside its limits */
+    STRETERVA_NO_MORE_GROWTHS = 9,     /* the volume has had its 7 growths */
+    STRETERVA_NOT_MOVING = 10,         /* the block does not move, or is not in window w */
+    STRETERVA_ALREADY_COPIED = 11,     /* the block is copied already */
+    STRETERVA_NOTHING_TO_RECORD = 12,  /* all copies are recorded */
+    STRETERVA_NO_RECORD = 13,          /* bytes 0 to 511 are not the record of a sound state */
+    STRETERVA_NO_SUCH_SPOT = 14,       /* the disk or the row does not exist */
+    STRETERVA_NO_BLOCK_THERE = 15,     /* no open block lives at the spot */
+    STRETERVA_WRONG_LENGTH = 100       /* a state or figures of the wrong length: nothing was touched */
+};
+
+/* Places of the figures of advance. */
+enum streterva_advance_figure {
+    STRETERVA_ADVANCE_LEFT = 0,  /* advance calls left */
+    STRETERVA_ADVANCE_DID = 1,   /* what it did, an enum streterva_did */
+    STRETERVA_ADVANCE_BLOCK = 2, /* the block copied, else 0 */
+    STRETERVA_ADVANCE_PART = 3   /* its part, an enum streterva_part; 0 when none was copied */
+};
+
+/* What advance did. */
+enum streterva_did {
+    STRETERVA_COPIED = 1,   /* copied a block */
+    STRETERVA_RECORDED = 2, /* made a checkpoint */
+    STRETERVA_FINISHED = 3  /* made the checkpoint that ended the growth */
+};
+
+/* Places of the figures of address. */
+enum streterva_address_figure {
+    STRETERVA_ADDRESS_DISK = 0,
+    STRETERVA_ADDRESS_ROW = 1,
+    STRETERVA_ADDRESS_WHY = 2,    /* an enum streterva_why */
+    STRETERVA_ADDRESS_GROWTH = 3, /* the growth that put the block there, 1 to t; 0 for format */
+    STRETERVA_ADDRESS_PART = 4    /* an enum streterva_part when moved, else 0 */
+};
+
+/* Why a block is where it is. */
+enum streterva_why {
+    STRETERVA_SET_OUT = 1, /* set out at format */
+    STRETERVA_ADDED = 2,   /* added by a growth */
+    STRETERVA_MOVED = 3    /* moved by a growth */
+};
+
+/* The part of its window that a moved block is in. */
+enum streterva_part { STRETERVA_HEAD = 1, STRETERVA_BODY = 2, STRETERVA_TAIL = 3 };
+
+/* The bytes that a medium needs for this block size, these rows and this number of disks, all within the limits. */
+static inline uint64_t streterva_medium_bytes(uint64_t size, uint64_t rows, uint64_t disks)
+{
+    return STRETERVA_RECORD_BYTES + disks * rows * size;
+}
+
+/*
+ * Format: begins a volume with blocks of `size` bytes, `rows` rows on each disk and `disks` disks.
+ * Stores the record; the blocks hold what the medium held. The words of `state` before the call do not matter.
+ * Refuses: 8, size, rows or disks outside the limits; 2.
+ * Refused, it sets the state to zeros.
+ */
+uint64_t streterva_format(uint64_t *state, size_t state_words, uint8_t *medium, size_t medium_bytes, uint64_t size,
+                          uint64_t rows, uint64_t disks);
+
+/*
+ * Restart: reads the state back from the record, with the copied marks equal to the recorded ones. Stores nothing.
+ * The words of `state` before the call do not matter.
+ * Refuses: 2, below 512 bytes; 13, no record of a sound state; 2, too short for the disks of the record.
+ * Figures (1): advance calls left, 0 when no growth is under way.
+ * Refused, it sets the state to zeros.
+ */
+uint64_t streterva_restart(uint64_t *state, size_t state_words, const uint8_t *medium, size_t medium_bytes,
+                           uint64_t *figures, size_t figures_words);
+
+/*
+ * Grow: begins a growth to `count` disks. Stores the record. The added blocks open when the growth is finished.
+ * Refuses: 1; 6; 9; 8, count not above the present one or above 16; 2, too short for `count` disks.
+ * Figures (1): advance calls left.
+ * Refused, it leaves the state as it was.
+ */
+uint64_t streterva_grow(uint64_t *state, size_t state_words, uint8_t *medium, size_t medium_bytes, uint64_t count,
+                        uint64_t *figures, size_t figures_words);
+
+/*
+ * Copy: stores a moving block of window w at its new spot too and sets its copied mark. The block is read at its old spot, and
+ * cannot be written, until a checkpoint records the copy.
+ * Refuses: 1; 2; 5; 3; 10; 11.
+ * Figures (1): advance calls left.
+ * Refused, it leaves the state as it was.
+ */
+uint64_t streterva_copy(uint64_t *state, size_t state_words, uint8_t *medium, size_t medium_bytes, uint64_t block,
+                        uint64_t *figures, size_t figures_words);
+
+/*
+ * Checkpoint: stores the record with every copied block recorded; these are then read and written at their new spots. When
+ * all moving blocks of window w are recorded, that same store goes on to the next window or, after the last, ends the growth.
+ * Refuses: 1; 2; 5; 12.
+ * Figures (1): advance calls left, 0 when the growth is ended.
+ * Refused, it leaves the state as it was.
+ */
+uint64_t streterva_checkpoint(uint64_t *state, size_t state_words, uint8_t *medium, size_t medium_bytes,
+                              uint64_t *figures, size_t figures_words);
+
+/*
+ * Advance: takes the growth one step. It copies the block with the lowest mark of window w that is not copied or, when all
+ * are, does the checkpoint.
+ * Refuses: 1; 2; 5.
+ * Figures (4): enum streterva_advance_figure.
+ * Refused, it leaves the state as it was.
+ */
+uint64_t streterva_advance(uint64_t *state, size_t state_words, uint8_t *medium, size_t medium_bytes, uint64_t *figures,
+                           size_t figures_words);
+
+/*
+ * Write: stores the piece, one block long, as the block.
+ * Refuses: 1; 2; 3; 4; 7, accepted after a checkpoint.
+ * Refused, it leaves the medium as it was. The state never changes.
+ */
+uint64_t streterva_write(const uint64_t *state, size_t state_words, uint8_t *medium, size_t medium_bytes, uint64_t block,
+                         const uint8_t *piece, size_t piece_bytes);
+
+/*
+ * Read: fills the piece, one block long, with the block.
+ * Refuses: 1; 2; 3; 4.
+ * Refused, it leaves the piece as it was. The state and the medium never change.
+ */
+uint64_t streterva_read(const uint64_t *state, size_t state_words, const uint8_t *medium, size_t medium_bytes,
+                        uint64_t block, uint8_t *piece, size_t piece_bytes);
+
+/*
+ * Address: tells the live spot of the block, where it is read and written now, and why it is there.
+ * Refuses: 1; 3.
+ * Figures (5): enum streterva_address_figure.
+ */
+uint64_t streterva_address(const uint64_t *state, size_t state_words, uint64_t block, uint64_t *figures,
+                           size_t figures_words);
+
+/*
+ * Holder: tells which block lives at the spot. With no growth under way every spot has one.
+ * Refuses: 1; 14; 15.
+ * Figures (1): the block.
+ */
+uint64_t streterva_holder(const uint64_t *state, size_t state_words, uint64_t disk, uint64_t row, uint64_t *figures,
+                          size_t figures_words);
+
+/* Soundness: 0 when the state is sound, 1 when it is not, 100 when it has not 15 words. */
+uint64_t streterva_soundness(const uint64_t *state, size_t state_words);
+
+#undef STRETERVA_ASSERT
+#undef STRETERVA_ANONYMOUS
+
+#ifdef __cplusplus
+}
+#endif
+
+#endif

@@ -1,0 +1,214 @@
+//! What happened in a run, and what has to happen in a standard one.
+
+use crate::call::{Call, KINDS};
+
+/// The refusals that each call has, in the order of `KINDS`; 100 comes with all.
+const NUMBERS: [&[usize]; 11] = [
+    &[8, 2],
+    &[2, 13],
+    &[1, 6, 9, 8, 2],
+    &[1, 2, 5, 3, 10, 11],
+    &[1, 2, 5, 12],
+    &[1, 2, 5],
+    &[1, 2, 3, 4, 7],
+    &[1, 2, 3, 4],
+    &[1, 3],
+    &[1, 14, 15],
+    &[1],
+];
+
+/// How the names of cuts begin.
+const CUT: &str = "cut: ";
+/// The boundary's own refusal.
+pub const WRONG_LENGTH: u64 = 100;
+/// Where `WRONG_LENGTH` is counted.
+const WRONG_LENGTH_AT: usize = 16;
+
+/// Declares the events with their names.
+macro_rules! events {
+    ($($event:ident: $name:literal,)*) => {
+        #[derive(Clone, Copy, PartialEq, Eq, Debug)]
+        pub enum Event { $($event,)* }
+
+        const EVENTS: &[&str] = &[$($name,)*];
+    };
+}
+
+events! {
+    TornWrite: "cut: write torn",
+    TornCopy: "cut: copy torn",
+    TornAdvance: "cut: advance torn",
+    OldInFormat: "cut: format, old record",
+    NewInFormat: "cut: format, new record",
+    OldInGrow: "cut: grow, old record",
+    NewInGrow: "cut: grow, new record",
+    OldInCheckpoint: "cut: checkpoint, old record",
+    NewInCheckpoint: "cut: checkpoint, new record",
+    OldInAdvance: "cut: advance, old record",
+    NewInAdvance: "cut: advance, new record",
+    CopiedHead: "advance copied a head",
+    CopiedBody: "advance copied a body",
+    CopiedTail: "advance copied a tail",
+    Recorded: "advance recorded",
+    Finished: "advance finished",
+    SetOut: "address: set out",
+    Added: "address: added",
+    MovedHead: "address: moved as head",
+    MovedBody: "address: moved as body",
+    MovedTail: "address: moved as tail",
+    SevenGrowths: "seventh growth finished",
+    FullRuns: "growth run to its end by the calls left",
+    DroppedCopies: "restart dropped copied blocks",
+    RestartNoRecord: "restart: too short for a record",
+    RestartFewDisks: "restart: too short for the disks",
+    UnsoundStates: "damaged state not sound",
+    StillSound: "damaged state still sound",
+    WordsOutOfRange: "state word out of range",
+    BadRecords: "damaged record refused",
+    GoodRecords: "damaged record still sound",
+    ByteRefused: "one byte changed: refused",
+    ByteAccepted: "one byte changed: accepted",
+    ShortMedium: "medium too short",
+    WrongState: "state of a wrong length",
+    WrongFigures: "figures of a wrong length",
+    SweptStages: "stage with all blocks and spots looked up",
+    BigLookups: "lookup in a million rows",
+    BigMedium: "call on a medium of gigabytes",
+    ReadBacks: "volume read back whole",
+}
+
+#[derive(Clone)]
+pub struct Counts {
+    calls: [[u64; 17]; 11],
+    events: Vec<u64>,
+    pub lists: u64,
+    /// Calls made in lists, read-backs not counted.
+    pub list_calls: u64,
+    /// Blocks read back.
+    pub read_backs: u64,
+    pub comparisons: u64,
+}
+
+impl Counts {
+    pub fn new() -> Counts {
+        Counts {
+            calls: [[0; 17]; 11],
+            events: vec![0; EVENTS.len()],
+            lists: 0,
+            list_calls: 0,
+            read_backs: 0,
+            comparisons: 0,
+        }
+    }
+
+    pub fn event(&mut self, event: Event) {
+        self.events[event as usize] += 1;
+    }
+
+    /// Counts a library call and what its answer tells.
+    pub fn call(&mut self, call: &Call, number: u64, figures: &[u64]) {
+        let at = match number {
+            WRONG_LENGTH => WRONG_LENGTH_AT,
+            _ => number as usize,
+        };
+        self.calls[call.kind()][at] += 1;
+        match (call, number) {
+            (_, 2) => self.event(Event::ShortMedium),
+            (Call::Advance, 0) => self.event(match (figures[1], figures[3]) {
+                (1, 1) => Event::CopiedHead,
+                (1, 2) => Event::CopiedBody,
+                (1, _) => Event::CopiedTail,
+                (2, _) => Event::Recorded,
+                _ => Event::Finished,
+            }),
+            (Call::Address { .. }, 0) => self.event(match (figures[2], figures[4]) {
+                (1, _) => Event::SetOut,
+                (2, _) => Event::Added,
+                (_, 1) => Event::MovedHead,
+                (_, 2) => Event::MovedBody,
+                _ => Event::MovedTail,
+            }),
+            _ => {}
+        }
+    }
+
+    pub fn add(&mut self, other: &Counts) {
+        for (mine, theirs) in self.calls.iter_mut().zip(&other.calls) {
+            for (a, b) in mine.iter_mut().zip(theirs) {
+                *a += b;
+            }
+        }
+        for (a, b) in self.events.iter_mut().zip(&other.events) {
+            *a += b;
+        }
+        self.lists += other.lists;
+        self.list_calls += other.list_calls;
+        self.read_backs += other.read_backs;
+        self.comparisons += other.comparisons;
+    }
+
+    /// What a standard run has to have seen and did not.
+    pub fn missing(&self) -> Vec<String> {
+        let mut missing = Vec::new();
+        for (kind, name) in KINDS.iter().enumerate() {
+            let numbers = [0, WRONG_LENGTH_AT].iter().chain(NUMBERS[kind]);
+            for &number in numbers.filter(|&&number| self.calls[kind][number] == 0) {
+                missing.push(format!("{name} answering {}", shown(number)));
+            }
+        }
+        for (name, count) in EVENTS.iter().zip(&self.events) {
+            if *count == 0 {
+                missing.push(name.to_string());
+            }
+        }
+        missing
+    }
+
+    /// All that happened besides the cuts, one line each.
+    pub fn print_events(&self) {
+        for (name, count) in self.named_events(false) {
+            println!("{name}: {count}");
+        }
+    }
+
+    /// The library calls, read-backs not counted: how many, and per kind how
+    /// many accepted and how many refused with each number.
+    pub fn calls_told(&self) -> String {
+        let all: u64 = self.calls.iter().flatten().sum();
+        let mut kinds = Vec::new();
+        for (name, row) in KINDS.iter().zip(&self.calls) {
+            let mut told = format!("{name} {} accepted", row[0]);
+            for number in (1..row.len()).filter(|&number| row[number] > 0) {
+                told += &format!(", {} refused with {}", row[number], shown(number));
+            }
+            kinds.push(told);
+        }
+        format!("{all} ({})", kinds.join("; "))
+    }
+
+    /// The cuts: how many, and how many of each kind.
+    pub fn cuts_told(&self) -> String {
+        let cuts = self.named_events(true);
+        let all: u64 = cuts.iter().map(|(_, count)| count).sum();
+        let told: Vec<String> = cuts
+            .iter()
+            .map(|(name, count)| format!("{count} {}", &name[CUT.len()..]))
+            .collect();
+        format!("{all} ({})", told.join("; "))
+    }
+
+    /// The events that are cuts, or those that are not.
+    fn named_events(&self, cuts: bool) -> Vec<(&str, u64)> {
+        let named = EVENTS.iter().copied().zip(self.events.iter().copied());
+        named
+            .filter(|(name, _)| name.starts_with(CUT) == cuts)
+            .collect()
+    }
+}
+
+fn shown(number: usize) -> u64 {
+    match number {
+        WRONG_LENGTH_AT => WRONG_LENGTH,
+        _ => number as u64,
+    }
+}

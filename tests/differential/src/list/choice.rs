@@ -1,0 +1,148 @@
+//! The choice of calls and arguments.
+
+use super::List;
+use crate::call::{Call, Piece};
+use reference::limits::{DISKS, RECORD, SECTOR};
+
+impl List<'_> {
+    /// Any call with any arguments.
+    pub fn any_call(&mut self) -> Call {
+        match self.random.below(11) {
+            0 => self.format_call(),
+            1 => Call::Restart,
+            2 => Call::Grow {
+                count: self.grown_count(),
+            },
+            3 => Call::Copy {
+                block: self.block(),
+            },
+            4 => Call::Checkpoint,
+            5 => Call::Advance,
+            6 => self.write_call(),
+            7 => Call::Read {
+                block: self.block(),
+                bytes: self.piece_bytes(),
+            },
+            8 => Call::Address {
+                block: self.block(),
+            },
+            9 => self.holder_call(),
+            _ => Call::Soundness,
+        }
+    }
+
+    /// A call that brings the volume on more often than not.
+    pub fn likely_call(&mut self) -> Call {
+        let growing = self.model.as_ref().is_some_and(|it| it.tally.growing());
+        match (self.random.below(100), growing) {
+            (0..=27, true) => Call::Advance,
+            (28..=47, true) => Call::Copy {
+                block: self.block(),
+            },
+            (48..=57, true) => Call::Checkpoint,
+            (58..=77, true) => self.write_call(),
+            (0..=19, false) => Call::Grow {
+                count: self.grown_count(),
+            },
+            (20..=59, false) => self.write_call(),
+            (99, _) if self.random.percent(80) => Call::Restart,
+            _ => match self.any_call() {
+                Call::Format { .. } if self.random.percent(80) => self.write_call(),
+                call => call,
+            },
+        }
+    }
+
+    pub fn format_call(&mut self) -> Call {
+        let (z, s, disks) = (self.habits.z, self.habits.s, self.habits.first);
+        let mut arguments = match self.model {
+            Some(_) => [
+                self.random.pick(&[z, SECTOR]),
+                self.random.range(1, s),
+                self.random.range(1, disks),
+            ],
+            None => [z, s, disks],
+        };
+        if self.random.percent(20) {
+            let i = self.random.below(3) as usize;
+            let limit = [65_536, 1_000_000, 16][i];
+            let around = self.random.pick(&[0, 512, limit]);
+            arguments[i] = self.random.odd_number(around);
+        }
+        let [z, s, disks] = arguments;
+        Call::Format { z, s, disks }
+    }
+
+    fn grown_count(&mut self) -> u64 {
+        let disks = self.model.as_ref().map_or(1, |it| it.tally.disks());
+        let any = self.random.odd_number(disks);
+        let high = self.random.range(14, 18);
+        let some = self.random.range(1, self.habits.widest);
+        let more = disks + self.random.pick(&[some, some, self.habits.widest]);
+        let fits = more.min(self.habits.room);
+        self.random.pick(&[fits, fits, fits, fits, more, high, any])
+    }
+
+    fn write_call(&mut self) -> Call {
+        let piece = Piece {
+            seed: self.random.word(),
+            bytes: self.piece_bytes(),
+        };
+        let block = self.block();
+        Call::Write { block, piece }
+    }
+
+    fn holder_call(&mut self) -> Call {
+        let disks = self.model.as_ref().map_or(1, |it| it.tally.disks());
+        let rows = self.model.as_ref().map_or(1, |it| it.tally.s());
+        let (mut disk, mut row) = (self.random.below(disks), self.random.below(rows));
+        if self.random.percent(10) {
+            disk = self.random.odd_number(disks);
+        }
+        if self.random.percent(10) {
+            row = self.random.odd_number(rows);
+        }
+        Call::Holder { disk, row }
+    }
+
+    /// A block: open, or moving in the window at work, or anything.
+    fn block(&mut self) -> u64 {
+        let Some(model) = &self.model else {
+            return self.random.odd_number(3);
+        };
+        let open = model.plain.open();
+        if model.tally.growing() && self.random.percent(60) {
+            let moves = model.tally.moves();
+            return self.random.pick(&moves).block.0;
+        }
+        if self.random.percent(90) {
+            self.random.below(open)
+        } else {
+            self.random.odd_number(open)
+        }
+    }
+
+    fn piece_bytes(&mut self) -> usize {
+        let z = self.model.as_ref().map_or(512, |it| it.z) as usize;
+        if self.random.percent(95) {
+            return z;
+        }
+        self.random.pick(&[0, z - 1, z + 1, 512, 1024, z / 2])
+    }
+
+    /// How much of the medium is lent: most often all of it.
+    pub fn lent_bytes(&mut self, call: &Call) -> usize {
+        let whole = self.pair.medium().len();
+        if self.random.percent(96) {
+            return whole;
+        }
+        let any = self.random.below(whole as u64 + 1) as usize;
+        let needed = match (&self.model, call) {
+            (Some(model), Call::Grow { count }) if *count <= DISKS => model.bytes(*count),
+            (Some(model), _) => model.bytes(model.tally.disks()),
+            _ => RECORD,
+        };
+        let choices = [0, 511, 512, needed - 1, needed - 1, needed, any];
+        self.random.pick(&choices).min(whole)
+    }
+}

@@ -1,0 +1,50 @@
+//! What is told about a difference.
+
+use crate::call::Call;
+use crate::list::Cut;
+use crate::pair::Difference;
+use reference::state::WORDS;
+
+/// A call of a list.
+pub struct Step {
+    call: Call,
+    bytes: usize,
+    /// The damaged state it was made with.
+    pub state: Option<[u64; WORDS]>,
+    pub cut: Option<Cut>,
+    /// The answer's number, once both sides agree.
+    pub number: Option<u64>,
+}
+
+impl Step {
+    pub fn new(call: Call, bytes: usize) -> Step {
+        Step {
+            call,
+            bytes,
+            state: None,
+            cut: None,
+            number: None,
+        }
+    }
+}
+
+/// Prints a difference and the calls that led to it.
+pub fn print(seed: u64, list: u64, log: &[Step], difference: &Difference) {
+    println!("DIFFERENCE, seed {seed}, list {list}");
+    for (i, step) in log.iter().enumerate() {
+        print!("  {i}: {:?}, {} bytes lent", step.call, step.bytes);
+        if let Some(number) = step.number {
+            print!(", answered {number}");
+        }
+        if let Some(state) = step.state {
+            print!(", with state {state:?}");
+        }
+        if let Some(cut) = step.cut {
+            print!(", cut: {cut:?}");
+        }
+        println!();
+    }
+    println!("differs: {}", difference.what);
+    println!("library:   {}", difference.library);
+    println!("reference: {}", difference.reference);
+}

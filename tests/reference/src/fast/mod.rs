@@ -1,0 +1,224 @@
+//! The same calls with the same checks, written for speed: closed forms, no
+//! search, no allocation. Sound states keep all numbers below 2^32, so the
+//! layout works on 32 bits.
+
+mod check;
+mod layout;
+mod record;
+
+use crate::limits::RECORD;
+use crate::refusal::*;
+use crate::spot::{Block, Part, Place, Row, Spot, Why};
+use crate::state::State;
+use crate::store::{Advanced, Next};
+use check::{examine, Run};
+use layout::Layout;
+
+pub fn sound(state: &State) -> bool {
+    examine(state).is_ok()
+}
+
+pub fn address(state: &State, x: Block) -> Result<Place, Refusal> {
+    let run = examine(state)?;
+    let x = open(state, run, x)?;
+    Ok(live(state, run, x).0)
+}
+
+pub fn holder(state: &State, disk: u64, row: Row) -> Result<Block, Refusal> {
+    let run = examine(state)?;
+    if disk >= state.disks() || row.0 >= state.s {
+        return Err(NO_SUCH_SPOT);
+    }
+    let (d, b) = (disk as u32, row.0 as u32);
+    let Some(run) = run else {
+        let layout = Layout::new(state, state.t as usize);
+        return Ok(Block(layout.block_at(d, b) as u64));
+    };
+    let (window, b1) = (b / run.size(), b % run.size());
+    let d0 = if d < run.m {
+        d
+    } else {
+        run.origin(d, b1).ok_or(NOBODY_THERE)?
+    };
+    let moved = run.moves(d0, b1) && done(state, window, run.mark(d0, b1));
+    if moved != (d >= run.m) {
+        return Err(NOBODY_THERE);
+    }
+    let layout = Layout::new(state, state.t as usize - 1);
+    Ok(Block(layout.block_at(d0, b) as u64))
+}
+
+pub fn write(state: &State, medium: &mut [u8], x: Block, piece: &[u8]) -> Result<(), Refusal> {
+    let run = ready(state, medium)?;
+    let x = open(state, run, x)?;
+    if piece.len() as u64 != state.z {
+        return Err(PIECE_LENGTH);
+    }
+    let (place, waits) = live(state, run, x);
+    if waits {
+        return Err(UNRECORDED);
+    }
+    medium[state.bytes_of(place.spot)].copy_from_slice(piece);
+    Ok(())
+}
+
+pub fn read(state: &State, medium: &[u8], x: Block, piece: &mut [u8]) -> Result<(), Refusal> {
+    let run = ready(state, medium)?;
+    let x = open(state, run, x)?;
+    if piece.len() as u64 != state.z {
+        return Err(PIECE_LENGTH);
+    }
+    let spot = live(state, run, x).0.spot;
+    piece.copy_from_slice(&medium[state.bytes_of(spot)]);
+    Ok(())
+}
+
+pub fn copy(state: State, medium: &mut [u8], x: Block) -> Result<Next, Refusal> {
+    let run = ready(&state, medium)?.ok_or(NOT_GROWING)?;
+    let x = open(&state, Some(run), x)?;
+    let (d0, b) = Layout::new(&state, state.t as usize - 1).spot_of(x);
+    let (window, b1) = (b / run.size(), b % run.size());
+    if !run.moves(d0, b1) || window as u64 != state.w {
+        return Err(NOT_MOVING_HERE);
+    }
+    let mark = run.mark(d0, b1);
+    if state.copied >> mark & 1 == 1 {
+        return Err(COPIED_ALREADY);
+    }
+    Ok(copy_mark(state, medium, run, d0, b, mark))
+}
+
+pub fn checkpoint(state: State, medium: &mut [u8]) -> Result<Next, Refusal> {
+    let run = ready(&state, medium)?.ok_or(NOT_GROWING)?;
+    if state.copied == state.recorded {
+        return Err(NOTHING_TO_RECORD);
+    }
+    Ok(store_checkpoint(state, medium, run))
+}
+
+pub fn advance(state: State, medium: &mut [u8]) -> Result<(Next, Advanced), Refusal> {
+    let run = ready(&state, medium)?.ok_or(NOT_GROWING)?;
+    let waiting = run.moving & !state.copied;
+    if waiting == 0 {
+        let next = store_checkpoint(state, medium, run);
+        let finished = next.0.growing == 0;
+        let done = if finished {
+            Advanced::Finished
+        } else {
+            Advanced::Recorded
+        };
+        return Ok((next, done));
+    }
+    let mark = waiting.trailing_zeros();
+    let d0 = mark / run.n;
+    let b1 = d0 + mark % run.n;
+    let b = state.w as u32 * run.size() + b1;
+    let layout = Layout::new(&state, state.t as usize - 1);
+    let block = Block(layout.block_at(d0, b) as u64);
+    let part = run.target(d0, b1).1;
+    let next = copy_mark(state, medium, run, d0, b, mark);
+    Ok((next, Advanced::Copied { block, part }))
+}
+
+pub fn restart(medium: &[u8]) -> Result<Next, Refusal> {
+    let Some(bytes) = medium.first_chunk::<RECORD>() else {
+        return Err(MEDIUM_SHORT);
+    };
+    let Some(state) = record::parse(bytes) else {
+        return Err(NO_RECORD);
+    };
+    let Ok(run) = examine(&state) else {
+        return Err(NO_RECORD);
+    };
+    if (medium.len() as u64) < state.bytes(state.disks()) {
+        return Err(MEDIUM_SHORT);
+    }
+    let left = run.map_or(0, |run| run.calls_left(&state));
+    Ok((state, left))
+}
+
+/// The first two checks of most calls; gives the growth that runs, if any.
+fn ready(state: &State, medium: &[u8]) -> Result<Option<Run>, Refusal> {
+    let run = examine(state)?;
+    if (medium.len() as u64) < state.bytes(state.disks()) {
+        return Err(MEDIUM_SHORT);
+    }
+    Ok(run)
+}
+
+fn open(state: &State, run: Option<Run>, x: Block) -> Result<u32, Refusal> {
+    let disks = run.map_or(state.disks(), |run| run.m as u64);
+    if x.0 < disks * state.s {
+        Ok(x.0 as u32)
+    } else {
+        Err(NOT_OPEN)
+    }
+}
+
+/// Whether a moving block of this window and mark lives at its new spot.
+fn done(state: &State, window: u32, mark: u32) -> bool {
+    let window = window as u64;
+    window < state.w || window == state.w && state.recorded >> mark & 1 == 1
+}
+
+/// The live place of an open block, and whether it is copied but not recorded.
+#[inline]
+fn live(state: &State, run: Option<Run>, x: u32) -> (Place, bool) {
+    let t = state.t as usize;
+    let Some(run) = run else {
+        return (Layout::new(state, t).place_of(x), false);
+    };
+    let old = Layout::new(state, t - 1).place_of(x);
+    let (d0, b) = (old.spot.disk as u32, old.spot.row.0 as u32);
+    let (window, b1) = (b / run.size(), b % run.size());
+    if !run.moves(d0, b1) {
+        return (old, false);
+    }
+    let mark = run.mark(d0, b1);
+    if done(state, window, mark) {
+        let (d, part) = run.target(d0, b1);
+        return (moved_to(d, b, state.t, part), false);
+    }
+    let waits = window as u64 == state.w && state.copied >> mark & 1 == 1;
+    (old, waits)
+}
+
+fn moved_to(d: u32, b: u32, growth: u64, part: Part) -> Place {
+    let spot = Spot {
+        disk: d as u64,
+        row: Row(b as u64),
+    };
+    let why = Why::Moved { growth, part };
+    Place { spot, why }
+}
+
+fn copy_mark(state: State, medium: &mut [u8], run: Run, d0: u32, b: u32, mark: u32) -> Next {
+    let (d, _) = run.target(d0, b % run.size());
+    let spot = |disk: u32| Spot {
+        disk: disk as u64,
+        row: Row(b as u64),
+    };
+    medium.copy_within(state.bytes_of(spot(d0)), state.bytes_of(spot(d)).start);
+    let mut next = state;
+    next.copied |= 1 << mark;
+    (next, run.calls_left(&next))
+}
+
+fn store_checkpoint(state: State, medium: &mut [u8], run: Run) -> Next {
+    let mut next = state;
+    next.recorded = next.copied;
+    if next.recorded == run.moving {
+        (next.recorded, next.copied) = (0, 0);
+        next.w += 1;
+        if next.w == run.windows as u64 {
+            (next.growing, next.w) = (0, 0);
+        }
+    }
+    record::write(&next, &mut medium[..RECORD]);
+    let left = if next.growing == 1 {
+        run.calls_left(&next)
+    } else {
+        0
+    };
+    (next, left)
+}

@@ -1,0 +1,18 @@
+//! The growing striped volume, written from document 01 alone.
+//!
+//! Everything but `fast` is plain: definitions are followed word for word and
+//! searches and counts go over the blocks themselves. `fast` has the same
+//! calls with the same checks in closed form.
+
+pub mod fast;
+pub mod limits;
+pub mod lookup;
+pub mod plain;
+pub mod record;
+pub mod refusal;
+pub mod sample;
+pub mod spot;
+pub mod state;
+pub mod store;
+pub mod tally;
+pub mod window;

@@ -1,0 +1,141 @@
+//! The fast calls answer as the plain ones do.
+
+use reference::limits::RECORD;
+use reference::sample::{damage, damaged_record, sound_state, Random};
+use reference::spot::{Block, Row};
+use reference::state::State;
+use reference::{fast, lookup, record, store};
+
+const ROUNDS: u64 = 2_000;
+
+/// A sound state of few rows, or a damaged one.
+fn any_state(random: &mut Random) -> State {
+    let state = sound_state(random, 40);
+    if random.percent(30) {
+        State::from_words(&damage(random, &state))
+    } else {
+        state
+    }
+}
+
+/// A medium for the state, at times too short; random bytes.
+fn any_medium(random: &mut Random, state: &State) -> Vec<u8> {
+    let needed = if state.sound() && state.z <= 1536 {
+        state.bytes(state.disks()) as usize
+    } else {
+        RECORD
+    };
+    let mut medium = vec![0; needed];
+    random.fill(&mut medium);
+    if random.percent(5) {
+        medium.pop();
+    }
+    medium
+}
+
+fn any_block(random: &mut Random, state: &State) -> Block {
+    let open = if state.sound() { state.open() } else { 10 };
+    let block = if random.percent(80) {
+        random.below(open)
+    } else {
+        random.odd_number(open)
+    };
+    Block(block)
+}
+
+#[test]
+fn lookups() {
+    let mut random = Random::new(1);
+    for round in 0..ROUNDS {
+        let rows = if round % 4 == 0 { 1_000_000 } else { 40 };
+        let state = sound_state(&mut random, rows);
+        assert!(state.sound() && fast::sound(&state));
+        for _ in 0..50 {
+            let x = any_block(&mut random, &state);
+            assert_eq!(fast::address(&state, x), lookup::address(&state, x));
+            let d = random.below(state.disks() + 1);
+            let b = Row(random.below(state.s + 1));
+            assert_eq!(fast::holder(&state, d, b), lookup::holder(&state, d, b));
+        }
+    }
+}
+
+#[test]
+fn soundness_of_damaged_states() {
+    let mut random = Random::new(2);
+    for _ in 0..20 * ROUNDS {
+        let state = sound_state(&mut random, 40);
+        let state = State::from_words(&damage(&mut random, &state));
+        assert_eq!(fast::sound(&state), state.sound(), "{state:?}");
+    }
+}
+
+#[test]
+fn reads_and_writes() {
+    let mut random = Random::new(3);
+    for _ in 0..ROUNDS {
+        let state = any_state(&mut random);
+        let mut medium = any_medium(&mut random, &state);
+        let mut other = medium.clone();
+        for _ in 0..20 {
+            let x = any_block(&mut random, &state);
+            let short = random.percent(3) as u64;
+            let mut piece = vec![0; (state.z.min(65_536) - short.min(state.z)) as usize];
+            random.fill(&mut piece);
+            let mut copy = piece.clone();
+            assert_eq!(
+                fast::read(&state, &medium, x, &mut piece),
+                store::read(&state, &other, x, &mut copy)
+            );
+            assert_eq!(piece, copy);
+            random.fill(&mut piece);
+            assert_eq!(
+                fast::write(&state, &mut medium, x, &piece),
+                store::write(&state, &mut other, x, &piece)
+            );
+            assert_eq!(medium, other);
+        }
+    }
+}
+
+#[test]
+fn growths() {
+    let mut random = Random::new(4);
+    for _ in 0..ROUNDS {
+        let mut state = any_state(&mut random);
+        let mut medium = any_medium(&mut random, &state);
+        let mut other = medium.clone();
+        for _ in 0..20 {
+            let x = any_block(&mut random, &state);
+            let copied = fast::copy(state, &mut medium, x);
+            assert_eq!(copied, store::copy(state, &mut other, x));
+            state = copied.map_or(state, |next| next.0);
+            if random.percent(30) {
+                let recorded = fast::checkpoint(state, &mut medium);
+                assert_eq!(recorded, store::checkpoint(state, &mut other));
+                state = recorded.map_or(state, |next| next.0);
+            }
+            let advanced = fast::advance(state, &mut medium);
+            assert_eq!(advanced, store::advance(state, &mut other));
+            state = advanced.map_or(state, |next| next.0 .0);
+            assert_eq!(medium, other);
+        }
+    }
+}
+
+#[test]
+fn restarts() {
+    let mut random = Random::new(5);
+    for _ in 0..10 * ROUNDS {
+        let state = sound_state(&mut random, 10);
+        let mut medium = vec![0; 20_000];
+        let bytes = if random.percent(20) {
+            record::write(&state)
+        } else {
+            damaged_record(&mut random, &state)
+        };
+        medium[..RECORD].copy_from_slice(&bytes);
+        assert_eq!(fast::restart(&medium), store::restart(&medium));
+    }
+    assert_eq!(fast::restart(&[0; 511]), store::restart(&[0; 511]));
+}
