@@ -1,15 +1,15 @@
 -- What the code of the words needs besides: the marks of a word bit by bit, the word of marks from the last on, lists of numbers written
 -- out one by one, and a slice stored number by number. Assumes nothing.
-use Prim.Native.Nat.{ℕ, suc, _+_, _-_, _*_, _/_, _%_, _^_, _≤_, _<_}
-use mathlib.Core.Path.{_≡_, sym, ap, _∙_}
+use Prim.Native.Nat.{ℕ, zero, suc, _+_, _-_, _*_, _/_, _%_, _^_, _≤_, _<_}
+use mathlib.Core.Path.{_≡_, refl, sym, ap, _∙_}
 use mathlib.Core.Bool.{Bool, false, cond}
 use mathlib.Core.List.{List, [], _∷_, _++_, append-nil}
 use native.Mathlib.Numerals.{add-one}
 use native.Mathlib.Omega.{arith}
 use lib.Dec.{eqb}
-use lib.ListN.{length, take, drop, getD, set, length-drop, drop-of-length-le}
+use lib.ListN.{length, take, drop, getD, set, replicate, length-drop, drop-of-length-le, take-append-drop}
 use lib.Pow.{pow-mono}
-use lib.Seq.{take-all, take-suc, take-suc-set, drop-cons, append-snoc, set-split}
+use lib.Seq.{take-all, take-suc, take-suc-set, drop-cons, drop-drop, drop-set-lt, append-snoc, set-split}
 use Rattle.base.specs.Below.{table}
 use Rattle.base.proofs.Lists.{table-self}
 use Rattle.capi.specs.Words.{bits, wordOf}
@@ -30,6 +30,24 @@ bits-next n j word rest marks e h b =
 pub bits-all : (n word rest : ℕ) (marks : List Bool) → length marks ≡ n → bits n word ≡ take n marks ++ bits 0 rest → marks ≡ bits n word
 unfolding bits
 bits-all n word rest marks e b = sym (b ∙ append-nil (take n marks) ∙ take-all n marks (omega (arith, e)))
+
+-- a word with no further bits
+no-bits : (k : ℕ) → bits k 0 ≡ replicate k false
+unfolding bits
+no-bits zero = refl
+no-bits (suc k) = ap {B = List Bool} (λ l. false ∷ l) (no-bits k)
+
+pub bits-rest : (n j word : ℕ) (marks : List Bool) → bits n word ≡ take j marks ++ bits (n - j) 0 → drop j marks ≡ replicate (n - j) false
+    → marks ≡ bits n word
+bits-rest n j word marks b e = sym (b ∙ rw (no-bits (n - j), ← e) (take-append-drop j marks))
+
+-- the marks after the one stored are not set
+pub still-unset : (n j : ℕ) (marks : List Bool) (mark : Bool) → j < n → drop j marks ≡ replicate (n - j) false
+    → drop (j + 1) (set marks j mark) ≡ replicate (n - (j + 1)) false
+still-unset n j marks mark h e =
+    let k : n - j ≡ suc (n - suc j) = omega arith in
+    let d : drop 1 (drop j marks) ≡ replicate (n - suc j) false = rw (e, k) in
+    rw (add-one, drop-set-lt (suc j) marks j mark (omega arith)) (rw (drop-drop, add-one) at d)
 
 -- ---- the word of marks
 

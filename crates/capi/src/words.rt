@@ -10,13 +10,13 @@ pub fn marks_of(word: usize) -> [bool; 64]
     ensures { λ r. ⌜ r ≡ bits markCount word ⌝ }
 {
     let mut marks = [false; 64];
-    // No marks: the usual case, when no growth runs.
-    if word == 0 {
-        return marks;
-    }
     let mut rest = word;
     let mut j = 0;
     while j < 64 {
+        // No further marks: none at all while no growth runs.
+        if rest == 0 {
+            return marks;
+        }
         marks[j] = rest % 2 == 1;
         rest = rest / 2;
         j += 1;
