@@ -21,7 +21,7 @@ pub record Left : Type 0 where
   pub store : Store
   pub piece : List ℕ
 
--- the number of a lent slice that has the wrong length; no call has it
+-- the number where the lent words or figures have the wrong length; no call has it
 abbrev pub wrongLength : ℕ
 wrongLength = 100
 
@@ -44,7 +44,7 @@ handedBack figuresOf o =
       piece = o .piece;
     }
 
--- what a call leaves that looks up a spot: the words as they were, and nothing stored
+-- what a call leaves that only tells: the words as they were, and nothing stored
 unfoldable pub lookedUp : (number : ℕ) (figures words : List ℕ) → Left
 lookedUp number figures words = record { number = number; words = words; figures = figures; store = noStore; piece = [] }
 
@@ -91,7 +91,7 @@ holderLeft words p figures =
     let answer = holderReply (stateFrom words) p .answer in
     cond (lengthsFit words 1 figures) (lookedUp (holderNumber answer) (holderFigures answer) words) (untouched words figures [])
 
--- "1: state not sound", as a number of its own
+-- "1: state not sound", asked alone
 unfoldable pub soundnessLeft : (words : List ℕ) → Left
 soundnessLeft words =
     cond (lengthsFit words 0 []) (lookedUp (cond (sound (stateFrom words)) 0 1) [] words) (untouched words [] [])

@@ -14,6 +14,7 @@ use super::words::state_of;
 use layout::Block;
 use volume::Volume;
 
+// Makes a volume on the medium; the words then hold its state.
 #[no_mangle]
 pub extern "C" fn streterva_format(
     state: &mut [usize],
@@ -36,6 +37,7 @@ pub extern "C" fn streterva_format(
     number(answer)
 }
 
+// Takes the state from the record, after a power cut or at any time.
 #[no_mangle]
 pub extern "C" fn streterva_restart(
     state: &mut [usize],
@@ -56,6 +58,7 @@ pub extern "C" fn streterva_restart(
     hand_back(reply, state, figures)
 }
 
+// Saves a piece as a block.
 #[no_mangle]
 pub extern "C" fn streterva_write(
     state: &[usize],
@@ -75,6 +78,7 @@ pub extern "C" fn streterva_write(
     number(answer)
 }
 
+// Fills a piece with a block.
 #[no_mangle]
 pub extern "C" fn streterva_read(
     state: &[usize],
@@ -94,6 +98,7 @@ pub extern "C" fn streterva_read(
     number(answer)
 }
 
+// 0 where the words hold a sound state, else 1.
 #[no_mangle]
 pub extern "C" fn streterva_soundness(state: &[usize]) -> usize
     ensures { λ r. ⌜ r ≡ soundnessLeft (now (state .entry)) .number ⌝ }

@@ -16,6 +16,7 @@ use super::handed::put_state;
 use super::words::state_of;
 use layout::Block;
 
+// Starts a growth to so many disks.
 #[no_mangle]
 pub extern "C" fn streterva_grow(
     state: &mut [usize],
@@ -39,6 +40,7 @@ pub extern "C" fn streterva_grow(
     hand_back(reply, state, figures)
 }
 
+// Copies a block to its new spot.
 #[no_mangle]
 pub extern "C" fn streterva_copy(
     state: &mut [usize],
@@ -62,6 +64,7 @@ pub extern "C" fn streterva_copy(
     hand_back(reply, state, figures)
 }
 
+// Records the copies made.
 #[no_mangle]
 pub extern "C" fn streterva_checkpoint(
     state: &mut [usize],
@@ -84,6 +87,7 @@ pub extern "C" fn streterva_checkpoint(
     hand_back(reply, state, figures)
 }
 
+// Copies the next block or, when none is left in the window, records the copies.
 #[no_mangle]
 pub extern "C" fn streterva_advance(
     state: &mut [usize],

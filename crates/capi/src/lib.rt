@@ -11,7 +11,7 @@ mod handed;
 mod lookups;
 mod words;
 
-// The number of a lent slice that has the wrong length.
+// The number where the lent words or figures have the wrong length.
 const WRONG_LENGTH: usize = 100;
 
 // The words of a state, and the figures of the calls that report.

@@ -15,6 +15,7 @@ use layout::Block;
 use layout::Row;
 use layout::Spot;
 
+// Where a block lives, and why.
 #[no_mangle]
 pub extern "C" fn streterva_address(state: &[usize], block: usize, figures: &mut [usize]) -> usize
     ensures { λ r. ⌜ r ≡ addressLeft (now (state .entry)) block (now (figures .entry)) .number ⌝ }
@@ -34,6 +35,7 @@ pub extern "C" fn streterva_address(state: &[usize], block: usize, figures: &mut
     address_number(answer)
 }
 
+// The block that lives at a spot.
 #[no_mangle]
 pub extern "C" fn streterva_holder(
     state: &[usize],

@@ -62,7 +62,10 @@ fn main() -> ExitCode {
             seeds.all(|&seed| run(seed, Until::Task(TASKS), &mut counts)) && complete(&counts)
         }
         Some(&seconds) => {
-            let seed = arguments.get(1).copied().unwrap_or_else(seed_of_the_hour);
+            let seed = arguments
+                .get(1)
+                .copied()
+                .unwrap_or_else(seed_from_the_clock);
             println!("{seconds} seconds from seed {seed}");
             let end = start + Duration::from_secs(seconds);
             run(seed, Until::Time(end), &mut counts)
@@ -75,7 +78,7 @@ fn main() -> ExitCode {
     ExitCode::SUCCESS
 }
 
-fn seed_of_the_hour() -> u64 {
+fn seed_from_the_clock() -> u64 {
     let now = std::time::SystemTime::now().duration_since(std::time::UNIX_EPOCH);
     now.map_or(0, |it| it.as_nanos() as u64)
 }

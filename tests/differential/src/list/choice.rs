@@ -54,7 +54,7 @@ impl List<'_> {
     }
 
     pub fn format_call(&mut self) -> Call {
-        let (z, s, disks) = (self.habits.z, self.habits.s, self.habits.first);
+        let (z, s, disks) = (self.settings.z, self.settings.s, self.settings.first);
         let mut arguments = match self.model {
             Some(_) => [
                 self.random.pick(&[z, SECTOR]),
@@ -77,9 +77,9 @@ impl List<'_> {
         let disks = self.model.as_ref().map_or(1, |it| it.tally.disks());
         let any = self.random.odd_number(disks);
         let high = self.random.range(14, 18);
-        let some = self.random.range(1, self.habits.widest);
-        let more = disks + self.random.pick(&[some, some, self.habits.widest]);
-        let fits = more.min(self.habits.room);
+        let some = self.random.range(1, self.settings.widest);
+        let more = disks + self.random.pick(&[some, some, self.settings.widest]);
+        let fits = more.min(self.settings.room);
         self.random.pick(&[fits, fits, fits, fits, more, high, any])
     }
 

@@ -2,17 +2,17 @@
 //! and the tally.
 
 mod choice;
-mod habits;
+mod settings;
 
 use crate::call::Call;
 use crate::counts::{Counts, Event};
 use crate::model::{Model, Store};
 use crate::pair::{same, Answer, Changed, Difference, Pair};
 use crate::report::Step;
-use habits::Habits;
 use reference::limits::{GROWTHS, RECORD};
 use reference::sample::{damage, Random};
 use reference::state::{State, WORDS};
+use settings::Settings;
 
 /// What a cut left behind.
 #[derive(Clone, Copy, PartialEq, Eq, Debug)]
@@ -24,7 +24,7 @@ pub enum Cut {
 
 pub struct List<'a> {
     random: Random,
-    habits: Habits,
+    settings: Settings,
     pair: Pair,
     model: Option<Model>,
     log: &'a mut Vec<Step>,
@@ -33,9 +33,9 @@ pub struct List<'a> {
 
 /// Makes one list; its calls are left in `log`.
 pub fn run(mut random: Random, log: &mut Vec<Step>, counts: &mut Counts) -> Result<(), Difference> {
-    let habits = habits::choose(&mut random);
+    let settings = settings::choose(&mut random);
     let spare = random.pick(&[0, 0, 1, 511, 700]);
-    let bytes = RECORD + (habits.room * habits.s * habits.z) as usize + spare;
+    let bytes = RECORD + (settings.room * settings.s * settings.z) as usize + spare;
     let mut medium = vec![0; bytes];
     if random.percent(90) {
         random.fill(&mut medium);
@@ -43,7 +43,7 @@ pub fn run(mut random: Random, log: &mut Vec<Step>, counts: &mut Counts) -> Resu
     counts.lists += 1;
     let mut list = List {
         random,
-        habits,
+        settings,
         pair: Pair::new(medium),
         model: None,
         log,
@@ -65,7 +65,7 @@ impl List<'_> {
         }
         while self.model.is_none() {
             let call = self.format_call();
-            let cut = self.random.percent(self.habits.cuts);
+            let cut = self.random.percent(self.settings.cuts);
             self.step(call, cut)?;
         }
         Ok(())
@@ -96,7 +96,7 @@ impl List<'_> {
             7..=10 => self.read_back(),
             _ => {
                 let call = self.likely_call();
-                let cut = self.random.percent(self.habits.cuts);
+                let cut = self.random.percent(self.settings.cuts);
                 self.step(call, cut).map(|_| ())
             }
         }

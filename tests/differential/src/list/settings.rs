@@ -1,4 +1,4 @@
-//! What a list likes to do.
+//! What is chosen once for a list.
 
 use reference::limits::{DISKS, GROWTHS, SECTOR};
 use reference::sample::Random;
@@ -7,7 +7,7 @@ use reference::sample::Random;
 const MEDIUM: u64 = 200_000;
 
 /// The volume that a list formats, and how it grows it.
-pub struct Habits {
+pub struct Settings {
     pub z: u64,
     pub s: u64,
     pub first: u64,
@@ -19,7 +19,7 @@ pub struct Habits {
     pub cuts: u64,
 }
 
-pub fn choose(random: &mut Random) -> Habits {
+pub fn choose(random: &mut Random) -> Settings {
     let small = random.range(2, 4);
     let large = random.range(5, 128);
     let (sectors, rows) = match random.below(100) {
@@ -35,7 +35,7 @@ pub fn choose(random: &mut Random) -> Habits {
     let any = random.range(1, most);
     let first = random.pick(&[1, 1, 1, 2, 2, 3, 4, any]).min(most);
     let any = random.range(first, most);
-    Habits {
+    Settings {
         z,
         s,
         first,
@@ -46,9 +46,9 @@ pub fn choose(random: &mut Random) -> Habits {
 }
 
 /// A growth whose windows have all or nearly all 64 marks.
-fn widest_growth(random: &mut Random) -> Habits {
+fn widest_growth(random: &mut Random) -> Settings {
     let first = random.range(7, 9);
-    Habits {
+    Settings {
         z: SECTOR,
         s: random.range(14, 34),
         first,
