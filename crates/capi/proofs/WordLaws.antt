@@ -98,13 +98,14 @@ state-arrays words e =
       copied-length = bits-length markCount (getD words 14 0);
     }
 
+-- fifteen words, one by one, and the counts among them
 fifteen-listed : (l : List ℕ) → length l ≡ stateWords
     → l ≡ getD l 0 0 ∷ getD l 1 0 ∷ getD l 2 0 ∷ getD l 3 0 ∷ getD l 4 0 ∷ getD l 5 0 ∷ getD l 6 0 ∷ getD l 7 0
     ∷ getD l 8 0 ∷ getD l 9 0 ∷ getD l 10 0 ∷ getD l 11 0 ∷ getD l 12 0 ∷ getD l 13 0 ∷ getD l 14 0 ∷ []
 unfolding table
 fifteen-listed l e = sym (table-self 0 l stateWords e)
 
-counts-listed : (l : List ℕ) → length l ≡ stateWords
+pub counts-listed : (l : List ℕ) → length l ≡ stateWords
     → take 8 (drop 3 l) ≡ getD l 3 0 ∷ getD l 4 0 ∷ getD l 5 0 ∷ getD l 6 0 ∷ getD l 7 0 ∷ getD l 8 0 ∷ getD l 9 0 ∷ getD l 10 0 ∷ []
 counts-listed l e = ap (λ (k : List ℕ). take 8 (drop 3 k)) (fifteen-listed l e)
 

@@ -77,17 +77,6 @@ pub three-listed : (l : List ℕ) → length l ≡ 3 → getD l 0 0 ∷ getD l 1
 unfolding table
 three-listed l e = table-self 0 l 3 e
 
-fifteen-listed : (l : List ℕ) → length l ≡ 15
-    → l ≡ getD l 0 0 ∷ getD l 1 0 ∷ getD l 2 0 ∷ getD l 3 0 ∷ getD l 4 0 ∷ getD l 5 0 ∷ getD l 6 0 ∷ getD l 7 0
-    ∷ getD l 8 0 ∷ getD l 9 0 ∷ getD l 10 0 ∷ getD l 11 0 ∷ getD l 12 0 ∷ getD l 13 0 ∷ getD l 14 0 ∷ []
-unfolding table
-fifteen-listed l e = sym (table-self 0 l 15 e)
-
--- the counts among the words of a state
-pub counts-listed : (l : List ℕ) → length l ≡ 15
-    → take 8 (drop 3 l) ≡ getD l 3 0 ∷ getD l 4 0 ∷ getD l 5 0 ∷ getD l 6 0 ∷ getD l 7 0 ∷ getD l 8 0 ∷ getD l 9 0 ∷ getD l 10 0 ∷ []
-counts-listed l e = ap (λ (k : List ℕ). take 8 (drop 3 k)) (fifteen-listed l e)
-
 -- ---- a slice stored number by number
 
 pub put-next : (to from : List ℕ) (i : ℕ) → i < length to → i < length from → take i to ≡ take i from

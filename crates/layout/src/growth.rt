@@ -78,7 +78,7 @@ pub fn disk_after(m: usize, n: usize, p: Spot) -> usize
 }
 
 // The remainder of a by k, where a is less than two k: no division.
-fn once_around(a: usize, k: usize) -> usize
+fn reduce_once(a: usize, k: usize) -> usize
     requires { ⌜ a < k + k ⌝ }
     ensures { λ r. ⌜ r ≡ a % k ⌝ }
 {
@@ -95,8 +95,8 @@ pub fn added_disk(m: usize, n: usize, b: usize, q: usize) -> usize
     ensures { λ r. ⌜ r ≡ addedDisk m n b q ⌝ }
 {
     let k = m + n;
-    let first = once_around(b % k + (k - (n - 1)), k);
-    once_around(first + q, k)
+    let first = reduce_once(b % k + (k - (n - 1)), k);
+    reduce_once(first + q, k)
 }
 
 // The spot of block x after the growth, where p is its spot before.
@@ -141,7 +141,7 @@ pub fn added_index(m: usize, n: usize, d: usize, b: usize) -> usize
 {
     let k = m + n;
     let first = added_disk(m, n, b, 0);
-    once_around(d + (k - first), k)
+    reduce_once(d + (k - first), k)
 }
 
 // The old disk of the moved block that the added disk d has at row b1 of its window.

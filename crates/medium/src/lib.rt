@@ -34,6 +34,9 @@ fn place_of(g: Geometry, p: Spot) -> usize
     512 + (p.disk * g.rows + p.row.0) * g.size
 }
 
+// The bytes of the local array that a copy passes through.
+const MOST_COPIED: usize = 65_536;
+
 // Copies all of src to dst. Two loops, through a local array: of these the compiler makes one memmove, and the array is
 // gone. Of a single loop it can't, since it does not know that src and dst are apart.
 fn copy_all(src: &[u8], dst: &mut [u8])
@@ -42,7 +45,7 @@ fn copy_all(src: &[u8], dst: &mut [u8])
     ensures { λ _. ⌜ now (dst .exit) ≡ now (src .entry) ⌝ }
 {
     let n = src.len();
-    let mut held = [0u8; 65_536];
+    let mut held = [0u8; MOST_COPIED];
     let mut i = 0;
     while i < n {
         held[i] = src[i];
@@ -86,7 +89,7 @@ fn copy_bytes(medium: &mut [u8], from: usize, to: usize, n: usize)
     requires { ⌜ to + n ≤ length (now medium) ⌝ }
     ensures { λ _. ⌜ now (medium .exit) ≡ sets (now (medium .entry)) to (take n (drop from (now (medium .entry)))) ⌝ }
 {
-    let mut held = [0u8; 65_536];
+    let mut held = [0u8; MOST_COPIED];
     let mut i = 0;
     while i < n {
         held[i] = medium[from + i];

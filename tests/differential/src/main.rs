@@ -13,7 +13,7 @@ mod model;
 mod pair;
 mod report;
 
-/// The library under test, through the bindings.
+// The library under test, through the bindings.
 use streterva::raw as library;
 
 use counts::Counts;

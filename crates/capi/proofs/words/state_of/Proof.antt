@@ -1,7 +1,7 @@
 -- `state_of` meets its contract. Assumes nothing.
 use borrow.Author.Needs.{needs}
 use Rattle.capi.specs.Words.{stateFrom}
-use Rattle.capi.proofs.WordsCode.{counts-listed}
+use Rattle.capi.proofs.WordLaws.{counts-listed}
 use Rattle.capi.proofs.words.state_of.Statement.{statement}
 use Rattle.capi.proofs.words.state_of.Tie as tie
 

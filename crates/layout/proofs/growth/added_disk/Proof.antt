@@ -11,30 +11,30 @@ use Rattle.layout.proofs.growth.added_disk.Tie as tie
 add-k : tie.Need-add-k
 add-k c = search needs
 
-rem-once-around : tie.Need-rem-once-around
-rem-once-around c = search needs
+rem-reduce-once : tie.Need-rem-reduce-once
+rem-reduce-once c = search needs
 
-sub-once-around : tie.Need-sub-once-around
-sub-once-around c = search needs
+sub-reduce-once : tie.Need-sub-reduce-once
+sub-reduce-once c = search needs
 
-sub-once-around-2 : tie.Need-sub-once-around-2
-sub-once-around-2 c = search needs
+sub-reduce-once-2 : tie.Need-sub-reduce-once-2
+sub-reduce-once-2 c = search needs
 
-add-once-around : tie.Need-add-once-around
-add-once-around c = omega (arith, mod-lt (c .args .b) {m = c .args .m + c .args .n} (omega arith))
+add-reduce-once : tie.Need-add-reduce-once
+add-reduce-once c = omega (arith, mod-lt (c .args .b) {m = c .args .m + c .args .n} (omega arith))
 
-once-around-requires : tie.Need-once-around-requires
-once-around-requires c κs = omega (arith, mod-lt (c .args .b) {m = c .args .m + c .args .n} (omega arith))
+reduce-once-requires : tie.Need-reduce-once-requires
+reduce-once-requires c κs = omega (arith, mod-lt (c .args .b) {m = c .args .m + c .args .n} (omega arith))
 
 -- the first added block's disk is one of them
-first-there : (c : tie.After-once-around) → c .once-around .result < c .before .args .m + c .before .args .n
-first-there c = rw (c .once-around .ensures) (mod-lt _ (omega arith))
+first-there : (c : tie.After-reduce-once) → c .reduce-once .result < c .before .args .m + c .before .args .n
+first-there c = rw (c .reduce-once .ensures) (mod-lt _ (omega arith))
 
-add-once-around-2 : tie.Need-add-once-around-2
-add-once-around-2 c = omega (arith, first-there c)
+add-reduce-once-2 : tie.Need-add-reduce-once-2
+add-reduce-once-2 c = omega (arith, first-there c)
 
-once-around-requires-2 : tie.Need-once-around-requires-2
-once-around-requires-2 c κs = omega (arith, first-there c)
+reduce-once-requires-2 : tie.Need-reduce-once-requires-2
+reduce-once-requires-2 c κs = omega (arith, first-there c)
 
 returns : tie.Need-returns
 unfolding addedDisk minusMod
@@ -42,18 +42,18 @@ returns c =
     let a = c .before .before .args in
     let k = a .m + a .n in
     let e : (a .n - 1) % k ≡ a .n - 1 = mod-eq-of-lt (omega arith) in
-    rw (c .once-around2 .ensures, c .before .once-around .ensures, e, mod-add-mod (a .b) k (k - (a .n - 1)))
+    rw (c .reduce-once2 .ensures, c .before .reduce-once .ensures, e, mod-add-mod (a .b) k (k - (a .n - 1)))
 
 pub added-disk-spec : {M : Type 1} → statement M
 added-disk-spec =
     tie.close
     (tie.spec
     add-k
-    rem-once-around
-    sub-once-around
-    sub-once-around-2
-    add-once-around
-    once-around-requires
-    add-once-around-2
-    once-around-requires-2
+    rem-reduce-once
+    sub-reduce-once
+    sub-reduce-once-2
+    add-reduce-once
+    reduce-once-requires
+    add-reduce-once-2
+    reduce-once-requires-2
     returns)

@@ -14,21 +14,21 @@ add-k c = search needs
 added-disk-requires : tie.Need-added-disk-requires
 added-disk-requires c κs = search needs
 
-sub-once-around : tie.Need-sub-once-around
-sub-once-around c =
+sub-reduce-once : tie.Need-sub-reduce-once
+sub-reduce-once c =
     let a = c .before .args in
     let h : c .added-disk .result < a .m + a .n = rw (c .added-disk .ensures) (added-there (a .m) (a .n) (a .b) (omega arith) (omega arith) 0 (omega arith) .0) in
     omega arith
 
-add-once-around : tie.Need-add-once-around
-add-once-around c = search needs
+add-reduce-once : tie.Need-add-reduce-once
+add-reduce-once c = search needs
 
-once-around-requires : tie.Need-once-around-requires
-once-around-requires c κs = search needs
+reduce-once-requires : tie.Need-reduce-once-requires
+reduce-once-requires c κs = search needs
 
 returns : tie.Need-returns
 unfolding addedIndex addedDisk minusMod
-returns c = rw (c .once-around .ensures, c .before .added-disk .ensures, add-zero)
+returns c = rw (c .reduce-once .ensures, c .before .added-disk .ensures, add-zero)
 
 pub added-index-spec : {M : Type 1} → statement M
 added-index-spec =
@@ -36,7 +36,7 @@ added-index-spec =
     (tie.spec
     add-k
     added-disk-requires
-    sub-once-around
-    add-once-around
-    once-around-requires
+    sub-reduce-once
+    add-reduce-once
+    reduce-once-requires
     returns)
