@@ -1,14 +1,14 @@
--- Laws of lists: runs of elements stored (`sets` of the library), parts, and tables. Assumes nothing.
-use Prim.Native.Nat.{ℕ, zero, suc, _+_, _-_, _≤_, _<_}
+-- Laws of lists: runs of elements stored (`sets` of the library), parts, tables, and lists joined. Assumes nothing.
+use Prim.Native.Nat.{ℕ, zero, suc, _+_, _-_, _*_, _≤_, _<_}
 use mathlib.Core.Path.{_≡_, refl, sym, ap, _∙_}
 use mathlib.Core.List.{List, [], _∷_, _++_, append-assoc}
 use mathlib.Core.Logic.{_⊎_, inl, inr, ⊎-elim}
-use native.Mathlib.Nat.{add-zero, add-suc, suc-add, not-suc-le-zero, le-of-suc-le-suc, eq-or-lt-of-le}
+use native.Mathlib.Nat.{add-zero, add-suc, suc-add, zero-mul, suc-mul, not-suc-le-zero, le-of-suc-le-suc, eq-or-lt-of-le}
 use native.Mathlib.Numerals.{add-one}
 use native.Mathlib.Omega.{arith}
 use lib.ListN.{length, take, drop, getD, set, replicate, length-append, length-take, List·getD-append}
 use lib.Seq.{sets, sets-eq, take-at, drop-at, set-at, getD-at, append-snoc, drop-drop, drop-set-lt, drop-set-add, take-set-le, ext-getD}
-use Rattle.base.specs.Below.{table}
+use Rattle.base.specs.Below.{table, joined}
 
 module _ {A : Type 0} where
   -- ---- runs
@@ -86,3 +86,27 @@ module _ {A : Type 0} where
   table-next z n i f l h e =
       let k : n - i ≡ suc (n - suc i) = omega arith in
       rw (e, k, add-one) (set-at (table f i) z (replicate (n - suc i) z) (f i) i (length-table f i) ∙ sym (append-snoc (table f i) (f i) (replicate (n - suc i) z)))
+
+  -- ---- lists of one length, joined
+
+  module _ (f : ℕ → List A) (w : ℕ) (each : (i : ℕ) → length (f i) ≡ w) where
+    pub length-joined : (n : ℕ) → length (joined f n) ≡ n * w
+    unfolding joined
+    length-joined zero = sym (zero-mul w)
+    length-joined (suc n) = simp (length-append, length-joined n, each n) (sym (suc-mul n w))
+
+    -- the list at i, whatever follows
+    pub joined-part : (n i : ℕ) (rest : List A) → i < n → take w (drop (i * w) (joined f n ++ rest)) ≡ f i
+    unfolding joined
+    joined-part zero i rest h = absurd (not-suc-le-zero h)
+    joined-part (suc n) i rest h =
+        rw (append-assoc (joined f n) (f n) rest)
+        (⊎-elim
+        (λ (q : i ≡ n). rw (q, drop-at (joined f n) (f n ++ rest) (n * w) (length-joined n)) (take-at (f n) rest w (each n)))
+        (λ (q : i < n). joined-part n i (f n ++ rest) q)
+        (eq-or-lt-of-le (le-of-suc-le-suc h)))
+
+    -- one more, as a loop stores it from index k on
+    pub joined-next : (l : List A) (k i : ℕ) → sets (sets l k (joined f i)) (k + i * w) (f i) ≡ sets l k (joined f (i + 1))
+    unfolding joined
+    joined-next l k i = rw (add-one, sets-append l k (joined f i) (f i), length-joined i)

@@ -1,5 +1,5 @@
--- Numbers below a bound: how many pass a test, whether all do, the first and the lowest in rank that does, a sum over them, and the
--- list of a function's values at them. Assumes nothing.
+-- Numbers below a bound: how many pass a test, whether all do, the first and the lowest in rank that does, a sum over them, the list
+-- of a function's values at them, and lists joined. Assumes nothing.
 use Prim.Native.Nat.{ℕ, zero, suc, _+_}
 use mathlib.Core.Bool.{Bool, true, cond, _&&_}
 use mathlib.Core.List.{List, [], _∷_, _++_}
@@ -21,6 +21,11 @@ sum f (suc n) = sum f n + f n
 unfoldable pub table : {A : Type 0} (f : ℕ → A) (n : ℕ) → List A
 table f zero = []
 table f (suc n) = table f n ++ (f n ∷ [])
+
+-- the lists that a function gives at them, one after another
+unfoldable pub joined : {A : Type 0} (f : ℕ → List A) (n : ℕ) → List A
+joined f zero = []
+joined f (suc n) = joined f n ++ f n
 
 -- the first that passes, or the bound where none does
 unfoldable pub first : (p : ℕ → Bool) (n : ℕ) → ℕ

@@ -58,10 +58,12 @@ leading-read (suc w) zero h = fold-snoc Blank (leading w 0) space ∙ rw (leadin
 leading-read (suc w) (suc n) h =
     ap (columnFold Blank) (leading-suc w n) ∙ decimal-read w (suc n) (leading-read w (suc n / 10) (shorter (suc n) w h))
 
+pub decimal-found : (w n : ℕ) → n < 10 ^ suc w → columnFold Blank (decimal (suc w) n) ≡ Number n
+decimal-found w n h = decimal-read w n (leading-read w (n / 10) (shorter n w h))
+
 pub column-read : (n : ℕ) → n < 10 ^ columnWidth → readColumn (decimal columnWidth n) ≡ Number n
 unfolding readColumn
-column-read n h =
-    rw (eq-eqb _ _ (length-decimal columnWidth n)) (decimal-read 9 n (leading-read 9 (n / 10) (shorter n 9 h)))
+column-read n h = rw (eq-eqb _ _ (length-decimal columnWidth n)) (decimal-found 9 n h)
 
 pub blank-read : readColumn blank ≡ Blank
 unfolding readColumn blank columnFold columnStep

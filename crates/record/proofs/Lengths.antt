@@ -7,7 +7,7 @@ use native.Mathlib.Numerals.{add-one}
 use native.Mathlib.Omega.{arith}
 use lib.ListN.{length, getD, length-append}
 use Rattle.base.proofs.Booleans.{cond-cases}
-use Rattle.base.proofs.Lists.{length-table}
+use Rattle.base.proofs.Lists.{length-table, length-joined}
 use Rattle.record.specs.Decimal.{columnWidth, leading, decimal, blank}
 use Rattle.record.specs.Sector.{columnCount, markCount, growths, isBlank, field, columns, markBytes, ending, sector}
 
@@ -27,9 +27,7 @@ length-field t i n = cond-cases (λ (l : List ℕ). length l ≡ columnWidth) (i
 
 pub length-columns : (numbers : List ℕ) (k : ℕ) → length (columns numbers k) ≡ k * columnWidth
 unfolding columns
-length-columns numbers zero = refl
-length-columns numbers (suc k) =
-    simp (length-append, length-columns numbers k, length-field (growths numbers) k (getD numbers k 0)) (omega arith)
+length-columns numbers k = length-joined _ columnWidth (λ i. length-field (growths numbers) i (getD numbers i 0)) k
 
 pub length-marks : (marks : List Bool) (k : ℕ) → length (markBytes marks k) ≡ k
 unfolding markBytes

@@ -12,7 +12,8 @@ use lib.ListN.{length, take, drop, getD, replicate, length-take, length-drop, le
 use lib.Seq.{take-at, drop-at, take-add, drop-drop, getD-append-add, getD-take, getD-drop, ext-getD}
 use Rattle.base.proofs.Booleans.{cond-cases, and-both, clash, by-test}
 use Rattle.base.proofs.Counting.{every-use, every-make}
-use Rattle.base.proofs.Lists.{length-table, getD-table, table-ext, table-self}
+use Rattle.base.specs.Below.{joined}
+use Rattle.base.proofs.Lists.{length-table, getD-table, table-ext, table-self, joined-part}
 use Rattle.record.specs.declared.Column.{Column}
 use Rattle.record.specs.declared.Column.the-variants.{Number, Blank, NotANumber}
 use Rattle.record.specs.declared.RecordRead.{RecordRead}
@@ -45,14 +46,7 @@ ending-feed = refl
 columns-part : (numbers : List ℕ) (k i : ℕ) (rest : List ℕ) → i < k
     → take columnWidth (drop (i * columnWidth) (columns numbers k ++ rest)) ≡ fieldOf numbers i
 unfolding columns
-columns-part numbers zero i rest h = absurd (not-suc-le-zero h)
-columns-part numbers (suc k) i rest h =
-    rw (append-assoc (columns numbers k) (fieldOf numbers k) rest)
-    (⊎-elim
-    (λ (q : i ≡ k). rw (q, drop-at (columns numbers k) (fieldOf numbers k ++ rest) (k * columnWidth) (length-columns numbers k))
-    (take-at (fieldOf numbers k) rest columnWidth (length-field (growths numbers) k (getD numbers k 0))))
-    (λ (q : i < k). columns-part numbers k i (fieldOf numbers k ++ rest) q)
-    (eq-or-lt-of-le (le-of-suc-le-suc h)))
+columns-part numbers = joined-part (fieldOf numbers) columnWidth (λ i. length-field (growths numbers) i (getD numbers i 0))
 
 mark-is-mark : (mark : Bool) → isMark (markByte mark) ≡ true
 mark-is-mark true = refl
@@ -209,7 +203,7 @@ module _ (bytes : List ℕ) (held : Holds bytes) where
       }
 
   columns-are : (k : ℕ) → k ≤ columnCount → take (k * columnWidth) bytes ≡ columns (numbersOf bytes) k
-  unfolding columns
+  unfolding columns joined
   columns-are zero h = refl
   columns-are (suc k) h =
       let e : suc k * columnWidth ≡ k * columnWidth + columnWidth = omega arith in

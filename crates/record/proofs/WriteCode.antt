@@ -10,10 +10,10 @@ use lib.Dec.{eqb}
 use lib.ListN.{length, take, drop, getD, set, replicate, length-set, length-take, length-drop, drop-of-length-le}
 use lib.Seq.{sets, drop-cons, getD-set-same, drop-set-lt, append-snoc}
 use Rattle.base.specs.Below.{table}
-use Rattle.base.proofs.Lists.{sets-append, part-back}
+use Rattle.base.proofs.Lists.{sets-append, part-back, joined-next}
 use Rattle.record.specs.Decimal.{space, columnWidth, lastDigit, leading, decimal}
 use Rattle.record.specs.Sector.{columnCount, growths, markCount, markByte, lineFeed, field, columns, markBytes, ending, sector}
-use Rattle.record.proofs.Lengths.{length-columns, length-marks}
+use Rattle.record.proofs.Lengths.{length-field, length-columns, length-marks}
 
 -- ---- a number in a part
 
@@ -62,7 +62,7 @@ pub columns-next : (m numbers : List ℕ) (i : ℕ)
     → sets (sets m 0 (columns numbers i)) (i * columnWidth) (field (growths numbers) i (getD numbers i 0)) ≡ sets m 0 (columns numbers (i + 1))
 unfolding columns
 columns-next m numbers i =
-    rw (add-one, sets-append m 0 (columns numbers i) (field (growths numbers) i (getD numbers i 0)), length-columns numbers i, zero-add)
+    rw (← zero-add (i * columnWidth)) (joined-next _ columnWidth (λ j. length-field (growths numbers) j (getD numbers j 0)) m 0 i)
 
 pub marks-next : (m : List ℕ) (marks : List Bool) (i : ℕ)
     → set (sets m 130 (markBytes marks i)) (130 + i) (markByte (getD marks i false)) ≡ sets m 130 (markBytes marks (i + 1))

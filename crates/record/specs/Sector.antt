@@ -5,7 +5,7 @@ use mathlib.Core.Bool.{Bool, true, false, cond, _&&_, _||_}
 use mathlib.Core.List.{List, [], _∷_, _++_}
 use lib.Dec.{eqb, ltb}
 use lib.ListN.{length, take, drop, getD, replicate}
-use Rattle.base.specs.Below.{every, table}
+use Rattle.base.specs.Below.{every, table, joined}
 use Rattle.record.specs.declared.Column.{Column}
 use Rattle.record.specs.declared.Column.the-variants.{Number, Blank, NotANumber}
 use Rattle.record.specs.declared.NumbersRead.{NumbersRead}
@@ -41,8 +41,7 @@ field t i n = cond (isBlank t i) blank (decimal columnWidth n)
 
 -- "Z at byte 0, s at 10, t at 20, N[0] to N[7] from 30 (counts after N[t] blank), growing at 110, w at 120": the first k of them
 unfoldable pub columns : (numbers : List ℕ) (k : ℕ) → List ℕ
-columns numbers zero = []
-columns numbers (suc k) = columns numbers k ++ field (growths numbers) k (getD numbers k 0)
+columns numbers k = joined (λ i. field (growths numbers) i (getD numbers i 0)) k
 
 -- "the marks, '0' or '1'", the first k
 abbrev pub markByte : (mark : Bool) → ℕ

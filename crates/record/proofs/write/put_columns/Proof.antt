@@ -4,6 +4,7 @@ use mathlib.Core.Path.{_≡_, refl}
 use native.Mathlib.Omega.{arith}
 use lib.ListN.{length}
 use lib.Seq.{sets, length-sets}
+use Rattle.base.specs.Below.{joined}
 use Rattle.record.specs.Sector.{growths, columns}
 use Rattle.record.proofs.WriteCode.{columns-next}
 use Rattle.record.proofs.write.put_columns.Statement.{statement}
@@ -19,7 +20,7 @@ array-read-t : tie.Need-array-read-t Inv-loop μ-loop
 array-read-t c = omega arith
 
 loop-holds : tie.Need-loop-holds Inv-loop μ-loop
-unfolding columns
+unfolding columns joined
 loop-holds c = (omega arith, (refl, (refl, refl)))
 
 mul-put-field : tie.Need-mul-put-field Inv-loop μ-loop
