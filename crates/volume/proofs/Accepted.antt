@@ -19,7 +19,7 @@ use Rattle.marks.specs.Marks.{within}
 use Rattle.medium.specs.declared.Geometry.{Geometry}
 use Rattle.medium.specs.Medium.{recordBytes, bytesNeeded, Observations}
 use Rattle.volume.specs.declared.Volume.{Volume}
-use Rattle.volume.specs.Calls.{tooShort, formatTable, restartTable, growTable, writeTable, readTable, copyTable, checkpointTable, advanceTable, addressTable, holderTable, isNone}
+use Rattle.volume.specs.Calls.{tooShort, formatTable, restartTable, sectorTable, growTable, writeTable, readTable, copyTable, checkpointTable, advanceTable, addressTable, holderTable, isNone}
 use Rattle.volume.specs.Records.{stateRead, isSoundRecord}
 use Rattle.volume.specs.Sound.{sizeHolds, rowsHold, disksHold, sound}
 use Rattle.volume.specs.States.{geometry, historyOf, disks, tallyOf}
@@ -67,6 +67,12 @@ restart-accepted o e =
       is-record = b .0;
       room = long-enough (geometry u) (disks u) (o .byteCount) (c .0);
     }
+
+pub sector-accepted : (o : Observations) → refusal (sectorTable o) ≡ 0 → (recordBytes ≤ o .byteCount) × (isSoundRecord (o .sector) ≡ true)
+unfolding sectorTable restartTable
+sector-accepted o e =
+    let a = passed 2 (ltb (o .byteCount) recordBytes) _ (omega arith) e in
+    (ltb-false (o .byteCount) recordBytes (a .0), held 13 (isSoundRecord (o .sector)) [] (omega arith) (a .1) .0)
 
 pub record GrowFacts (v : Volume) (count len : ℕ) : Type 0 where
   pub is-sound : sound v ≡ true

@@ -18,7 +18,7 @@ use Rattle.volume.specs.declared.AddressReply.{AddressReply}
 use Rattle.volume.specs.declared.HolderAnswer.the-variants as holder
 use Rattle.volume.specs.declared.HolderReply.{HolderReply}
 use Rattle.volume.specs.Answers.{number, callsTold, addressNumber, spotTold, reasonTold, holderNumber, blockTold}
-use Rattle.volume.specs.Calls.{Outcome, refused, reporting, telling, judged, formatTable, formatOutcome, restartTable, restartOutcome, growTable, growOutcome, writeTable, writeOutcome, readTable, readOutcome, copyTable, copyOutcome, checkpointTable, checkpointOutcome, advanceTable, advancing, advanceOutcome, addressTable, addressReply, holderTable, holderReply}
+use Rattle.volume.specs.Calls.{Outcome, refused, reporting, telling, judged, formatTable, formatOutcome, restartTable, restartOutcome, sectorTable, sectorOutcome, growTable, growOutcome, writeTable, writeOutcome, readTable, readOutcome, copyTable, copyOutcome, checkpointTable, checkpointOutcome, advanceTable, advancing, advanceOutcome, addressTable, addressReply, holderTable, holderReply}
 use Rattle.volume.specs.Laws.{Refuses, AddressRefuses, HolderRefuses}
 use Rattle.volume.specs.States.{tallyOf, zeros}
 use Rattle.volume.proofs.Judged.{judged-cases}
@@ -52,6 +52,10 @@ format-refuses z s n o = judged-refuses (formatTable z s n (o .byteCount)) zeros
 pub restart-refuses : (o : Observations) → Refuses (restartTable o) zeros [] (restartOutcome o)
 unfolding restartOutcome reporting number
 restart-refuses o = judged-refuses (restartTable o) zeros [] _ refl
+
+pub sector-refuses : (o : Observations) → Refuses (sectorTable o) zeros [] (sectorOutcome o)
+unfolding sectorOutcome reporting number
+sector-refuses o = judged-refuses (sectorTable o) zeros [] _ refl
 
 pub grow-refuses : (v : Volume) (count : ℕ) (o : Observations) → Refuses (growTable v count (o .byteCount)) v [] (growOutcome v count o)
 unfolding growOutcome reporting number

@@ -23,12 +23,12 @@ use Rattle.marks.specs.Marks.{markCount, noMarks, within}
 use Rattle.marks.proofs.MarkSets.{within-self, none-within, none-length, set-within, within-set, its-mark, one-unmarked, all-by-marks, some-moving}
 use Rattle.medium.specs.Medium.{Observations}
 use Rattle.volume.specs.declared.Volume.{Volume}
-use Rattle.volume.specs.Calls.{formatTable, restartTable, growTable}
+use Rattle.volume.specs.Calls.{formatTable, restartTable, sectorTable, growTable}
 use Rattle.volume.specs.Laws.{RestFacts, GrowthFacts, SoundFacts}
 use Rattle.volume.specs.Records.{stateRead}
 use Rattle.volume.specs.Sound.{rowsHold, disksHold, movingOf, sound}
 use Rattle.volume.specs.States.{historyOf, disks, tallyOf, newState, withGrowth, grown, inStage, withCopy, checkpointed}
-use Rattle.volume.proofs.Accepted.{GrowFacts, format-accepted, restart-accepted, grow-accepted}
+use Rattle.volume.proofs.Accepted.{GrowFacts, format-accepted, restart-accepted, sector-accepted, grow-accepted}
 use Rattle.volume.proofs.RecordLaws.{read-sound}
 use Rattle.volume.proofs.SoundLaws.{SizeFacts, size-facts, from-one, sound-facts, some-old, facts-sound}
 
@@ -67,6 +67,9 @@ format-sound z s n byteCount e =
 
 pub restart-sound : (o : Observations) → refusal (restartTable o) ≡ 0 → sound (stateRead (o .sector)) ≡ true
 restart-sound o e = read-sound (o .sector) (restart-accepted o e .is-record)
+
+pub sector-sound : (o : Observations) → refusal (sectorTable o) ≡ 0 → sound (stateRead (o .sector)) ≡ true
+sector-sound o e = read-sound (o .sector) (sector-accepted o e .1)
 
 -- ---- grow
 

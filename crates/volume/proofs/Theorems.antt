@@ -3,9 +3,9 @@ use Rattle.volume.specs.Laws.{VolumeLaws}
 use Rattle.volume.proofs.CopyLaws.{copy-source, no-copy-waiting}
 use Rattle.volume.proofs.LookUpLaws.{look-ups-of, holder-of-address, address-of-holder, at-rest-no-15}
 use Rattle.volume.proofs.RecordLaws.{record-length, record-read, read-sound, read-recorded, read-no-copies, not-a-record}
-use Rattle.volume.proofs.RefusalLaws.{format-refuses, restart-refuses, grow-refuses, write-refuses, read-refuses, copy-refuses, checkpoint-refuses, advance-refuses, address-refuses, holder-refuses}
+use Rattle.volume.proofs.RefusalLaws.{format-refuses, restart-refuses, sector-refuses, grow-refuses, write-refuses, read-refuses, copy-refuses, checkpoint-refuses, advance-refuses, address-refuses, holder-refuses}
 use Rattle.volume.proofs.SoundLaws.{sound-facts, facts-sound}
-use Rattle.volume.proofs.StatesSound.{format-sound, restart-sound, grown-sound, copied-sound, checkpointed-sound}
+use Rattle.volume.proofs.StatesSound.{format-sound, restart-sound, sector-sound, grown-sound, copied-sound, checkpointed-sound}
 use Rattle.volume.proofs.StoresFit.{format-fits, grow-fits, write-fits, copy-fits, checkpoint-fits, advance-fits}
 
 pub volume-laws : VolumeLaws
@@ -22,6 +22,7 @@ volume-laws =
       format-sound = format-sound;
       grown-sound = grown-sound;
       restart-sound = restart-sound;
+      sector-sound = sector-sound;
       copied-sound = copied-sound;
       checkpointed-sound = checkpointed-sound;
       format-fits = format-fits;
@@ -32,6 +33,7 @@ volume-laws =
       advance-fits = advance-fits;
       format-refuses = format-refuses;
       restart-refuses = restart-refuses;
+      sector-refuses = sector-refuses;
       grow-refuses = grow-refuses;
       write-refuses = write-refuses;
       read-refuses = read-refuses;

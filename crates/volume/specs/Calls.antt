@@ -5,7 +5,7 @@ use mathlib.Core.Bool.{Bool, true, false, cond, not}
 use mathlib.Core.List.{List, [], _∷_}
 use mathlib.Core.Option.{Option, none, some}
 use lib.Dec.{eqb, leb, ltb}
-use lib.ListN.{length}
+use lib.ListN.{length, take}
 use Rattle.base.specs.Refusals.{refusal}
 use Rattle.layout.specs.declared.Spot.{Spot}
 use Rattle.layout.specs.Limits.{mostDisks, mostGrowths}
@@ -80,6 +80,14 @@ restartTable o =
 
 unfoldable pub restartOutcome : (o : Observations) → Outcome
 restartOutcome o = judged (restartTable o) (λ k. refused zeros k []) (reporting (stateRead (o .sector)) noStore)
+
+-- ---- A record sector with no medium behind it, "by restart's rules, 2 for fewer and then 13 but no further 2": document 02, W1.
+
+unfoldable pub sectorTable : (o : Observations) → List (ℕ × Bool)
+sectorTable o = take 2 (restartTable o)
+
+unfoldable pub sectorOutcome : (o : Observations) → Outcome
+sectorOutcome o = judged (sectorTable o) (λ k. refused zeros k []) (reporting (stateRead (o .sector)) noStore)
 
 -- ---- "Grow to a count: 1; 6, growing already; 9, t = 7; 8, count not above N[t] or above 16; 2. It stores the record with the count
 -- added, growing 1, w 0, no marks."

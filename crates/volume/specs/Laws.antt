@@ -17,7 +17,7 @@ use Rattle.marks.specs.Marks.{markCount, noMarks, within}
 use Rattle.medium.specs.Medium.{recordBytes, Observations, observe, noStore, StoreFits}
 use Rattle.volume.specs.declared.Volume.{Volume}
 use Rattle.volume.specs.Answers.{number, callsTold, addressNumber, spotTold, reasonTold, holderNumber, blockTold}
-use Rattle.volume.specs.Calls.{Outcome, formatTable, formatOutcome, restartTable, restartOutcome, growTable, growOutcome, writeTable, writeOutcome, readTable, readOutcome, copyTable, copyOutcome, checkpointTable, checkpointOutcome, advanceTable, advanceOutcome, addressTable, addressReply, holderTable, holderReply}
+use Rattle.volume.specs.Calls.{Outcome, formatTable, formatOutcome, restartTable, restartOutcome, sectorTable, sectorOutcome, growTable, growOutcome, writeTable, writeOutcome, readTable, readOutcome, copyTable, copyOutcome, checkpointTable, checkpointOutcome, advanceTable, advanceOutcome, addressTable, addressReply, holderTable, holderReply}
 use Rattle.volume.specs.Records.{recordOf, stateRead, isSoundRecord}
 use Rattle.volume.specs.Sound.{sizeStep, mostSize, movingOf, sound}
 use Rattle.volume.specs.States.{geometry, historyOf, tallyOf, newState, zeros, grown, recordedOnly, withCopy, checkpointed}
@@ -90,6 +90,7 @@ pub record VolumeLaws : Type 0 where
   pub format-sound : (z s n byteCount : ℕ) → refusal (formatTable z s n byteCount) ≡ 0 → sound (newState z s n) ≡ true
   pub grown-sound : (v : Volume) (count byteCount : ℕ) → refusal (growTable v count byteCount) ≡ 0 → sound (grown v count) ≡ true
   pub restart-sound : (o : Observations) → refusal (restartTable o) ≡ 0 → sound (stateRead (o .sector)) ≡ true
+  pub sector-sound : (o : Observations) → refusal (sectorTable o) ≡ 0 → sound (stateRead (o .sector)) ≡ true
   pub copied-sound : (v : Volume) (x : ℕ) → sound v ≡ true → v .growing ≢ 0 → movesNow (tallyOf v) x ≡ true → sound (withCopy v x) ≡ true
   pub checkpointed-sound : (v : Volume) → sound v ≡ true → v .growing ≢ 0 → sound (checkpointed v) ≡ true
   -- what is stored lies in the medium; a copy stores bytes of that medium
@@ -103,6 +104,7 @@ pub record VolumeLaws : Type 0 where
   -- refusals
   pub format-refuses : (z s n : ℕ) (o : Observations) → Refuses (formatTable z s n (o .byteCount)) zeros [] (formatOutcome z s n o)
   pub restart-refuses : (o : Observations) → Refuses (restartTable o) zeros [] (restartOutcome o)
+  pub sector-refuses : (o : Observations) → Refuses (sectorTable o) zeros [] (sectorOutcome o)
   pub grow-refuses : (v : Volume) (count : ℕ) (o : Observations) → Refuses (growTable v count (o .byteCount)) v [] (growOutcome v count o)
   pub write-refuses : (v : Volume) (x : ℕ) (piece : List ℕ) (o : Observations)
       → Refuses (writeTable v x (length piece) (o .byteCount)) v piece (writeOutcome v x piece o)

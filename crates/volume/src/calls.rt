@@ -4,7 +4,7 @@ ghost use mathlib.Core.Bool.{true};
 ghost use Rattle.base.specs.Refusals.{refusal};
 ghost use Rattle.layout.specs.Tally.{callsLeftOf};
 ghost use Rattle.medium.specs.Medium.{observe, apply};
-ghost use Rattle.volume.specs.Calls.{formatTable, formatOutcome, restartOutcome, growTable, growOutcome, writeTable, writeOutcome, readTable, readOutcome};
+ghost use Rattle.volume.specs.Calls.{formatTable, formatOutcome, restartOutcome, sectorOutcome, growTable, growOutcome, writeTable, writeOutcome, readTable, readOutcome};
 ghost use Rattle.volume.specs.Sound.{sound};
 ghost use Rattle.volume.specs.States.{geometry, tallyOf};
 use super::Answer;
@@ -75,15 +75,14 @@ impl Volume {
         }
     }
 
-    // Takes the state from the record, after a power cut or at any time.
-    pub fn restart(medium: &[u8]) -> Reply
-        ensures { λ r. ⌜ r ≡ restartOutcome (observe (now (medium .entry))) .reply ⌝ }
+    // The state of a record sector that stands alone: restart, but that no disks need to be there.
+    pub fn from_sector(sector: &[u8]) -> Reply
+        ensures { λ r. ⌜ r ≡ sectorOutcome (observe (now (sector .entry))) .reply ⌝ }
     {
-        let len = medium.len();
-        if len < 512 {
+        if sector.len() < 512 {
             return Volume::zeros().refuse(2);
         }
-        let found = record::read_record(&medium[0..512]);
+        let found = record::read_record(&sector[0..512]);
         if found.refusal != 0 {
             return Volume::zeros().refuse(13);
         }
@@ -93,10 +92,23 @@ impl Volume {
         if !v.is_sound() {
             return Volume::zeros().refuse(13);
         }
-        if v.is_short(v.disk_count(), len) {
+        v.report()
+    }
+
+    // Takes the state from the record, after a power cut or at any time.
+    pub fn restart(medium: &[u8]) -> Reply
+        ensures { λ r. ⌜ r ≡ restartOutcome (observe (now (medium .entry))) .reply ⌝ }
+    {
+        let reply = Volume::from_sector(medium);
+        let answer = reply.answer;
+        let Answer::CallsLeft(_) = answer else {
+            return reply;
+        };
+        let v = reply.state;
+        if v.is_short(v.disk_count(), medium.len()) {
             return Volume::zeros().refuse(2);
         }
-        v.report()
+        reply
     }
 
     pub(crate) fn grow_refusal(self, count: usize, len: usize) -> usize
