@@ -27,12 +27,14 @@ impl Volume {
         }
     }
 
-    // N[t].
-    pub(crate) fn disk_count(self) -> usize
-        requires { ⌜ sound self ≡ true ⌝ }
+    // N[t]; 0 where t is above its limit.
+    pub fn disk_count(self) -> usize
         ensures { λ r. ⌜ r ≡ disks self ⌝ }
     {
         let t = self.growths;
+        if Volume::MOST_GROWTHS < t {
+            return 0;
+        }
         let counts = self.counts;
         counts[t]
     }

@@ -22,7 +22,7 @@ unfolding refusal advanceTable
 returns c = simp (← c .before .is-sound .ensures, not-true (c .before .is-sound .result) (c .if1 .taken))
 
 disk-count-requires : tie.Need-disk-count-requires
-disk-count-requires c κs = is-sound c
+disk-count-requires c κs = search needs
 
 is-short-requires : tie.Need-is-short-requires
 is-short-requires c κs =

@@ -44,7 +44,7 @@ unfolding refusal growTable
 returns-3 c = simp (passes (c .before .before .before .before), at-rest (c .before .before), eq-eqb _ _ (c .if3 .taken))
 
 disk-count-requires : tie.Need-disk-count-requires
-disk-count-requires c κs = passes (c .before .before .before .before)
+disk-count-requires c κs = search needs
 
 returns-4 : tie.Need-returns-4
 unfolding refusal growTable

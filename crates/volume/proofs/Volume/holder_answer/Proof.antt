@@ -23,7 +23,7 @@ unfolding refusal holderTable holderReply
 returns c = simp (← c .before .is-sound .ensures, not-true (c .before .is-sound .result) (c .if1 .taken))
 
 disk-count-requires : tie.Need-disk-count-requires
-disk-count-requires c κs = is-sound c
+disk-count-requires c κs = search needs
 
 returns-2 : tie.Need-returns-2
 unfolding refusal holderTable holderReply

@@ -41,7 +41,7 @@ state-sound : (c : tie.After-v) → sound (c .before .before .before .from-secto
 state-sound c = rw (state c) (sector-sound _ (taken c .0))
 
 disk-count-requires : tie.Need-disk-count-requires
-disk-count-requires c κs = state-sound c
+disk-count-requires c κs = search needs
 
 is-short-requires : tie.Need-is-short-requires
 is-short-requires c κs = (state-sound (c .before), rw (c .disk-count .ensures) (disks-most _ (state-sound (c .before))))
