@@ -1,0 +1,4 @@
+pub mod Parts
+pub mod Lengths
+pub mod LinesCode
+pub mod PagesCode

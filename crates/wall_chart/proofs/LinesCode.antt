@@ -1,0 +1,41 @@
+-- What the code of the lines needs. Assumes nothing.
+use Prim.Native.Nat.{ℕ, _+_, _-_, _*_, _≤_}
+use mathlib.Core.Path.{_≡_, refl, sym, _∙_}
+use mathlib.Core.List.{List, [], _∷_, _++_, append-nil}
+use native.Mathlib.Nat.{zero-add}
+use native.Mathlib.Omega.{arith}
+use lib.ListN.{length, take, drop, set, drop-of-length-le}
+use lib.Seq.{sets}
+use Rattle.base.specs.Below.{joined}
+use Rattle.base.proofs.Lists.{sets-append, length-joined}
+use Rattle.record.specs.Decimal.{columnWidth, decimal}
+use Rattle.record.specs.Sector.{lineFeed}
+use Rattle.wall_chart.specs.Chart.{heading, dash, rowWidth, line}
+use Rattle.wall_chart.proofs.Lengths.{length-heading, length-line}
+use Rattle.wall_chart.proofs.Parts.{front-stored, whole-stored}
+
+-- the heading, copied
+pub heading-stored : (m : List ℕ) → 6 ≤ length m → heading ++ drop 6 m ≡ sets m 0 heading
+heading-stored m h = rw length-heading at (front-stored m heading (rw length-heading h))
+
+-- "-" in ten bytes
+pub dash-stored : (m : List ℕ) → length m ≡ 10 → dash ++ drop 10 m ≡ dash
+dash-stored m e =
+    let past : length m ≤ 10 = omega arith in
+    rw (drop-of-length-le m {i = 10} past) (append-nil dash)
+
+-- a line from its three parts
+pub line-parts : (m start : List ℕ) (ten : ℕ → List ℕ) (count : ℕ) → length m ≡ 6 + count * 10 + 1 → length start ≡ rowWidth
+    → ((i : ℕ) → length (ten i) ≡ columnWidth)
+    → set (sets (sets m 0 start) 6 (joined ten count)) (6 + count * 10) lineFeed ≡ line start ten count
+unfolding line
+line-parts m start ten count long six each =
+    let whole = whole-stored m (line start ten count) (length-line start ten count six each ∙ sym long) in
+    sym
+    (sym whole
+    ∙ rw (
+      sets-append m 0 start (joined ten count ++ (lineFeed ∷ [])),
+      six,
+      sets-append (sets m 0 start) 6 (joined ten count) (lineFeed ∷ []),
+      length-joined ten columnWidth each count,
+    ))

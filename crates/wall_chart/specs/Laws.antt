@@ -1,0 +1,1 @@
+-- What is proved of the chart: `ChartLaws`. `proofs/Theorems.antt` has the proof. Assumes nothing.

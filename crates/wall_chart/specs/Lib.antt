@@ -1,0 +1,3 @@
+pub mod Chart
+pub mod Pages
+pub mod Laws
