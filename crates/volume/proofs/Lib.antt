@@ -13,6 +13,7 @@ pub mod Theorems
 pub mod RecordCode
 pub mod LiveCode
 pub mod CallsCode
+pub mod SectorCode
 pub mod BlockCode
 pub mod HolderCode
 pub mod GrowthCode

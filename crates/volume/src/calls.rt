@@ -101,9 +101,9 @@ impl Volume {
     {
         let reply = Volume::from_sector(medium);
         let answer = reply.answer;
-        let Answer::CallsLeft(_) = answer else {
+        if let Answer::Refused(_) = answer {
             return reply;
-        };
+        }
         let v = reply.state;
         if v.is_short(v.disk_count(), medium.len()) {
             return Volume::zeros().refuse(2);

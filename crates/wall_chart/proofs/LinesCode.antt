@@ -5,7 +5,7 @@ use mathlib.Core.List.{List, [], _∷_, _++_, append-nil}
 use native.Mathlib.Nat.{zero-add}
 use native.Mathlib.Omega.{arith}
 use lib.ListN.{length, take, drop, set, drop-of-length-le}
-use lib.Seq.{sets}
+use lib.Seq.{sets, length-sets}
 use Rattle.base.specs.Below.{joined}
 use Rattle.base.proofs.Lists.{sets-append, length-joined}
 use Rattle.record.specs.Decimal.{columnWidth, decimal}
@@ -39,3 +39,12 @@ line-parts m start ten count long six each =
       sets-append (sets m 0 start) 6 (joined ten count) (lineFeed ∷ []),
       length-joined ten columnWidth each count,
     ))
+
+-- as the code stores its last byte
+pub line-made : (m l start : List ℕ) (ten : ℕ → List ℕ) (count : ℕ) → length m ≡ 6 + count * 10 + 1 → length start ≡ rowWidth
+    → ((i : ℕ) → length (ten i) ≡ columnWidth) → l ≡ sets (sets m 0 start) 6 (joined ten count)
+    → set l (length l - 1) lineFeed ≡ line start ten count
+line-made m l start ten count long six each stored =
+    let n : length l ≡ length m = rw stored (length-sets (sets m 0 start) 6 (joined ten count) ∙ length-sets m 0 start) in
+    let last : length l - 1 ≡ 6 + count * 10 = omega arith in
+    rw (last, stored) (line-parts m start ten count long six each)

@@ -5,7 +5,7 @@ use mathlib.Core.List.{List, _++_, append-nil}
 use native.Mathlib.Nat.{zero-add}
 use native.Mathlib.Omega.{arith}
 use lib.ListN.{length, take, drop, length-take, length-drop, drop-of-length-le}
-use lib.Seq.{sets, sets-eq}
+use lib.Seq.{sets, sets-eq, length-sets}
 use Rattle.base.specs.Below.{joined}
 use Rattle.base.proofs.Lists.{part-back, joined-next}
 
@@ -23,8 +23,13 @@ lent-length m at w h = simp (length-take, length-drop) (omega arith)
 
 -- a list more, as the part that was lent for it brings it back
 module _ (f : ℕ → List ℕ) (w : ℕ) (each : (i : ℕ) → length (f i) ≡ w) where
+  abbrev brought : (l part : List ℕ) (at : ℕ) → List ℕ
+  brought l part at = take at l ++ (part ++ drop (at + w - at) (drop at l))
+
   pub next-back : (m l part : List ℕ) (k i : ℕ) → k + i * w + w ≤ length l → l ≡ sets m k (joined f i) → part ≡ f i
-      → take (k + i * w) l ++ (part ++ drop (k + i * w + w - (k + i * w)) (drop (k + i * w) l)) ≡ sets m k (joined f (i + 1))
+      → (brought l part (k + i * w) ≡ sets m k (joined f (i + 1))) × (length (brought l part (k + i * w)) ≡ length m)
   next-back m l part k i h stored put =
       let n : length part ≡ k + i * w + w - (k + i * w) = rw (put, each i) (omega arith) in
-      part-back l part (k + i * w) (k + i * w + w) (omega arith) h n ∙ rw (stored, put) (joined-next f w each m k i)
+      let e : brought l part (k + i * w) ≡ sets m k (joined f (i + 1)) =
+      part-back l part (k + i * w) (k + i * w + w) (omega arith) h n ∙ rw (stored, put) (joined-next f w each m k i) in
+      (e, rw e (length-sets m k (joined f (i + 1))))

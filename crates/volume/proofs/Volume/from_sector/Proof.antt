@@ -13,7 +13,7 @@ use Rattle.volume.specs.Calls.{reporting, sectorOutcome}
 use Rattle.volume.specs.Records.{stateRead, isSoundRecord}
 use Rattle.volume.specs.Sound.{sound}
 use Rattle.volume.specs.States.{zeros}
-use Rattle.volume.proofs.CallsCode.{unread, read-back, below-record, record-or-not}
+use Rattle.volume.proofs.SectorCode.{unread, read-back, below-record, record-or-not}
 use Rattle.volume.proofs.Judged.{refused-reply, accepted-reply}
 use Rattle.volume.proofs.Volume.from_sector.Statement.{statement}
 use Rattle.volume.proofs.Volume.from_sector.Tie as tie

@@ -1,7 +1,7 @@
 use Prim.Native.Nat.{_-_, _+_, _*_, _≤_}
-use mathlib.Core.Path.{_≡_, refl, sym, ap, _∙_}
+use mathlib.Core.Path.{_≡_, refl}
 use lib.ListN.{length}
-use lib.Seq.{sets, length-sets}
+use lib.Seq.{sets}
 use Rattle.base.specs.Below.{joined}
 use Rattle.wall_chart.specs.Chart.{cell, cellAt}
 use Rattle.wall_chart.proofs.Lengths.{length-cell-at}
@@ -63,8 +63,7 @@ loop-again c =
     let a = c .before .before .before .before .before .before .before .before .args in
     let room : 6 + lp .d * 10 + 10 ≤ length (lp .line) = omega arith in
     let put : c .before .before .put-cell .last .0 ≡ cellAt (a .v) (a .b) (lp .d) = rw (c .before .before .before .before .holder .ensures) at (c .before .before .put-cell .ensures) in
-    let next = next-back (cellAt (a .v) (a .b)) 10 (length-cell-at (a .v) (a .b)) (a .line .now) (lp .line) _ 6 (lp .d) room (lp .inv .1 .0) put in
-    (omega arith, (next, ap length next ∙ length-sets (a .line .now) 6 (joined (cellAt (a .v) (a .b)) (lp .d + 1))))
+    (omega arith, next-back (cellAt (a .v) (a .b)) 10 (length-cell-at (a .v) (a .b)) (a .line .now) (lp .line) _ 6 (lp .d) room (lp .inv .1 .0) put)
 
 same-length : tie.Need-same-length Inv-loop μ-loop
 same-length c = c .before .loop .inv .1 .1

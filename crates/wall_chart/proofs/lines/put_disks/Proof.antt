@@ -1,7 +1,7 @@
 use Prim.Native.Nat.{_-_, _+_, _*_, _≤_}
-use mathlib.Core.Path.{_≡_, refl, sym, ap, _∙_}
+use mathlib.Core.Path.{_≡_, refl}
 use lib.ListN.{length}
-use lib.Seq.{sets, length-sets}
+use lib.Seq.{sets}
 use Rattle.base.specs.Below.{joined}
 use Rattle.record.specs.Decimal.{columnWidth, decimal}
 use Rattle.record.proofs.Lengths.{length-decimal}
@@ -57,8 +57,7 @@ loop-again c =
     let a = c .before .before .before .before .before .before .before .args in
     let room : 6 + lp .d * 10 + 10 ≤ length (lp .line) = omega arith in
     let put : c .before .before .put-number .last .0 ≡ decimal columnWidth (lp .d) = rw (lent-length (lp .line) (6 + lp .d * 10) 10 room) at (c .before .before .put-number .ensures) in
-    let next = next-back (decimal columnWidth) 10 (length-decimal columnWidth) (a .line .now) (lp .line) _ 6 (lp .d) room (lp .inv .1 .0) put in
-    (omega arith, (next, ap length next ∙ length-sets (a .line .now) 6 (joined (decimal columnWidth) (lp .d + 1))))
+    (omega arith, next-back (decimal columnWidth) 10 (length-decimal columnWidth) (a .line .now) (lp .line) _ 6 (lp .d) room (lp .inv .1 .0) put)
 
 same-length : tie.Need-same-length Inv-loop μ-loop
 same-length c = c .before .loop .inv .1 .1

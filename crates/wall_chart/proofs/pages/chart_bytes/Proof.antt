@@ -1,3 +1,7 @@
+use mathlib.Core.Path.{_≡_}
+use Prim.Native.Nat.{_+_, _*_}
+use Rattle.wall_chart.proofs.PagesCode.{one-row-more, bytes-most}
+use native.Mathlib.Omega.{arith}
 use borrow.Author.Needs.{needs}
 use Rattle.wall_chart.proofs.pages.chart_bytes.Statement.{statement}
 use Rattle.wall_chart.proofs.pages.chart_bytes.Tie as tie
@@ -5,25 +9,23 @@ use Rattle.wall_chart.proofs.pages.chart_bytes.Reads as reads
 use Rattle.wall_chart.proofs.pages.chart_bytes.Lts as lts
 use Rattle.wall_chart.proofs.pages.text_bytes.Reads as text-bytes-reads
 
--- src/pages.rt:32:9
 text-bytes-requires : tie.Need-text-bytes-requires
 text-bytes-requires c κs = search needs
 
--- src/pages.rt:33:17
 add-width : tie.Need-add-width
 add-width c = search needs
 
--- src/pages.rt:34:5
+width : (c : tie.After-text-bytes) → c .text-bytes .result + 1 ≡ 6 + c .before .args .disks * 10 + 1
+width c = omega arith
+
 mul-result : tie.Need-mul-result
-mul-result c = ?
+mul-result c = rw (width c) (omega (arith, bytes-most (c .before .args .rows) (c .before .args .disks) (c .before .pre .0) (c .before .pre .1)))
 
--- src/pages.rt:34:5
 add-result : tie.Need-add-result
-add-result c = ?
+add-result c = rw (width c) (omega (arith, bytes-most (c .before .args .rows) (c .before .args .disks) (c .before .pre .0) (c .before .pre .1)))
 
--- src/pages.rt:28:1
 returns : tie.Need-returns
-returns c = ?
+returns c = rw (width c) (one-row-more (c .before .args .rows) (6 + c .before .args .disks * 10 + 1))
 
 pub chart-bytes-spec : {M : Type 1} → statement M
 chart-bytes-spec = tie.close (tie.spec text-bytes-requires add-width mul-result add-result returns)
