@@ -1,13 +1,13 @@
 -- Laws of lists: runs of elements stored (`sets` of the library), parts, tables, and lists joined. Assumes nothing.
 use Prim.Native.Nat.{ℕ, zero, suc, _+_, _-_, _*_, _≤_, _<_}
 use mathlib.Core.Path.{_≡_, refl, sym, ap, _∙_}
-use mathlib.Core.List.{List, [], _∷_, _++_, append-assoc}
+use mathlib.Core.List.{List, [], _∷_, _++_, append-nil, append-assoc}
 use mathlib.Core.Logic.{_⊎_, inl, inr, ⊎-elim}
-use native.Mathlib.Nat.{add-zero, add-suc, suc-add, zero-mul, suc-mul, not-suc-le-zero, le-of-suc-le-suc, eq-or-lt-of-le}
+use native.Mathlib.Nat.{zero-add, add-zero, add-suc, suc-add, zero-mul, suc-mul, not-suc-le-zero, le-of-suc-le-suc, eq-or-lt-of-le}
 use native.Mathlib.Numerals.{add-one}
 use native.Mathlib.Omega.{arith}
-use lib.ListN.{length, take, drop, getD, set, replicate, length-append, length-take, List·getD-append}
-use lib.Seq.{sets, sets-eq, take-at, drop-at, set-at, getD-at, append-snoc, drop-drop, drop-set-lt, drop-set-add, take-set-le, ext-getD}
+use lib.ListN.{length, take, drop, getD, set, replicate, length-append, length-take, length-drop, drop-of-length-le, List·getD-append}
+use lib.Seq.{sets, sets-eq, length-sets, take-at, drop-at, set-at, getD-at, append-snoc, drop-drop, drop-set-lt, drop-set-add, take-set-le, ext-getD}
 use Rattle.base.specs.Below.{table, joined}
 
 module _ {A : Type 0} where
@@ -24,6 +24,19 @@ module _ {A : Type 0} where
   part-back m l at end h k e =
       let f : at + length l ≤ length m = omega (arith, e) in
       sym (sets-eq l m at f ∙ rw (append-assoc, e, ← drop-drop (end - at) at m))
+
+  -- the length of a part that is lent
+  pub lent-length : (m : List A) (at w : ℕ) → at + w ≤ length m → length (take (at + w - at) (drop at m)) ≡ w
+  lent-length m at w h = simp (length-take, length-drop) (omega arith)
+
+  -- a run from the front on, and one as long as the list
+  pub front-stored : (m l : List A) → length l ≤ length m → l ++ drop (length l) m ≡ sets m 0 l
+  front-stored m l h = sym (sets-eq l m 0 (rw zero-add h) ∙ rw zero-add)
+
+  pub whole-stored : (m l : List A) → length l ≡ length m → sets m 0 l ≡ l
+  whole-stored m l e =
+      let past : length m ≤ length l = omega arith in
+      sym (front-stored m l (omega arith)) ∙ rw (drop-of-length-le m {i = length l} past) (append-nil l)
 
   -- a run is read back
   pub part-stored : (m l : List A) (at : ℕ) → at + length l ≤ length m → take (length l) (drop at (sets m at l)) ≡ l
@@ -110,3 +123,15 @@ module _ {A : Type 0} where
     pub joined-next : (l : List A) (k i : ℕ) → sets (sets l k (joined f i)) (k + i * w) (f i) ≡ sets l k (joined f (i + 1))
     unfolding joined
     joined-next l k i = rw (add-one, sets-append l k (joined f i) (f i), length-joined i)
+
+    -- the same, by a part that was lent
+    abbrev partBack : (l part : List A) (at : ℕ) → List A
+    partBack l part at = take at l ++ (part ++ drop (at + w - at) (drop at l))
+
+    pub joined-back : (m l part : List A) (k i : ℕ) → k + i * w + w ≤ length l → l ≡ sets m k (joined f i) → part ≡ f i
+        → (partBack l part (k + i * w) ≡ sets m k (joined f (i + 1))) × (length (partBack l part (k + i * w)) ≡ length m)
+    joined-back m l part k i h stored put =
+        let n : length part ≡ k + i * w + w - (k + i * w) = rw (put, each i) (omega arith) in
+        let e : partBack l part (k + i * w) ≡ sets m k (joined f (i + 1)) =
+        part-back l part (k + i * w) (k + i * w + w) (omega arith) h n ∙ rw (stored, put) (joined-next m k i) in
+        (e, rw e (length-sets m k (joined f (i + 1))))

@@ -7,10 +7,10 @@ use native.Mathlib.Nat.{zero-add}
 use native.Mathlib.Numerals.{add-one}
 use native.Mathlib.Omega.{arith}
 use lib.Dec.{eqb}
-use lib.ListN.{length, take, drop, getD, set, replicate, length-set, length-take, length-drop, drop-of-length-le}
+use lib.ListN.{length, take, drop, getD, set, replicate, length-set, drop-of-length-le}
 use lib.Seq.{sets, drop-cons, getD-set-same, drop-set-lt, append-snoc}
 use Rattle.base.specs.Below.{table}
-use Rattle.base.proofs.Lists.{sets-append, part-back, joined-next}
+use Rattle.base.proofs.Lists.{sets-append, part-back, lent-length, joined-next}
 use Rattle.record.specs.Decimal.{space, columnWidth, lastDigit, leading, decimal}
 use Rattle.record.specs.Sector.{columnCount, growths, markCount, markByte, lineFeed, field, columns, markBytes, ending, sector}
 use Rattle.record.proofs.Lengths.{length-field, length-columns, length-marks}
@@ -54,8 +54,7 @@ digit-before (suc j) rest page h k =
 pub full-part-back : (f : ℕ → List ℕ) → ((n : ℕ) → length (f n) ≡ n) → (m l : List ℕ) (at w : ℕ) → at + w ≤ length m
     → l ≡ f (length (take (at + w - at) (drop at m))) → take at m ++ (l ++ drop (at + w - at) (drop at m)) ≡ sets m at (f w)
 full-part-back f long m l at w h e =
-    let n : length (take (at + w - at) (drop at m)) ≡ w = simp (length-take, length-drop) (omega arith) in
-    let full : l ≡ f w = rw n at e in
+    let full : l ≡ f w = rw (lent-length m at w h) at e in
     rw full (part-back m (f w) at (at + w) (omega arith) h (rw (long w) (omega arith)))
 
 pub columns-next : (m numbers : List ℕ) (i : ℕ)

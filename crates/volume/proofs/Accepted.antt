@@ -10,7 +10,7 @@ use lib.Dec.{eqb, leb, ltb}
 use borrow.Author.Tests.{leb-false, ltb-false, eqb-true, eqb-false, not-false}
 use Rattle.base.specs.Refusals.{refusal}
 use Rattle.base.proofs.Booleans.{clash}
-use Rattle.base.proofs.Refusals.{passed}
+use Rattle.base.proofs.Refusals.{passed, held}
 use Rattle.layout.specs.declared.Spot.{Spot}
 use Rattle.layout.specs.History.{Within}
 use Rattle.layout.specs.Limits.{mostDisks, mostGrowths}
@@ -24,10 +24,6 @@ use Rattle.volume.specs.Records.{stateRead, isSoundRecord}
 use Rattle.volume.specs.Sound.{sizeHolds, rowsHold, disksHold, sound}
 use Rattle.volume.specs.States.{geometry, historyOf, disks, tallyOf}
 use Rattle.volume.proofs.SoundLaws.{sound-limits, growths-of-limits}
-
--- a test that has to hold, and one that may not
-held : (k : ℕ) (test : Bool) (table : List (ℕ × Bool)) → 0 < k → refusal ((k, not test) ∷ table) ≡ 0 → (test ≡ true) × (refusal table ≡ 0)
-held k test table h e = let p = passed k (not test) table h e in (not-false test (p .0), p .1)
 
 long-enough : (g : Geometry) (n len : ℕ) → tooShort g n len ≡ false → bytesNeeded g n ≤ len
 unfolding tooShort

@@ -7,12 +7,11 @@ use native.Mathlib.Omega.{arith}
 use lib.ListN.{length, take, drop, set, drop-of-length-le}
 use lib.Seq.{sets, length-sets}
 use Rattle.base.specs.Below.{joined}
-use Rattle.base.proofs.Lists.{sets-append, length-joined}
+use Rattle.base.proofs.Lists.{sets-append, front-stored, whole-stored, length-joined}
 use Rattle.record.specs.Decimal.{columnWidth, decimal}
 use Rattle.record.specs.Sector.{lineFeed}
 use Rattle.wall_chart.specs.Chart.{heading, dash, rowWidth, line}
 use Rattle.wall_chart.proofs.Lengths.{length-heading, length-line}
-use Rattle.wall_chart.proofs.Parts.{front-stored, whole-stored}
 
 -- the heading, copied
 pub heading-stored : (m : List ℕ) → 6 ≤ length m → heading ++ drop 6 m ≡ sets m 0 heading

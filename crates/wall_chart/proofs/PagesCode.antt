@@ -1,10 +1,30 @@
 -- What the code of the pages needs. Assumes nothing.
-use Prim.Native.Nat.{ℕ, suc, _+_, _*_, _≤_, _<_}
+use Prim.Native.Nat.{ℕ, suc, _+_, _-_, _*_, _≤_, _<_}
 use mathlib.Core.Path.{_≡_, refl, sym, _∙_}
-use native.Mathlib.Nat.{suc-mul, mul-le-mul, mul-le-mul-right, le-refl}
+use mathlib.Core.Bool.{Bool, true, false, cond}
+use mathlib.Core.List.{List, [], _∷_, _++_}
+use mathlib.Core.Logic.{_≢_, _⊎_}
+use native.Mathlib.Nat.{zero-add, suc-mul, mul-le-mul, mul-le-mul-right}
 use native.Mathlib.Numerals.{add-one}
 use native.Mathlib.Omega.{arith}
+use lib.ListN.{length, take, drop}
+use lib.Seq.{sets}
+use borrow.Author.Tests.{ltb-false}
+use Rattle.base.specs.Below.{joined}
+use Rattle.base.specs.Refusals.{refusal}
+use Rattle.base.proofs.Lists.{sets-append, part-back}
+use Rattle.base.proofs.Refusals.{passed, held}
 use Rattle.layout.specs.Limits.{mostDisks, mostRows}
+use Rattle.medium.specs.Medium.{observe}
+use Rattle.volume.specs.declared.Volume.{Volume}
+use Rattle.volume.specs.Calls.{judged, sectorTable}
+use Rattle.volume.specs.Sound.{sound}
+use Rattle.volume.specs.States.{disks}
+use Rattle.volume.proofs.Judged.{refused-when, accepted-when}
+use Rattle.volume.proofs.SectorCode.{refused-before, tested-last}
+use Rattle.wall_chart.specs.Chart.{headingLine, rowLine, chart}
+use Rattle.wall_chart.specs.Pages.{Filled, untouched, withChart, pageShort, chartTable, charted, recordState, recordChartTable, recordCharted}
+use Rattle.wall_chart.proofs.Lengths.{length-heading-line, length-chart}
 
 -- a row more
 pub one-row-more : (rows w : ℕ) → rows * w + w ≡ (rows + 1) * w
@@ -14,8 +34,58 @@ one-row-more rows w = rw (add-one, suc-mul rows w)
 pub bytes-most : (rows n : ℕ) → rows ≤ mostRows → n ≤ mostDisks → rows * (6 + n * 10 + 1) ≤ 167_000_000
 bytes-most rows n h k = mul-le-mul {m₁ = 6 + n * 10 + 1} {m₂ = 167} h (omega arith)
 
--- the line of a row lies in the page
+-- the line of a row lies in the page, and the first line does
 pub row-room : (b rows w len : ℕ) → b < rows → (rows + 1) * w ≤ len → w + b * w + w ≤ len
 row-room b rows w len h k =
     let below : suc b * w ≤ rows * w = mul-le-mul-right w h in
     omega (arith, suc-mul b w, one-row-more rows w)
+
+pub first-room : (rows w len : ℕ) → (rows + 1) * w ≤ len → w ≤ len
+first-room rows w len k = omega (arith, one-row-more rows w)
+
+-- ---- the lines of a chart
+
+module _ (v : Volume) (m : List ℕ) (long : length (chart v) ≤ length m) where
+  pub chart-room : (v .rows + 1) * (6 + disks v * 10 + 1) ≤ length m
+  chart-room = rw (← length-chart v) long
+
+  -- the first line as the part that was lent for it brings it back, then the rows
+  pub lines-stored : (n w : ℕ) (first after : List ℕ) → n ≡ disks v → w ≡ 6 + n * 10 + 1 → first ≡ headingLine n
+      → after ≡ sets (take 0 m ++ (first ++ drop (w - 0) (drop 0 m))) (6 + n * 10 + 1) (joined (rowLine v n) (v .rows)) → after ≡ sets m 0 (chart v)
+  unfolding chart
+  lines-stored n w first after same wide put stored =
+      let l : length first ≡ w = rw (put, length-heading-line n) (sym wide) in
+      let room : w ≤ length m = rw (wide, same) (first-room (v .rows) (6 + disks v * 10 + 1) (length m) chart-room) in
+      let back = part-back m first 0 w (omega arith) room (omega arith) in
+      rw (sets-append m 0 (headingLine (disks v)) (joined (rowLine v (disks v)) (v .rows)), length-heading-line (disks v), zero-add)
+      (rw (back, put, same) at stored)
+
+-- ---- what is told and left
+
+module _ (v : Volume) (page : List ℕ) (k : ℕ) (e : k ≡ refusal (chartTable v (length page))) where
+  pub chart-refused : k ≢ 0 → charted v page ≡ untouched page k
+  unfolding charted
+  chart-refused h = refused-when (chartTable v (length page)) (untouched page) (withChart v page) k e h
+
+  pub chart-accepted : k ≡ 0 → charted v page ≡ withChart v page
+  unfolding charted
+  chart-accepted h = accepted-when (chartTable v (length page)) (untouched page) (withChart v page) k e h
+
+  pub chart-fits : k ≡ 0 → (sound v ≡ true) × (length (chart v) ≤ length page)
+  unfolding chartTable pageShort
+  chart-fits h =
+      let a = held 1 (sound v) _ (omega arith) (sym e ∙ h) in
+      (a .0, ltb-false (length page) (length (chart v)) (passed 16 (pageShort v (length page)) [] (omega arith) (a .1) .0))
+
+-- of a record that is refused
+pub record-refused : (bytes page : List ℕ) (k : ℕ) → k ≡ refusal (sectorTable (observe bytes)) → k ≢ 0 → recordCharted bytes page ≡ untouched page k
+unfolding recordCharted recordChartTable
+record-refused bytes page k e h =
+    let before = refused-before (observe bytes) 16 (pageShort (recordState bytes) (length page)) (λ z. h (e ∙ z)) in
+    refused-when (recordChartTable bytes (length page)) (untouched page) (withChart (recordState bytes) page) k (e ∙ sym before) h
+
+-- of a sound state's record, the state's own chart
+pub record-taken : (bytes page : List ℕ) → refusal (sectorTable (observe bytes)) ≡ 0 → sound (recordState bytes) ≡ true
+    → charted (recordState bytes) page ≡ recordCharted bytes page
+unfolding charted recordCharted chartTable recordChartTable refusal
+record-taken bytes page e s = rw (s, tested-last (observe bytes) 16 (pageShort (recordState bytes) (length page)) e)

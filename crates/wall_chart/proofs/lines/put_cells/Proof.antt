@@ -5,7 +5,7 @@ use lib.Seq.{sets}
 use Rattle.base.specs.Below.{joined}
 use Rattle.wall_chart.specs.Chart.{cell, cellAt}
 use Rattle.wall_chart.proofs.Lengths.{length-cell-at}
-use Rattle.wall_chart.proofs.Parts.{lent-length, next-back}
+use Rattle.base.proofs.Lists.{lent-length, joined-back}
 use borrow.Author.Needs.{needs}
 use native.Mathlib.Omega.{arith}
 use Rattle.wall_chart.proofs.lines.put_cells.Statement.{statement}
@@ -63,7 +63,7 @@ loop-again c =
     let a = c .before .before .before .before .before .before .before .before .args in
     let room : 6 + lp .d * 10 + 10 ≤ length (lp .line) = omega arith in
     let put : c .before .before .put-cell .last .0 ≡ cellAt (a .v) (a .b) (lp .d) = rw (c .before .before .before .before .holder .ensures) at (c .before .before .put-cell .ensures) in
-    (omega arith, next-back (cellAt (a .v) (a .b)) 10 (length-cell-at (a .v) (a .b)) (a .line .now) (lp .line) _ 6 (lp .d) room (lp .inv .1 .0) put)
+    (omega arith, joined-back (cellAt (a .v) (a .b)) 10 (length-cell-at (a .v) (a .b)) (a .line .now) (lp .line) _ 6 (lp .d) room (lp .inv .1 .0) put)
 
 same-length : tie.Need-same-length Inv-loop μ-loop
 same-length c = c .before .loop .inv .1 .1

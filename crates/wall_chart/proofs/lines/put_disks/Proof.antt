@@ -5,7 +5,7 @@ use lib.Seq.{sets}
 use Rattle.base.specs.Below.{joined}
 use Rattle.record.specs.Decimal.{columnWidth, decimal}
 use Rattle.record.proofs.Lengths.{length-decimal}
-use Rattle.wall_chart.proofs.Parts.{lent-length, next-back}
+use Rattle.base.proofs.Lists.{lent-length, joined-back}
 use borrow.Author.Needs.{needs}
 use native.Mathlib.Omega.{arith}
 use Rattle.wall_chart.proofs.lines.put_disks.Statement.{statement}
@@ -57,7 +57,7 @@ loop-again c =
     let a = c .before .before .before .before .before .before .before .args in
     let room : 6 + lp .d * 10 + 10 ≤ length (lp .line) = omega arith in
     let put : c .before .before .put-number .last .0 ≡ decimal columnWidth (lp .d) = rw (lent-length (lp .line) (6 + lp .d * 10) 10 room) at (c .before .before .put-number .ensures) in
-    (omega arith, next-back (decimal columnWidth) 10 (length-decimal columnWidth) (a .line .now) (lp .line) _ 6 (lp .d) room (lp .inv .1 .0) put)
+    (omega arith, joined-back (decimal columnWidth) 10 (length-decimal columnWidth) (a .line .now) (lp .line) _ 6 (lp .d) room (lp .inv .1 .0) put)
 
 same-length : tie.Need-same-length Inv-loop μ-loop
 same-length c = c .before .loop .inv .1 .1

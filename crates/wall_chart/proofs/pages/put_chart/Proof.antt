@@ -1,3 +1,6 @@
+use mathlib.Core.Path.{_≡_, refl}
+use Rattle.wall_chart.specs.Pages.{untouched, withChart}
+use Rattle.wall_chart.proofs.PagesCode.{chart-refused, chart-accepted, chart-fits}
 use borrow.Author.Needs.{needs}
 use Rattle.wall_chart.proofs.pages.put_chart.Statement.{statement}
 use Rattle.wall_chart.proofs.pages.put_chart.Tie as tie
@@ -6,25 +9,25 @@ use Rattle.wall_chart.proofs.pages.put_chart.Lts as lts
 use Rattle.wall_chart.proofs.pages.chart_refusal.Reads as chart-refusal-reads
 use Rattle.wall_chart.proofs.pages.put_lines.Reads as put-lines-reads
 
--- src/pages.rt:85:9
 chart-refusal-requires : tie.Need-chart-refusal-requires
 chart-refusal-requires c κs = search needs
 
--- src/pages.rt:87:9
 returns : tie.Need-returns
-returns c = ?
+unfolding untouched
+returns c = rw (chart-refused (c .before .before .before .args .v) (c .before .before .before .args .page .now) _ (c .before .chart-refusal .ensures) (c .if1 .taken)) (refl, refl)
 
--- src/pages.rt:89:9
 put-lines-requires : tie.Need-put-lines-requires
-put-lines-requires c κs = ?
+put-lines-requires c κs =
+    let f = chart-fits (c .before .before .before .before .args .v) (c .before .before .before .before .args .page .now) _ (c .before .before .chart-refusal .ensures) (c .before .if1 .left) in
+    (f .0, f .1)
 
--- src/pages.rt:81:1
 same-length : tie.Need-same-length
 same-length c = search needs
 
--- src/pages.rt:81:1
 returns-2 : tie.Need-returns-2
-returns-2 c = ?
+unfolding withChart
+returns-2 c =
+    rw (chart-accepted (c .before .before .before .before .before .before .before .args .v) (c .before .before .before .before .before .before .before .args .page .now) _ (c .before .before .before .before .before .chart-refusal .ensures) (c .before .before .before .before .if1 .left), c .before .before .put-lines .ensures .0) (refl, c .before .before .put-lines .ensures .1)
 
 pub put-chart-spec : {M : Type 1} → statement M
 put-chart-spec =

@@ -1,3 +1,14 @@
+use mathlib.Core.Path.{_≡_, refl, ap, sym}
+use mathlib.Core.Bool.{true}
+use Rattle.base.specs.Refusals.{refusal}
+use Rattle.medium.specs.Medium.{observe}
+use Rattle.volume.specs.declared.Reply.{Reply}
+use Rattle.volume.specs.Calls.{reporting, sectorTable}
+use Rattle.volume.specs.Sound.{sound}
+use Rattle.volume.proofs.SectorCode.{reply-refused, reply-taken}
+use Rattle.volume.proofs.StatesSound.{sector-sound}
+use Rattle.wall_chart.specs.Pages.{untouched, charted, recordState, recordCharted}
+use Rattle.wall_chart.proofs.PagesCode.{record-refused, record-taken}
 use borrow.Author.Needs.{needs}
 use Rattle.wall_chart.proofs.pages.put_chart_of_record.Statement.{statement}
 use Rattle.wall_chart.proofs.pages.put_chart_of_record.Tie as tie
@@ -6,29 +17,33 @@ use Rattle.wall_chart.proofs.pages.put_chart_of_record.Lts as lts
 use Rattle.volume.proofs.Volume.from_sector.Reads as from-sector-reads
 use Rattle.wall_chart.proofs.pages.put_chart.Reads as put-chart-reads
 
--- src/pages.rt:98:9
 from-sector-requires : tie.Need-from-sector-requires
 from-sector-requires c κs = search needs
 
--- src/pages.rt:100:28
 enum-known-answer : tie.Need-enum-known-answer
 enum-known-answer c = search needs
 
--- src/pages.rt:101:9
 returns : tie.Need-returns
-returns c = ?
+unfolding untouched
+returns c =
+    let bytes = c .before .before .before .before .before .before .args .sector .now in
+    let f = reply-refused (observe bytes) _ _ (c .before .before .before .from-sector .ensures) (c .before .answer .given .1) in
+    rw (record-refused bytes (c .before .before .before .before .before .before .args .page .now) _ (f .0) (f .1)) (refl, refl)
 
--- src/pages.rt:104:5
 put-chart-requires : tie.Need-put-chart-requires
 put-chart-requires c κs = search needs
 
--- src/pages.rt:94:1
 same-length : tie.Need-same-length
 same-length c = search needs
 
--- src/pages.rt:94:1
 returns-2 : tie.Need-returns-2
-returns-2 c = ?
+unfolding reporting
+returns-2 c =
+    let bytes = c .before .before .before .before .before .before .before .before .before .args .sector .now in
+    let f = reply-taken (observe bytes) _ (c .before .before .before .before .before .before .from-sector .ensures) (c .before .before .before .before .before .match .keys2) in
+    let state : c .before .before .before .before .before .before .from-sector .result .state ≡ recordState bytes = ap (λ (r : Reply). r .state) (f .1) in
+    let same = record-taken bytes (c .before .before .before .before .before .before .before .before .before .args .page .now) (f .0) (sector-sound (observe bytes) (f .0)) in
+    rw (← same, ← state) (c .before .before .put-chart .ensures)
 
 pub put-chart-of-record-spec : {M : Type 1} → statement M
 put-chart-of-record-spec =

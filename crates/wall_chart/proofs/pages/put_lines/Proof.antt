@@ -1,3 +1,13 @@
+use mathlib.Core.Path.{_≡_, sym, _∙_}
+use Prim.Native.Nat.{_+_, _*_, _≤_}
+use lib.ListN.{length}
+use Rattle.layout.specs.Limits.{mostDisks, mostRows}
+use Rattle.volume.proofs.CallsCode.{disks-most}
+use Rattle.volume.proofs.SoundLaws.{sound-facts}
+use Rattle.wall_chart.proofs.Lengths.{length-chart}
+use Rattle.base.proofs.Lists.{lent-length}
+use Rattle.wall_chart.proofs.PagesCode.{first-room, chart-room, lines-stored}
+use native.Mathlib.Omega.{arith}
 use borrow.Author.Needs.{needs}
 use Rattle.wall_chart.proofs.pages.put_lines.Statement.{statement}
 use Rattle.wall_chart.proofs.pages.put_lines.Tie as tie
@@ -9,49 +19,55 @@ use Rattle.wall_chart.proofs.pages.chart_bytes.Reads as chart-bytes-rea
 use Rattle.wall_chart.proofs.pages.put_rows.Reads as put-rows-reads
 use Rattle.wall_chart.proofs.pages.text_bytes.Reads as text-bytes-reads
 
--- src/pages.rt:61:9
 disk-count-requires : tie.Need-disk-count-requires
 disk-count-requires c κs = search needs
 
--- src/pages.rt:62:17
-text-bytes-requires : tie.Need-text-bytes-requires
-text-bytes-requires c κs = ?
+few : (c : tie.After-disk-count) → (c .before .before .args .v .rows ≤ mostRows) × (c .disk-count .result ≤ mostDisks)
+few c = (sound-facts _ (c .before .before .pre .0) .limits .rows-most, rw (c .disk-count .ensures) (disks-most _ (c .before .before .pre .0)))
 
--- src/pages.rt:62:17
+-- the page has room for the chart of so many disks
+room : (c : tie.After-disk-count) → (c .before .before .args .v .rows + 1) * (6 + c .disk-count .result * 10 + 1) ≤ length (c .before .before .args .page .now)
+room c = rw (c .disk-count .ensures) (chart-room (c .before .before .args .v) (c .before .before .args .page .now) (c .before .before .pre .1))
+
+text-bytes-requires : tie.Need-text-bytes-requires
+text-bytes-requires c κs = few c .1
+
 add-width : tie.Need-add-width
 add-width c = search needs
 
--- src/pages.rt:63:22
 sub-put-heading-line : tie.Need-sub-put-heading-line
 sub-put-heading-line c = search needs
 
--- src/pages.rt:63:22
 part-put-heading-line-start : tie.Need-part-put-heading-line-start
 part-put-heading-line-start c = search needs
 
--- src/pages.rt:63:22
+width : (c : tie.After-text-bytes) → c .text-bytes .result + 1 ≡ 6 + c .before .disk-count .result * 10 + 1
+width c = omega arith
+
+first : (c : tie.After-text-bytes) → c .text-bytes .result + 1 ≤ length (c .before .before .before .args .page .now)
+first c = rw (width c) (first-room (c .before .before .before .args .v .rows) (6 + c .before .disk-count .result * 10 + 1) _ (room (c .before)))
+
 part-put-heading-line-end : tie.Need-part-put-heading-line-end
-part-put-heading-line-end c = ?
+part-put-heading-line-end c = first c
 
--- src/pages.rt:63:5
 put-heading-line-requires : tie.Need-put-heading-line-requires
-put-heading-line-requires c κs = ?
+put-heading-line-requires c κs = (few (c .before .before) .1, lent-length (c .before .before .before .before .args .page .now) 0 (c .before .text-bytes .result + 1) (first (c .before)) ∙ width (c .before))
 
--- src/pages.rt:64:5
 put-rows-requires : tie.Need-put-rows-requires
-put-rows-requires c κs = ?
+put-rows-requires c κs = (few (c .before .before .before .before .before .before), room (c .before .before .before .before .before .before))
 
--- src/pages.rt:65:5
 chart-bytes-requires : tie.Need-chart-bytes-requires
-chart-bytes-requires c κs = ?
+chart-bytes-requires c κs = few (c .before .before .before .before .before .before .before .before .before)
 
--- src/pages.rt:55:1
 same-length : tie.Need-same-length
 same-length c = search needs
 
--- src/pages.rt:55:1
 returns : tie.Need-returns
-returns c = ?
+returns c =
+    let v = c .before .before .before .before .before .before .before .before .before .before .before .before .args .v in
+    let m = c .before .before .before .before .before .before .before .before .before .before .before .before .args .page .now in
+    (rw (c .before .before .before .before .before .before .before .before .before .before .disk-count .ensures) at (c .chart-bytes .ensures) ∙ sym (length-chart v),
+    lines-stored v m (c .before .before .before .before .before .before .before .before .before .before .before .before .pre .1) _ _ _ _ (c .before .before .before .before .before .before .before .before .before .before .disk-count .ensures) (width (c .before .before .before .before .before .before .before .before .before)) (c .before .before .before .before .before .before .before .put-heading-line .ensures) (c .before .before .before .put-rows .ensures))
 
 pub put-lines-spec : {M : Type 1} → statement M
 put-lines-spec =

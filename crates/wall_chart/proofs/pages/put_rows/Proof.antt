@@ -7,7 +7,7 @@ use Rattle.base.specs.Below.{joined}
 use Rattle.wall_chart.specs.Chart.{rowLine}
 use Rattle.wall_chart.proofs.Lengths.{length-row-line}
 use Rattle.wall_chart.proofs.PagesCode.{bytes-most, row-room}
-use Rattle.wall_chart.proofs.Parts.{lent-length, next-back}
+use Rattle.base.proofs.Lists.{lent-length, joined-back}
 use native.Mathlib.Omega.{arith}
 use Rattle.wall_chart.proofs.pages.put_rows.Statement.{statement}
 use Rattle.wall_chart.proofs.pages.put_rows.Tie as tie
@@ -79,7 +79,7 @@ loop-again c =
     let a = c .before .before .before .before .before .before .before .before .args in
     let w = c .before .before .before .before .before .before .text-bytes .result + 1 in
     let e : w ≡ 6 + a .disks * 10 + 1 = omega arith in
-    (omega arith, next-back (rowLine (a .v) (a .disks)) w (λ i. length-row-line (a .v) (a .disks) i ∙ sym e) (a .page .now) (lp .page) _ w (lp .b) (room (c .before .before .before .before)) (lp .inv .1 .0) (c .before .before .put-row-line .ensures))
+    (omega arith, joined-back (rowLine (a .v) (a .disks)) w (λ i. length-row-line (a .v) (a .disks) i ∙ sym e) (a .page .now) (lp .page) _ w (lp .b) (room (c .before .before .before .before)) (lp .inv .1 .0) (c .before .before .put-row-line .ensures))
 
 same-length : tie.Need-same-length Inv-loop μ-loop
 same-length c = c .before .loop .inv .1 .1
