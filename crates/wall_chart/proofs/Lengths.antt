@@ -48,5 +48,5 @@ length-rows v count rows = length-joined (rowLine v count) (6 + count * 10 + 1) 
 pub length-chart : (v : Volume) → length (chart v) ≡ (v .rows + 1) * (6 + disks v * 10 + 1)
 unfolding chart
 length-chart v =
-    rw (add-one, suc-mul (v .rows) (6 + disks v * 10 + 1))
+    rw (add-one (v .rows), suc-mul (v .rows) (6 + disks v * 10 + 1))
     (simp (length-append, length-heading-line (disks v), length-rows v (disks v) (v .rows)) (omega arith))

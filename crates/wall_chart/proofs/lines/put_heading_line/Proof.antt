@@ -1,17 +1,14 @@
+-- `put_heading_line` meets its contract. Assumes nothing.
 use mathlib.Core.Path.{_≡_}
 use lib.ListN.{length-set}
+use borrow.Author.Needs.{needs}
 use Rattle.record.specs.Decimal.{columnWidth, decimal}
 use Rattle.record.proofs.Lengths.{length-decimal}
 use Rattle.wall_chart.specs.Chart.{heading, headingLine}
 use Rattle.wall_chart.proofs.Lengths.{length-heading}
 use Rattle.wall_chart.proofs.LinesCode.{line-made}
-use borrow.Author.Needs.{needs}
 use Rattle.wall_chart.proofs.lines.put_heading_line.Statement.{statement}
 use Rattle.wall_chart.proofs.lines.put_heading_line.Tie as tie
-use Rattle.wall_chart.proofs.lines.put_heading_line.Reads as reads
-use Rattle.wall_chart.proofs.lines.put_heading_line.Lts as lts
-use Rattle.wall_chart.proofs.lines.put_disks.Reads as put-disks-reads
-use Rattle.wall_chart.proofs.lines.put_heading.Reads as put-heading-reads
 
 put-heading-requires : tie.Need-put-heading-requires
 put-heading-requires c κs = search needs

@@ -1,19 +1,16 @@
+-- `put_row_line` meets its contract. Assumes nothing.
 use mathlib.Core.Path.{_≡_}
+use native.Mathlib.Omega.{arith}
 use lib.ListN.{length-set}
+use borrow.Author.Needs.{needs}
 use Rattle.record.specs.Decimal.{decimal}
 use Rattle.record.proofs.Lengths.{length-decimal}
 use Rattle.record.proofs.WriteCode.{full-part-back}
 use Rattle.wall_chart.specs.Chart.{rowWidth, cellAt, rowLine}
 use Rattle.wall_chart.proofs.Lengths.{length-cell-at}
 use Rattle.wall_chart.proofs.LinesCode.{line-made}
-use native.Mathlib.Omega.{arith}
-use borrow.Author.Needs.{needs}
 use Rattle.wall_chart.proofs.lines.put_row_line.Statement.{statement}
 use Rattle.wall_chart.proofs.lines.put_row_line.Tie as tie
-use Rattle.wall_chart.proofs.lines.put_row_line.Reads as reads
-use Rattle.wall_chart.proofs.lines.put_row_line.Lts as lts
-use Rattle.record.proofs.put_number.Reads as put-number-reads
-use Rattle.wall_chart.proofs.lines.put_cells.Reads as put-cells-reads
 
 sub-put-number : tie.Need-sub-put-number
 sub-put-number c = search needs

@@ -1,13 +1,11 @@
-use mathlib.Core.Path.{_≡_}
+-- `chart_bytes` meets its contract. Assumes nothing.
 use Prim.Native.Nat.{_+_, _*_}
-use Rattle.wall_chart.proofs.PagesCode.{one-row-more, bytes-most}
+use mathlib.Core.Path.{_≡_}
 use native.Mathlib.Omega.{arith}
 use borrow.Author.Needs.{needs}
+use Rattle.wall_chart.proofs.PagesCode.{one-row-more, bytes-most}
 use Rattle.wall_chart.proofs.pages.chart_bytes.Statement.{statement}
 use Rattle.wall_chart.proofs.pages.chart_bytes.Tie as tie
-use Rattle.wall_chart.proofs.pages.chart_bytes.Reads as reads
-use Rattle.wall_chart.proofs.pages.chart_bytes.Lts as lts
-use Rattle.wall_chart.proofs.pages.text_bytes.Reads as text-bytes-reads
 
 text-bytes-requires : tie.Need-text-bytes-requires
 text-bytes-requires c κs = search needs

@@ -1,5 +1,7 @@
+-- `chart_refusal` meets its contract. Assumes nothing.
 use mathlib.Core.Path.{_≡_, sym, _∙_}
 use mathlib.Core.Bool.{true, false}
+use borrow.Author.Needs.{needs}
 use borrow.Author.Tests.{not-true, not-false, lt-ltb, le-ltb}
 use Rattle.base.specs.Refusals.{refusal}
 use Rattle.volume.specs.Sound.{sound}
@@ -7,14 +9,8 @@ use Rattle.volume.proofs.CallsCode.{disks-most}
 use Rattle.volume.proofs.SoundLaws.{sound-facts}
 use Rattle.wall_chart.specs.Pages.{pageShort, chartTable}
 use Rattle.wall_chart.proofs.Lengths.{length-chart}
-use borrow.Author.Needs.{needs}
 use Rattle.wall_chart.proofs.pages.chart_refusal.Statement.{statement}
 use Rattle.wall_chart.proofs.pages.chart_refusal.Tie as tie
-use Rattle.wall_chart.proofs.pages.chart_refusal.Reads as reads
-use Rattle.wall_chart.proofs.pages.chart_refusal.Lts as lts
-use Rattle.volume.proofs.Volume.disk_count.Reads as disk-count-reads
-use Rattle.volume.proofs.Volume.is_sound.Reads as is-sound-reads
-use Rattle.wall_chart.proofs.pages.chart_bytes.Reads as chart-bytes-reads
 
 is-sound-requires : tie.Need-is-sound-requires
 is-sound-requires c κs = search needs

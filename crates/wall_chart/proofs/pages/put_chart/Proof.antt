@@ -1,13 +1,10 @@
+-- `put_chart` meets its contract. Assumes nothing.
 use mathlib.Core.Path.{_≡_, refl}
+use borrow.Author.Needs.{needs}
 use Rattle.wall_chart.specs.Pages.{untouched, withChart}
 use Rattle.wall_chart.proofs.PagesCode.{chart-refused, chart-accepted, chart-fits}
-use borrow.Author.Needs.{needs}
 use Rattle.wall_chart.proofs.pages.put_chart.Statement.{statement}
 use Rattle.wall_chart.proofs.pages.put_chart.Tie as tie
-use Rattle.wall_chart.proofs.pages.put_chart.Reads as reads
-use Rattle.wall_chart.proofs.pages.put_chart.Lts as lts
-use Rattle.wall_chart.proofs.pages.chart_refusal.Reads as chart-refusal-reads
-use Rattle.wall_chart.proofs.pages.put_lines.Reads as put-lines-reads
 
 chart-refusal-requires : tie.Need-chart-refusal-requires
 chart-refusal-requires c κs = search needs

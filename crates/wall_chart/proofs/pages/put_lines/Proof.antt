@@ -1,23 +1,16 @@
-use mathlib.Core.Path.{_≡_, sym, _∙_}
+-- `put_lines` meets its contract. Assumes nothing.
 use Prim.Native.Nat.{_+_, _*_, _≤_}
-use lib.ListN.{length}
+use mathlib.Core.Path.{_≡_, sym, _∙_}
+use native.Mathlib.Omega.{arith}
+use lib.ListN.{length, length-take, length-drop}
+use borrow.Author.Needs.{needs}
 use Rattle.layout.specs.Limits.{mostDisks, mostRows}
 use Rattle.volume.proofs.CallsCode.{disks-most}
 use Rattle.volume.proofs.SoundLaws.{sound-facts}
 use Rattle.wall_chart.proofs.Lengths.{length-chart}
-use Rattle.base.proofs.Lists.{lent-length}
-use Rattle.wall_chart.proofs.PagesCode.{first-room, chart-room, lines-stored}
-use native.Mathlib.Omega.{arith}
-use borrow.Author.Needs.{needs}
+use Rattle.wall_chart.proofs.PagesCode.{first-room, first-length, chart-room, lines-stored}
 use Rattle.wall_chart.proofs.pages.put_lines.Statement.{statement}
 use Rattle.wall_chart.proofs.pages.put_lines.Tie as tie
-use Rattle.wall_chart.proofs.pages.put_lines.Reads as reads
-use Rattle.wall_chart.proofs.pages.put_lines.Lts as lts
-use Rattle.volume.proofs.Volume.disk_count.Reads as disk-count-reads
-use Rattle.wall_chart.proofs.lines.put_heading_line.Reads as put-heading-line-reads
-use Rattle.wall_chart.proofs.pages.chart_bytes.Reads as chart-bytes-reads
-use Rattle.wall_chart.proofs.pages.put_rows.Reads as put-rows-reads
-use Rattle.wall_chart.proofs.pages.text_bytes.Reads as text-bytes-reads
 
 disk-count-requires : tie.Need-disk-count-requires
 disk-count-requires c κs = search needs
@@ -51,10 +44,14 @@ part-put-heading-line-end : tie.Need-part-put-heading-line-end
 part-put-heading-line-end c = first c
 
 put-heading-line-requires : tie.Need-put-heading-line-requires
-put-heading-line-requires c κs = (few (c .before .before) .1, lent-length (c .before .before .before .before .args .page .now) 0 (c .before .text-bytes .result + 1) (first (c .before)) ∙ width (c .before))
+put-heading-line-requires c κs =
+    (few (c .before .before) .1, simp (length-take, length-drop) (omega (arith, first (c .before), width (c .before))))
 
 put-rows-requires : tie.Need-put-rows-requires
-put-rows-requires c κs = (few (c .before .before .before .before .before .before), room (c .before .before .before .before .before .before))
+put-rows-requires c κs =
+    let at = c .before .before .before .before .before in
+    let kept = first-length (at .before .before .before .args .page .now) (c .before .before .before .put-heading-line .last .0) _ _ (c .before .before .before .put-heading-line .ensures) (width at) (first at) in
+    (few (at .before), rw kept at (room (at .before)))
 
 chart-bytes-requires : tie.Need-chart-bytes-requires
 chart-bytes-requires c κs = few (c .before .before .before .before .before .before .before .before .before)
@@ -65,9 +62,10 @@ same-length c = search needs
 returns : tie.Need-returns
 returns c =
     let v = c .before .before .before .before .before .before .before .before .before .before .before .before .args .v in
-    let m = c .before .before .before .before .before .before .before .before .before .before .before .before .args .page .now in
-    (rw (c .before .before .before .before .before .before .before .before .before .before .disk-count .ensures) at (c .chart-bytes .ensures) ∙ sym (length-chart v),
-    lines-stored v m (c .before .before .before .before .before .before .before .before .before .before .before .before .pre .1) _ _ _ _ (c .before .before .before .before .before .before .before .before .before .before .disk-count .ensures) (width (c .before .before .before .before .before .before .before .before .before)) (c .before .before .before .before .before .before .before .put-heading-line .ensures) (c .before .before .before .put-rows .ensures))
+    let m = c .before .before .before .before .before .before .before .before .before .before .before .before .args .page .now in (
+      rw (c .before .before .before .before .before .before .before .before .before .before .disk-count .ensures) at (c .chart-bytes .ensures) ∙ sym (length-chart v),
+      lines-stored v m (c .before .before .before .before .before .before .before .before .before .before .before .before .pre .1) _ _ _ _ (c .before .before .before .before .before .before .before .before .before .before .disk-count .ensures) (width (c .before .before .before .before .before .before .before .before .before)) (c .before .before .before .before .before .before .before .put-heading-line .ensures) (c .before .before .before .put-rows .ensures),
+    )
 
 pub put-lines-spec : {M : Type 1} → statement M
 put-lines-spec =

@@ -1,20 +1,17 @@
+-- `put_rows` meets its contract. Assumes nothing.
 use Prim.Native.Nat.{_-_, _+_, _*_, _≤_, _<_}
 use mathlib.Core.Path.{_≡_, refl, sym, _∙_}
+use native.Mathlib.Omega.{arith}
 use lib.ListN.{length}
 use lib.Seq.{sets}
 use borrow.Author.Needs.{needs}
 use Rattle.base.specs.Below.{joined}
+use Rattle.base.proofs.Lists.{lent-length, joined-back}
 use Rattle.wall_chart.specs.Chart.{rowLine}
 use Rattle.wall_chart.proofs.Lengths.{length-row-line}
 use Rattle.wall_chart.proofs.PagesCode.{bytes-most, row-room}
-use Rattle.base.proofs.Lists.{lent-length, joined-back}
-use native.Mathlib.Omega.{arith}
 use Rattle.wall_chart.proofs.pages.put_rows.Statement.{statement}
 use Rattle.wall_chart.proofs.pages.put_rows.Tie as tie
-use Rattle.wall_chart.proofs.pages.put_rows.Reads as reads
-use Rattle.wall_chart.proofs.pages.put_rows.Lts as lts
-use Rattle.wall_chart.proofs.lines.put_row_line.Reads as put-row-line-reads
-use Rattle.wall_chart.proofs.pages.text_bytes.Reads as text-bytes-reads
 
 abbrev Inv-loop : tie.InvT-loop
 Inv-loop page₀ v disks width rows b₀ page b = (b ≤ rows) × ((page ≡ sets page₀ width (joined (rowLine v disks) b)) × (length page ≡ length page₀))
