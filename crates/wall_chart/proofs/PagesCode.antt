@@ -7,6 +7,7 @@ use mathlib.Core.Logic.{_≢_, _⊎_}
 use native.Mathlib.Nat.{zero-add, suc-mul, mul-le-mul, mul-le-mul-right}
 use native.Mathlib.Numerals.{add-one}
 use native.Mathlib.Omega.{arith}
+use lib.Dec.{ltb}
 use lib.ListN.{length, take, drop}
 use lib.Seq.{sets, length-sets}
 use borrow.Author.Tests.{ltb-false}
@@ -15,9 +16,10 @@ use Rattle.base.specs.Refusals.{refusal}
 use Rattle.base.proofs.Lists.{sets-append, part-back}
 use Rattle.base.proofs.Refusals.{passed, held}
 use Rattle.layout.specs.Limits.{mostDisks, mostRows}
-use Rattle.medium.specs.Medium.{observe}
+use Rattle.medium.specs.Medium.{recordBytes, observe}
 use Rattle.volume.specs.declared.Volume.{Volume}
-use Rattle.volume.specs.Calls.{judged, sectorTable}
+use Rattle.volume.specs.Calls.{restartTable, sectorTable}
+use Rattle.volume.specs.Records.{isSoundRecord}
 use Rattle.volume.specs.Sound.{sound}
 use Rattle.volume.specs.States.{disks}
 use Rattle.volume.proofs.Judged.{refused-when, accepted-when}
@@ -101,3 +103,11 @@ pub record-taken : (bytes page : List ℕ) → refusal (sectorTable (observe byt
     → charted (recordState bytes) page ≡ recordCharted bytes page
 unfolding charted recordCharted chartTable recordChartTable refusal
 record-taken bytes page e s = rw (s, tested-last (observe bytes) 16 (pageShort (recordState bytes) (length page)) e)
+
+pub record-room : (bytes page : List ℕ) → refusal (recordChartTable bytes (length page)) ≡ 0 → length (chart (recordState bytes)) ≤ length page
+unfolding recordChartTable pageShort sectorTable restartTable
+record-room bytes page e =
+    let o = observe bytes in
+    let a = passed 2 (ltb (o .byteCount) recordBytes) _ (omega arith) e in
+    let b = held 13 (isSoundRecord (o .sector)) _ (omega arith) (a .1) in
+    ltb-false (length page) (length (chart (recordState bytes))) (passed 16 (pageShort (recordState bytes) (length page)) [] (omega arith) (b .1) .0)
