@@ -12,6 +12,7 @@ use Rattle.base.proofs.Lists.{part-stored, drop-kept}
 use Rattle.volume.specs.declared.Volume.{Volume}
 use Rattle.volume.specs.Calls.{judged}
 use Rattle.volume.proofs.Judged.{judged-cases, accepted-when}
+use Rattle.wall_chart.specs.declared.ChartAnswer.the-variants.{Used}
 use Rattle.wall_chart.specs.Chart.{chart}
 use Rattle.wall_chart.specs.Laws.{FillRefuses, Fills}
 use Rattle.wall_chart.specs.Pages.{number, bytesUsed, Filled, untouched, withChart, chartTable, charted, recordState, recordChartTable, recordCharted}
@@ -57,3 +58,11 @@ pub record-fills : (bytes page : List ℕ) → refusal (recordChartTable bytes (
     → Fills (recordState bytes) page (recordCharted bytes page)
 unfolding recordCharted
 record-fills bytes page e = fills (recordState bytes) page (recordChartTable bytes (length page)) e (record-room bytes page e)
+
+-- what is said to be used lies in the page
+pub used-fits : (bytes page : List ℕ) (n : ℕ) → recordCharted bytes page .answer ≡ Used n → n ≤ length page
+unfolding recordCharted untouched withChart
+used-fits bytes page n =
+    judged-cases (λ (f : Filled). f .answer ≡ Used n → n ≤ length page) (recordChartTable bytes (length page)) (untouched page) (withChart (recordState bytes) page)
+    (λ e f. let k : length (chart (recordState bytes)) ≡ n = cc in omega (arith, record-room bytes page e))
+    (λ _ f. let z : _≡_ {A = ℕ} 0 1 = cc in absurd (omega arith))
