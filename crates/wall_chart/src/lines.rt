@@ -65,17 +65,14 @@ pub(crate) fn put_cells(line: &mut [u8], v: Volume, disks: usize, b: usize)
     requires { ⌜ 6 + disks * 10 ≤ length (now line) ⌝ }
     ensures { λ _. ⌜ now (line .exit) ≡ sets (now (line .entry)) 6 (joined (cellAt v b) disks) ⌝ }
 {
-    let mut d = 0;
-    while d < disks {
-        let at = 6 + d * 10;
+    let mut disk = 0;
+    while disk < disks {
+        let at = 6 + disk * 10;
         let end = at + 10;
-        let reply = v.holder(Spot {
-            disk: d,
-            row: Row(b),
-        });
+        let reply = v.holder(Spot { disk, row: Row(b) });
         let says = reply.answer;
         put_cell(&mut line[at..end], says);
-        d += 1;
+        disk += 1;
     }
 }
 

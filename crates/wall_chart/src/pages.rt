@@ -97,8 +97,8 @@ pub fn put_chart_of_record(page: &mut [u8], sector: &[u8]) -> ChartAnswer
 {
     let reply = Volume::from_sector(sector);
     let answer = reply.answer;
-    if let Answer::Refused(k) = answer {
-        return ChartAnswer::Refused(k);
+    if let Answer::Refused(number) = answer {
+        return ChartAnswer::Refused(number);
     }
     let v = reply.state;
     put_chart(page, v)

@@ -13,10 +13,10 @@ use Rattle.wall_chart.proofs.lines.put_cells.Statement.{statement}
 use Rattle.wall_chart.proofs.lines.put_cells.Tie as tie
 
 abbrev Inv-loop : tie.InvT-loop
-Inv-loop line₀ v disks b d₀ line d = (d ≤ disks) × ((line ≡ sets line₀ 6 (joined (cellAt v b) d)) × (length line ≡ length line₀))
+Inv-loop line₀ v disks b disk₀ line disk = (disk ≤ disks) × ((line ≡ sets line₀ 6 (joined (cellAt v b) disk)) × (length line ≡ length line₀))
 
 abbrev μ-loop : tie.MeasureT-loop
-μ-loop line₀ v disks b d₀ line d = disks - d
+μ-loop line₀ v disks b disk₀ line disk = disks - disk
 
 loop-holds : tie.Need-loop-holds Inv-loop μ-loop
 unfolding joined
@@ -46,10 +46,10 @@ part-put-cell-end c = omega arith
 put-cell-requires : tie.Need-put-cell-requires Inv-loop μ-loop
 put-cell-requires c κs =
     let lp = c .before .before .before .loop in
-    lent-length (lp .line) (6 + lp .d * 10) 10 (omega arith)
+    lent-length (lp .line) (6 + lp .disk * 10) 10 (omega arith)
 
-add-d : tie.Need-add-d Inv-loop μ-loop
-add-d c = omega arith
+add-disk : tie.Need-add-disk Inv-loop μ-loop
+add-disk c = omega arith
 
 loop-less : tie.Need-loop-less Inv-loop μ-loop
 loop-less c = omega arith
@@ -58,15 +58,15 @@ loop-again : tie.Need-loop-again Inv-loop μ-loop
 loop-again c =
     let lp = c .before .before .before .before .before .before .loop in
     let a = c .before .before .before .before .before .before .before .before .args in
-    let room : 6 + lp .d * 10 + 10 ≤ length (lp .line) = omega arith in
-    let put : c .before .before .put-cell .last .0 ≡ cellAt (a .v) (a .b) (lp .d) = rw (c .before .before .before .before .holder .ensures) at (c .before .before .put-cell .ensures) in
-    (omega arith, joined-back (cellAt (a .v) (a .b)) 10 (length-cell-at (a .v) (a .b)) (a .line .now) (lp .line) _ 6 (lp .d) room (lp .inv .1 .0) put)
+    let room : 6 + lp .disk * 10 + 10 ≤ length (lp .line) = omega arith in
+    let put : c .before .before .put-cell .last .0 ≡ cellAt (a .v) (a .b) (lp .disk) = rw (c .before .before .before .before .holder .ensures) at (c .before .before .put-cell .ensures) in
+    (omega arith, joined-back (cellAt (a .v) (a .b)) 10 (length-cell-at (a .v) (a .b)) (a .line .now) (lp .line) _ 6 (lp .disk) room (lp .inv .1 .0) put)
 
 same-length : tie.Need-same-length Inv-loop μ-loop
 same-length c = c .before .loop .inv .1 .1
 
 returns : tie.Need-returns Inv-loop μ-loop
-returns c = let e : c .before .loop .d ≡ c .before .before .before .args .disks = omega arith in rw e at (c .before .loop .inv .1 .0)
+returns c = let e : c .before .loop .disk ≡ c .before .before .before .args .disks = omega arith in rw e at (c .before .loop .inv .1 .0)
 
 pub put-cells-spec : {M : Type 1} → statement M
 put-cells-spec =
@@ -83,7 +83,7 @@ put-cells-spec =
     part-put-cell-start
     part-put-cell-end
     put-cell-requires
-    add-d
+    add-disk
     loop-less
     loop-again
     same-length
