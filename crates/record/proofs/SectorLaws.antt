@@ -2,14 +2,14 @@
 use Prim.Native.Nat.{ℕ, zero, suc, _+_, _*_, _^_, _≤_, _<_}
 use mathlib.Core.Path.{_≡_, refl, ap, sym, _∙_}
 use mathlib.Core.Bool.{Bool, true, false, cond, _||_, false≢true}
-use mathlib.Core.List.{List, [], _∷_, _++_, append-assoc}
+use mathlib.Core.List.{List, [], _∷_, _++_}
 use mathlib.Core.Logic.{⊎-elim}
-use native.Mathlib.Nat.{eq-or-lt-of-le, le-of-suc-le-suc, not-suc-le-zero}
+use native.Mathlib.Nat.{eq-or-lt-of-le, le-of-suc-le-suc}
 use native.Mathlib.Omega.{arith}
 use borrow.Author.Tests.{eqb-true, eq-eqb}
 use lib.Dec.{eqb}
 use lib.ListN.{length, take, drop, getD, replicate, length-take, length-drop, length-replicate, getD-replicate, List·getD-append, take-append-drop}
-use lib.Seq.{take-at, drop-at, take-add, drop-drop, getD-append-add, getD-take, getD-drop, ext-getD}
+use lib.Seq.{take-add, drop-drop, getD-append-add, getD-take, getD-drop, ext-getD}
 use Rattle.base.proofs.Booleans.{cond-cases, and-both, clash, by-test}
 use Rattle.base.proofs.Counting.{every-use, every-make}
 use Rattle.base.specs.Below.{joined}

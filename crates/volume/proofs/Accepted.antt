@@ -7,7 +7,7 @@ use mathlib.Core.Logic.{_≢_}
 use mathlib.Core.Option.{Option, none, some}
 use native.Mathlib.Omega.{arith}
 use lib.Dec.{eqb, leb, ltb}
-use borrow.Author.Tests.{leb-false, ltb-false, eqb-true, eqb-false, not-false}
+use borrow.Author.Tests.{leb-false, ltb-false, eqb-true, eqb-false}
 use Rattle.base.specs.Refusals.{refusal}
 use Rattle.base.proofs.Booleans.{clash}
 use Rattle.base.proofs.Refusals.{passed, held}

@@ -1,15 +1,14 @@
 -- What the chart of a sound state says: its numbers are whole, and "-" stands where holder says 15. Assumes nothing.
 use Prim.Native.Nat.{ℕ, _+_, _*_, _^_, _≤_, _<_}
 use mathlib.Core.Path.{_≡_, refl, sym, ap, _∙_, fun-ext}
-use mathlib.Core.Bool.{Bool, true, false, cond, not}
+use mathlib.Core.Bool.{Bool, true, false, cond}
 use mathlib.Core.List.{List, _++_}
 use mathlib.Core.Logic.{_≢_}
-use mathlib.Core.Option.{Option, none, some}
 use native.Mathlib.Omega.{arith}
 use lib.Dec.{eqb}
 use lib.ListN.{take}
 use lib.Seq.{take-all}
-use borrow.Author.Tests.{lt-leb, eq-eqb, eqb-true, eqb-false}
+use borrow.Author.Tests.{lt-leb, eqb-true, eqb-false}
 use Rattle.base.specs.Below.{joined}
 use Rattle.base.specs.Refusals.{refusal}
 use Rattle.base.proofs.Booleans.{by-test, cond-cases}
@@ -25,7 +24,7 @@ use Rattle.volume.specs.declared.HolderAnswer.the-variants.{Refused, Has}
 use Rattle.volume.specs.declared.HolderReply.{HolderReply}
 use Rattle.volume.specs.Answers.{holderNumber, blockTold}
 use Rattle.volume.specs.Calls.{judged, isNone, blockFound, holderTable, holderReply}
-use Rattle.volume.specs.Records.{recordOf, stateRead}
+use Rattle.volume.specs.Records.{recordOf}
 use Rattle.volume.specs.Sound.{sound}
 use Rattle.volume.specs.States.{historyOf, disks, tallyOf, withGrowth, recordedOnly}
 use Rattle.volume.proofs.Accepted.{holder-accepted}
@@ -35,8 +34,8 @@ use Rattle.volume.proofs.LookUpLaws.{look-ups-of, at-rest-no-15}
 use Rattle.volume.proofs.RecordLaws.{record-length, record-read, recorded-sound}
 use Rattle.volume.proofs.RefusalLaws.{holder-refuses}
 use Rattle.volume.proofs.SoundLaws.{sound-facts}
-use Rattle.wall_chart.specs.Chart.{rowWidth, dash, cell, spotAt, line, headingLine, rowLine, chart}
-use Rattle.wall_chart.specs.Laws.{lineStart, bytesOf, cellBytes, says, CellTold}
+use Rattle.wall_chart.specs.Chart.{rowWidth, dash, cell, spotAt, textBytes, line, headingLine, rowLine, chart}
+use Rattle.wall_chart.specs.Laws.{lineStart, bytesOf, says, CellTold}
 use Rattle.wall_chart.specs.Pages.{recordState}
 use Rattle.wall_chart.proofs.Places.{disk-number, row-number, cell-of-holder}
 
@@ -48,7 +47,7 @@ open-most v s =
     (λ e. rw (rest-open v (eqb-true (v .growing) 0 e)) at (blocks-most v s))
     (λ e. let g = eqb-false (v .growing) 0 e in rw (growing-open v g s) at (old-blocks-most v g s))
 
-pub disk-told : (v : Volume) (disk : ℕ) → sound v ≡ true → disk < disks v → readColumn (bytesOf v (6 + disk * 10) columnWidth) ≡ Number disk
+pub disk-told : (v : Volume) (disk : ℕ) → sound v ≡ true → disk < disks v → readColumn (bytesOf v (textBytes disk) columnWidth) ≡ Number disk
 unfolding disks
 disk-told v disk s h =
     rw (disk-number v disk h) (column-read disk (omega (arith, sound-facts v s .limits .disks-most)))
@@ -134,7 +133,7 @@ same-holder v p s = rw (answer-judged (recordedOnly v) p, answer-judged v p, rec
 same-rows : (v : Volume) (n : ℕ) → sound v ≡ true → rowLine (recordedOnly v) n ≡ rowLine v n
 unfolding rowLine
 same-rows v n s =
-    fun-ext (λ row. ap (λ (ten : ℕ → List ℕ). line (decimal rowWidth row) ten n) (fun-ext (λ disk. ap cell (same-holder v (spotAt disk row) s))))
+    fun-ext (λ row. ap (λ (columnOf : ℕ → List ℕ). line (decimal rowWidth row) columnOf n) (fun-ext (λ disk. ap cell (same-holder v (spotAt disk row) s))))
 
 same-chart : (v : Volume) → sound v ≡ true → chart (recordedOnly v) ≡ chart v
 unfolding chart disks historyOf recordedOnly withGrowth

@@ -6,7 +6,7 @@ use mathlib.Core.List.{List}
 use mathlib.Core.Logic.{_≢_}
 use native.Mathlib.Nat.{zero-add}
 use native.Mathlib.Omega.{arith}
-use lib.ListN.{length, take, drop}
+use lib.ListN.{length}
 use Rattle.base.specs.Refusals.{refusal}
 use Rattle.base.proofs.Lists.{part-stored, drop-kept}
 use Rattle.volume.specs.declared.Volume.{Volume}

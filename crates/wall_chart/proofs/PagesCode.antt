@@ -1,9 +1,9 @@
 -- What the code of the pages needs. Assumes nothing.
 use Prim.Native.Nat.{ℕ, suc, _+_, _-_, _*_, _≤_, _<_}
 use mathlib.Core.Path.{_≡_, sym, ap, _∙_}
-use mathlib.Core.Bool.{Bool, true, false, cond}
-use mathlib.Core.List.{List, [], _∷_, _++_}
-use mathlib.Core.Logic.{_≢_, _⊎_}
+use mathlib.Core.Bool.{true}
+use mathlib.Core.List.{List, [], _++_}
+use mathlib.Core.Logic.{_≢_}
 use native.Mathlib.Nat.{zero-add, suc-mul, mul-le-mul, mul-le-mul-right}
 use native.Mathlib.Numerals.{add-one}
 use native.Mathlib.Omega.{arith}
@@ -24,8 +24,8 @@ use Rattle.volume.specs.Sound.{sound}
 use Rattle.volume.specs.States.{disks}
 use Rattle.volume.proofs.Judged.{refused-when, accepted-when}
 use Rattle.volume.proofs.SectorCode.{refused-before, tested-last}
-use Rattle.wall_chart.specs.Chart.{headingLine, rowLine, chart}
-use Rattle.wall_chart.specs.Pages.{Filled, untouched, withChart, pageShort, chartTable, charted, recordState, recordChartTable, recordCharted}
+use Rattle.wall_chart.specs.Chart.{lineBytes, headingLine, rowLine, chart}
+use Rattle.wall_chart.specs.Pages.{untouched, withChart, pageShort, chartTable, charted, recordState, recordChartTable, recordCharted}
 use Rattle.wall_chart.proofs.Lengths.{length-heading-line, length-chart}
 
 -- a row more
@@ -33,8 +33,8 @@ pub one-row-more : (rows w : ℕ) → rows * w + w ≡ (rows + 1) * w
 one-row-more rows w = rw (add-one, suc-mul rows w)
 
 -- the bytes of so many lines
-pub bytes-most : (rows n : ℕ) → rows ≤ mostRows → n ≤ mostDisks → rows * (6 + n * 10 + 1) ≤ 167_000_000
-bytes-most rows n h k = mul-le-mul {m₁ = 6 + n * 10 + 1} {m₂ = 167} h (omega arith)
+pub bytes-most : (rows n : ℕ) → rows ≤ mostRows → n ≤ mostDisks → rows * lineBytes n ≤ 167_000_000
+bytes-most rows n h k = mul-le-mul {m₁ = lineBytes n} {m₂ = 167} h (omega arith)
 
 -- the line of a row lies in the page, and the first line does
 pub row-room : (b rows w len : ℕ) → b < rows → (rows + 1) * w ≤ len → w + b * w + w ≤ len
@@ -54,23 +54,23 @@ firstBack m first w = take 0 m ++ (first ++ drop (w - 0) (drop 0 m))
 first-stored : (m first : List ℕ) (w : ℕ) → length first ≡ w → w ≤ length m → firstBack m first w ≡ sets m 0 first
 first-stored m first w l room = part-back m first 0 w (omega arith) room (omega arith)
 
-pub first-length : (m first : List ℕ) (n w : ℕ) → first ≡ headingLine n → w ≡ 6 + n * 10 + 1 → w ≤ length m
+pub first-length : (m first : List ℕ) (n w : ℕ) → first ≡ headingLine n → w ≡ lineBytes n → w ≤ length m
     → length m ≡ length (firstBack m first w)
 first-length m first n w put wide room =
     let l : length first ≡ w = rw (put, length-heading-line n) (sym wide) in
     sym (ap length (first-stored m first w l room) ∙ length-sets m 0 first)
 
 module _ (v : Volume) (m : List ℕ) (long : length (chart v) ≤ length m) where
-  pub chart-room : (v .rows + 1) * (6 + disks v * 10 + 1) ≤ length m
+  pub chart-room : (v .rows + 1) * lineBytes (disks v) ≤ length m
   chart-room = rw (← length-chart v) long
 
   -- the first line, then the rows
-  pub lines-stored : (n w : ℕ) (first after : List ℕ) → n ≡ disks v → w ≡ 6 + n * 10 + 1 → first ≡ headingLine n
-      → after ≡ sets (firstBack m first w) (6 + n * 10 + 1) (joined (rowLine v n) (v .rows)) → after ≡ sets m 0 (chart v)
+  pub lines-stored : (n w : ℕ) (first after : List ℕ) → n ≡ disks v → w ≡ lineBytes n → first ≡ headingLine n
+      → after ≡ sets (firstBack m first w) (lineBytes n) (joined (rowLine v n) (v .rows)) → after ≡ sets m 0 (chart v)
   unfolding chart
   lines-stored n w first after same wide put stored =
       let l : length first ≡ w = rw (put, length-heading-line n) (sym wide) in
-      let room : w ≤ length m = rw (wide, same) (first-room (v .rows) (6 + disks v * 10 + 1) (length m) chart-room) in
+      let room : w ≤ length m = rw (wide, same) (first-room (v .rows) (lineBytes (disks v)) (length m) chart-room) in
       rw (sets-append m 0 (headingLine (disks v)) (joined (rowLine v (disks v)) (v .rows)), length-heading-line (disks v), zero-add)
       (rw (first-stored m first w l room, put, same) at stored)
 

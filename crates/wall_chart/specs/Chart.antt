@@ -1,5 +1,5 @@
 -- Document 02, W1: the bytes of the wall chart of a state. Bytes are numbers here. Assumes nothing.
-use Prim.Native.Nat.{ℕ}
+use Prim.Native.Nat.{ℕ, _+_, _*_}
 use mathlib.Core.List.{List, [], _∷_, _++_}
 use lib.ListN.{replicate}
 use Rattle.base.specs.Below.{joined}
@@ -35,9 +35,16 @@ spotAt disk row = record { disk = disk; row = record { 0 = row } }
 abbrev pub cellAt : (v : Volume) (row disk : ℕ) → List ℕ
 cellAt v row disk = cell (holderReply v (spotAt disk row) .answer)
 
+-- the bytes of a line before its line feed, and with it
+abbrev pub textBytes : (count : ℕ) → ℕ
+textBytes count = rowWidth + count * columnWidth
+
+abbrev pub lineBytes : (count : ℕ) → ℕ
+lineBytes count = textBytes count + 1
+
 -- six bytes, ten for each of so many disks, and "Every line ends in 0x0A."
-unfoldable pub line : (start : List ℕ) (ten : ℕ → List ℕ) (count : ℕ) → List ℕ
-line start ten count = start ++ (joined ten count ++ (lineFeed ∷ []))
+unfoldable pub line : (start : List ℕ) (columnOf : ℕ → List ℕ) (count : ℕ) → List ℕ
+line start columnOf count = start ++ (joined columnOf count ++ (lineFeed ∷ []))
 
 -- the heading, "then each disk number right-justified in ten columns"
 unfoldable pub headingLine : (count : ℕ) → List ℕ
@@ -47,6 +54,6 @@ headingLine count = line heading (decimal columnWidth) count
 unfoldable pub rowLine : (v : Volume) (count row : ℕ) → List ℕ
 rowLine v count row = line (decimal rowWidth row) (cellAt v row) count
 
--- the chart; "While a growth runs there are N[t] columns, the new disks included."
+-- the chart; it has N[t] columns, also while a growth runs
 unfoldable pub chart : (v : Volume) → List ℕ
 chart v = headingLine (disks v) ++ joined (rowLine v (disks v)) (v .rows)

@@ -16,18 +16,14 @@ use Rattle.volume.specs.Calls.{holderReply}
 use Rattle.volume.specs.Records.{recordOf}
 use Rattle.volume.specs.Sound.{sound}
 use Rattle.volume.specs.States.{disks}
-use Rattle.wall_chart.specs.Chart.{heading, rowWidth, dash, cell, spotAt, chart}
+use Rattle.wall_chart.specs.Chart.{heading, rowWidth, dash, cell, spotAt, textBytes, lineBytes, chart}
 use Rattle.wall_chart.specs.Pages.{number, bytesUsed, Filled, chartTable, charted, recordState, recordChartTable, recordCharted}
 
 -- ---- places in a chart
 
--- the bytes of a line: six, ten for each disk, and the line feed
-abbrev pub lineBytes : (v : Volume) → ℕ
-lineBytes v = 6 + disks v * 10 + 1
-
--- where line k begins: the first is line 0, that of row b is line b + 1
+-- where line k begins: the first is line 0, that of row b is line b + 1. In it the columns of disk d begin at `textBytes d`.
 abbrev pub lineStart : (v : Volume) (k : ℕ) → ℕ
-lineStart v k = k * lineBytes v
+lineStart v k = k * lineBytes (disks v)
 
 -- so many bytes of the chart, from a byte on
 abbrev pub bytesOf : (v : Volume) (from count : ℕ) → List ℕ
@@ -35,7 +31,7 @@ bytesOf v from count = take count (drop from (chart v))
 
 -- the ten bytes of a spot
 abbrev pub cellBytes : (v : Volume) (disk row : ℕ) → List ℕ
-cellBytes v disk row = bytesOf v (lineStart v (row + 1) + (6 + disk * 10)) columnWidth
+cellBytes v disk row = bytesOf v (lineStart v (row + 1) + textBytes disk) columnWidth
 
 abbrev pub says : (v : Volume) (disk row : ℕ) → HolderAnswer
 says v disk row = holderReply v (spotAt disk row) .answer
@@ -62,15 +58,15 @@ pub record Fills (v : Volume) (page : List ℕ) (filled : Filled) : Type 0 where
 
 pub record ChartLaws : Type 0 where
   -- the length, as a function of the state
-  pub chart-length : (v : Volume) → length (chart v) ≡ (v .rows + 1) * lineBytes v
+  pub chart-length : (v : Volume) → length (chart v) ≡ (v .rows + 1) * lineBytes (disks v)
   -- what stands where
   pub heading-first : (v : Volume) → bytesOf v 0 rowWidth ≡ heading
-  pub disk-number : (v : Volume) (disk : ℕ) → disk < disks v → bytesOf v (6 + disk * 10) columnWidth ≡ decimal columnWidth disk
+  pub disk-number : (v : Volume) (disk : ℕ) → disk < disks v → bytesOf v (textBytes disk) columnWidth ≡ decimal columnWidth disk
   pub row-number : (v : Volume) (row : ℕ) → row < v .rows → bytesOf v (lineStart v (row + 1)) rowWidth ≡ decimal rowWidth row
   pub cell-of-holder : (v : Volume) (disk row : ℕ) → disk < disks v → row < v .rows → cellBytes v disk row ≡ cell (says v disk row)
-  pub line-end : (v : Volume) (k : ℕ) → k ≤ v .rows → getD (chart v) (lineStart v k + (6 + disks v * 10)) 0 ≡ lineFeed
+  pub line-end : (v : Volume) (k : ℕ) → k ≤ v .rows → getD (chart v) (lineStart v k + textBytes (disks v)) 0 ≡ lineFeed
   -- what it says of a sound state: no number is cut off, and "-" stands where holder says 15 and nowhere else
-  pub disk-told : (v : Volume) (disk : ℕ) → sound v ≡ true → disk < disks v → readColumn (bytesOf v (6 + disk * 10) columnWidth) ≡ Number disk
+  pub disk-told : (v : Volume) (disk : ℕ) → sound v ≡ true → disk < disks v → readColumn (bytesOf v (textBytes disk) columnWidth) ≡ Number disk
   pub row-told : (v : Volume) (row : ℕ) → sound v ≡ true → row < v .rows
       → columnFold Blank (bytesOf v (lineStart v (row + 1)) rowWidth) ≡ Number row
   pub cell-told : (v : Volume) (disk row : ℕ) → sound v ≡ true → disk < disks v → row < v .rows → CellTold v disk row

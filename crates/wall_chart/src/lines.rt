@@ -1,19 +1,19 @@
 // The lines of the chart. Each is put into a lent part of its own length.
 ghost use mathlib.Core.Path.{_≡_};
-ghost use Prim.Native.Nat.{_+_, _*_, _≤_};
+ghost use Prim.Native.Nat.{_≤_};
 ghost use lib.ListN.{length};
 ghost use lib.Seq.{sets};
 ghost use Rattle.base.specs.Below.{joined};
-ghost use Rattle.layout.specs.Limits.{mostDisks, mostRows};
+ghost use Rattle.layout.specs.Limits.{mostDisks};
 ghost use Rattle.record.specs.Decimal.{decimal};
-ghost use Rattle.wall_chart.specs.Chart.{heading, cell, cellAt, headingLine, rowLine};
+ghost use Rattle.wall_chart.specs.Chart.{heading, cell, cellAt, textBytes, lineBytes, headingLine, rowLine};
 use layout::Row;
 use layout::Spot;
 use volume::HolderAnswer;
 use volume::Volume;
 
 // Puts the heading at the start of a line.
-pub(crate) fn put_heading(line: &mut [u8])
+fn put_heading(line: &mut [u8])
     requires { ⌜ 6 ≤ length (now line) ⌝ }
     ensures { λ _. ⌜ now (line .exit) ≡ sets (now (line .entry)) 0 heading ⌝ }
 {
@@ -21,9 +21,9 @@ pub(crate) fn put_heading(line: &mut [u8])
 }
 
 // Puts the disk numbers into a line, from byte 6 on.
-pub(crate) fn put_disks(line: &mut [u8], disks: usize)
+fn put_disks(line: &mut [u8], disks: usize)
     requires { ⌜ disks ≤ mostDisks ⌝ }
-    requires { ⌜ 6 + disks * 10 ≤ length (now line) ⌝ }
+    requires { ⌜ textBytes disks ≤ length (now line) ⌝ }
     ensures { λ _. ⌜ now (line .exit) ≡ sets (now (line .entry)) 6 (joined (decimal 10) disks) ⌝ }
 {
     let mut d = 0;
@@ -38,7 +38,7 @@ pub(crate) fn put_disks(line: &mut [u8], disks: usize)
 // The first line: the heading and the disk numbers.
 pub(crate) fn put_heading_line(line: &mut [u8], disks: usize)
     requires { ⌜ disks ≤ mostDisks ⌝ }
-    requires { ⌜ length (now line) ≡ 6 + disks * 10 + 1 ⌝ }
+    requires { ⌜ length (now line) ≡ lineBytes disks ⌝ }
     ensures { λ _. ⌜ now (line .exit) ≡ headingLine disks ⌝ }
 {
     put_heading(line);
@@ -48,7 +48,7 @@ pub(crate) fn put_heading_line(line: &mut [u8], disks: usize)
 }
 
 // Puts a cell into ten bytes: the block that lives at a spot or, where none does, "-".
-pub(crate) fn put_cell(part: &mut [u8], says: HolderAnswer)
+fn put_cell(part: &mut [u8], says: HolderAnswer)
     requires { ⌜ length (now part) ≡ 10 ⌝ }
     ensures { λ _. ⌜ now (part .exit) ≡ cell says ⌝ }
 {
@@ -60,9 +60,9 @@ pub(crate) fn put_cell(part: &mut [u8], says: HolderAnswer)
 }
 
 // Puts the cells of row b into a line, from byte 6 on.
-pub(crate) fn put_cells(line: &mut [u8], v: Volume, disks: usize, b: usize)
+fn put_cells(line: &mut [u8], v: Volume, disks: usize, b: usize)
     requires { ⌜ disks ≤ mostDisks ⌝ }
-    requires { ⌜ 6 + disks * 10 ≤ length (now line) ⌝ }
+    requires { ⌜ textBytes disks ≤ length (now line) ⌝ }
     ensures { λ _. ⌜ now (line .exit) ≡ sets (now (line .entry)) 6 (joined (cellAt v b) disks) ⌝ }
 {
     let mut disk = 0;
@@ -79,7 +79,7 @@ pub(crate) fn put_cells(line: &mut [u8], v: Volume, disks: usize, b: usize)
 // The line of row b: the row's number and the cells.
 pub(crate) fn put_row_line(line: &mut [u8], v: Volume, disks: usize, b: usize)
     requires { ⌜ disks ≤ mostDisks ⌝ }
-    requires { ⌜ length (now line) ≡ 6 + disks * 10 + 1 ⌝ }
+    requires { ⌜ length (now line) ≡ lineBytes disks ⌝ }
     ensures { λ _. ⌜ now (line .exit) ≡ rowLine v disks b ⌝ }
 {
     record::put_number(&mut line[0..6], b);

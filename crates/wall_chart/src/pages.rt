@@ -8,7 +8,7 @@ ghost use Rattle.base.specs.Below.{joined};
 ghost use Rattle.base.specs.Refusals.{refusal};
 ghost use Rattle.layout.specs.Limits.{mostDisks, mostRows};
 ghost use Rattle.volume.specs.Sound.{sound};
-ghost use Rattle.wall_chart.specs.Chart.{rowLine, chart};
+ghost use Rattle.wall_chart.specs.Chart.{textBytes, lineBytes, rowLine, chart};
 ghost use Rattle.wall_chart.specs.Pages.{chartTable, charted, recordCharted};
 use super::ChartAnswer;
 use super::lines::put_heading_line;
@@ -17,17 +17,17 @@ use volume::Answer;
 use volume::Volume;
 
 // The bytes of a line before its line feed.
-pub(crate) fn text_bytes(disks: usize) -> usize
+fn text_bytes(disks: usize) -> usize
     requires { ⌜ disks ≤ mostDisks ⌝ }
-    ensures { λ r. ⌜ r ≡ 6 + disks * 10 ⌝ }
+    ensures { λ r. ⌜ r ≡ textBytes disks ⌝ }
 {
     6 + disks * 10
 }
 
 // The bytes of a chart: a line for each row, and the first one.
-pub(crate) fn chart_bytes(rows: usize, disks: usize) -> usize
+fn chart_bytes(rows: usize, disks: usize) -> usize
     requires { ⌜ (rows ≤ mostRows) × (disks ≤ mostDisks) ⌝ }
-    ensures { λ r. ⌜ r ≡ (rows + 1) * (6 + disks * 10 + 1) ⌝ }
+    ensures { λ r. ⌜ r ≡ (rows + 1) * lineBytes disks ⌝ }
 {
     let text = text_bytes(disks);
     let width = text + 1;
@@ -35,10 +35,10 @@ pub(crate) fn chart_bytes(rows: usize, disks: usize) -> usize
 }
 
 // Puts the lines of all rows into a page, behind the first line.
-pub(crate) fn put_rows(page: &mut [u8], v: Volume, disks: usize)
+fn put_rows(page: &mut [u8], v: Volume, disks: usize)
     requires { ⌜ (v .rows ≤ mostRows) × (disks ≤ mostDisks) ⌝ }
-    requires { ⌜ (v .rows + 1) * (6 + disks * 10 + 1) ≤ length (now page) ⌝ }
-    ensures { λ _. ⌜ now (page .exit) ≡ sets (now (page .entry)) (6 + disks * 10 + 1) (joined (rowLine v disks) (v .rows)) ⌝ }
+    requires { ⌜ (v .rows + 1) * lineBytes disks ≤ length (now page) ⌝ }
+    ensures { λ _. ⌜ now (page .exit) ≡ sets (now (page .entry)) (lineBytes disks) (joined (rowLine v disks) (v .rows)) ⌝ }
 {
     let width = text_bytes(disks) + 1;
     let rows = v.rows;
@@ -52,7 +52,7 @@ pub(crate) fn put_rows(page: &mut [u8], v: Volume, disks: usize)
 }
 
 // Puts the chart at the start of a page, and gives its length.
-pub(crate) fn put_lines(page: &mut [u8], v: Volume) -> usize
+fn put_lines(page: &mut [u8], v: Volume) -> usize
     requires { ⌜ sound v ≡ true ⌝ }
     requires { ⌜ length (chart v) ≤ length (now page) ⌝ }
     ensures { λ r. ⌜ r ≡ length (chart v) ⌝ }
@@ -65,7 +65,7 @@ pub(crate) fn put_lines(page: &mut [u8], v: Volume) -> usize
     chart_bytes(v.rows, disks)
 }
 
-pub(crate) fn chart_refusal(v: Volume, len: usize) -> usize
+fn chart_refusal(v: Volume, len: usize) -> usize
     ensures { λ r. ⌜ r ≡ refusal (chartTable v len) ⌝ }
 {
     if !v.is_sound() {

@@ -87,7 +87,7 @@ fn damaged_records() {
     }
     assert!(refused > 400, "{refused}");
     let mut random = Random::new(1);
-    for _ in 0..400 {
+    for _ in 0..200 {
         let state = sound_state(&mut random, 30);
         let damaged = damaged_record(&mut random, &state);
         compared(&damaged);
@@ -114,11 +114,11 @@ fn longest_charts() {
 fn random_records() {
     let mut random = Random::new(2);
     let mut with_dash = 0;
-    for _ in 0..600 {
+    for _ in 0..300 {
         let state = sound_state(&mut random, 60);
         let text = compared(&record::write(&state));
         assert_eq!(text, chart(&state));
         with_dash += text.contains('-') as u32;
     }
-    assert!(with_dash > 100 && with_dash < 600, "{with_dash}");
+    assert!(with_dash > 50 && with_dash < 300, "{with_dash}");
 }

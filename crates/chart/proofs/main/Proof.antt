@@ -1,5 +1,5 @@
 -- `main` meets its contract: what it prints of the page lies in the page. Assumes nothing.
-use mathlib.Core.Path.{_≡_, sym, _∙_}
+use mathlib.Core.Path.{sym, _∙_}
 use lib.Seq.{length-take-le}
 use borrow.Author.Needs.{needs}
 use Rattle.wall_chart.proofs.PageLaws.{used-fits}

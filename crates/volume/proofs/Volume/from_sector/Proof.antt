@@ -10,7 +10,7 @@ use borrow.Author.Tests.{not-true, not-false}
 use Rattle.medium.specs.Medium.{recordBytes, observe, noStore}
 use Rattle.record.specs.Sector.{readRecord}
 use Rattle.volume.specs.Calls.{reporting, sectorOutcome}
-use Rattle.volume.specs.Records.{stateRead, isSoundRecord}
+use Rattle.volume.specs.Records.{stateRead}
 use Rattle.volume.specs.Sound.{sound}
 use Rattle.volume.specs.States.{zeros}
 use Rattle.volume.proofs.SectorCode.{unread, read-back, below-record, record-or-not}

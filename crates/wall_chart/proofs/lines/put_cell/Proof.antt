@@ -1,5 +1,5 @@
 -- `put_cell` meets its contract. Assumes nothing.
-use mathlib.Core.Path.{_≡_, refl, sym, _∙_}
+use mathlib.Core.Path.{_∙_}
 use borrow.Author.Needs.{needs}
 use Rattle.wall_chart.specs.Chart.{dash, cell}
 use Rattle.wall_chart.proofs.LinesCode.{dash-stored}

@@ -7,7 +7,7 @@ use lib.Seq.{sets}
 use borrow.Author.Needs.{needs}
 use Rattle.base.specs.Below.{joined}
 use Rattle.base.proofs.Lists.{lent-length, joined-back}
-use Rattle.wall_chart.specs.Chart.{cell, cellAt}
+use Rattle.wall_chart.specs.Chart.{cellAt}
 use Rattle.wall_chart.proofs.Lengths.{length-cell-at}
 use Rattle.wall_chart.proofs.lines.put_cells.Statement.{statement}
 use Rattle.wall_chart.proofs.lines.put_cells.Tie as tie

@@ -1,5 +1,4 @@
 -- `put_heading_line` meets its contract. Assumes nothing.
-use mathlib.Core.Path.{_≡_}
 use lib.ListN.{length-set}
 use borrow.Author.Needs.{needs}
 use Rattle.record.specs.Decimal.{columnWidth, decimal}

@@ -1,5 +1,5 @@
 -- `put_chart` meets its contract. Assumes nothing.
-use mathlib.Core.Path.{_≡_, refl}
+use mathlib.Core.Path.{refl}
 use borrow.Author.Needs.{needs}
 use Rattle.wall_chart.specs.Pages.{untouched, withChart}
 use Rattle.wall_chart.proofs.PagesCode.{chart-refused, chart-accepted, chart-fits}

@@ -1,15 +1,12 @@
 -- `put_chart_of_record` meets its contract. Assumes nothing.
-use mathlib.Core.Path.{_≡_, refl, ap, sym}
-use mathlib.Core.Bool.{true}
+use mathlib.Core.Path.{_≡_, refl, ap}
 use borrow.Author.Needs.{needs}
-use Rattle.base.specs.Refusals.{refusal}
 use Rattle.medium.specs.Medium.{observe}
-use Rattle.volume.specs.Calls.{reporting, sectorTable}
-use Rattle.volume.specs.Sound.{sound}
+use Rattle.volume.specs.Calls.{reporting}
 use Rattle.volume.specs.declared.Reply.{Reply}
 use Rattle.volume.proofs.SectorCode.{reply-refused, reply-taken}
 use Rattle.volume.proofs.StatesSound.{sector-sound}
-use Rattle.wall_chart.specs.Pages.{untouched, charted, recordState, recordCharted}
+use Rattle.wall_chart.specs.Pages.{untouched, recordState}
 use Rattle.wall_chart.proofs.PagesCode.{record-refused, record-taken}
 use Rattle.wall_chart.proofs.pages.put_chart_of_record.Statement.{statement}
 use Rattle.wall_chart.proofs.pages.put_chart_of_record.Tie as tie

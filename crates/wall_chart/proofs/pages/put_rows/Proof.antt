@@ -1,5 +1,5 @@
 -- `put_rows` meets its contract. Assumes nothing.
-use Prim.Native.Nat.{_-_, _+_, _*_, _≤_, _<_}
+use Prim.Native.Nat.{_-_, _+_, _*_, _≤_}
 use mathlib.Core.Path.{_≡_, refl, sym, _∙_}
 use native.Mathlib.Omega.{arith}
 use lib.ListN.{length}
@@ -9,7 +9,7 @@ use Rattle.base.specs.Below.{joined}
 use Rattle.base.proofs.Lists.{lent-length, joined-back}
 use Rattle.wall_chart.specs.Chart.{rowLine}
 use Rattle.wall_chart.proofs.Lengths.{length-row-line}
-use Rattle.wall_chart.proofs.PagesCode.{bytes-most, row-room}
+use Rattle.wall_chart.proofs.PagesCode.{row-room}
 use Rattle.wall_chart.proofs.pages.put_rows.Statement.{statement}
 use Rattle.wall_chart.proofs.pages.put_rows.Tie as tie
 
