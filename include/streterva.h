@@ -1,19 +1,20 @@
 /*
  * Streterva: a RAID-0 volume (striping without parity) that takes more disks while it is in use.
  *
- * Link with libcapi.a (x86-64). "Document 01" is the specification; numbers and words here are its own: a block is an address
- * in the volume, a row is a position on one disk, a spot is a disk and a row.
+ * Link with libcapi.a (x86-64). "Document 01" is the specification, and "document 02" that of load; numbers and words here are
+ * their own: a block is an address in the volume, a row is a position on one disk, a spot is a disk and a row.
  *
  * Answers. Every function returns 0 when it accepts the call, or else the number of the refusal (enum streterva_refusal).
  * Tests are made in the order given at each function, and the first that fails gives the number. A refused call changes
- * nothing in the medium, the state and the piece, and sets every figure to 0; format and restart, refused, also set the
- * state to zeros.
+ * nothing in the medium, the state and the piece, and sets every figure to 0, all but the place that load tells with 17;
+ * format and restart, refused, also set the state to zeros.
  *
  * Slices. A buffer is lent for the call as a pointer and, directly after it, the number of its elements: bytes for a medium or
- * a piece, words of 64 bits for a state or figures. The pointer must be valid for that many elements, and aligned for them. A
- * state has exactly STRETERVA_STATE_WORDS words and figures have exactly the number told at the function. Any other number is
- * refused with STRETERVA_WRONG_LENGTH, before all other tests, and then nothing at all is touched, figures and state included.
- * A medium that is too short is refused with 2, a piece that is not one block long with 4.
+ * a piece, words of 64 bits for a state or figures, scenes for a list of them. The pointer must be valid for that many
+ * elements, and aligned for them. A state has exactly STRETERVA_STATE_WORDS words and figures have exactly the number told at
+ * the function. Any other number is refused with STRETERVA_WRONG_LENGTH, before all other tests, and then nothing at all is
+ * touched, figures and state included. A medium that is too short is refused with 2, a piece that is not one block long with 4,
+ * a list that is too long with 17.
  *
  * No overlap. No two buffers of one call may overlap, unless the call only reads both. Calls may run at the same time if no
  * buffer that one of them writes is lent to another.
@@ -69,6 +70,10 @@ extern "C" {
 #define STRETERVA_ADVANCE_FIGURES 4
 #define STRETERVA_ADDRESS_FIGURES 5
 #define STRETERVA_HOLDER_FIGURES 1
+#define STRETERVA_LOAD_FIGURES 17
+
+/* The most scenes in a list. */
+#define STRETERVA_MOST_SCENES 65536
 
 /* The state. Lend `words` to the functions; read it by the names. */
 typedef union streterva_state {
@@ -89,6 +94,14 @@ STRETERVA_ASSERT(sizeof(streterva_state) == 120, "a state is 15 words of 64 bits
 STRETERVA_ASSERT(offsetof(streterva_state, copied) == 112, "the copied marks are the last word");
 STRETERVA_ASSERT(sizeof(size_t) == 8, "the library is for x86-64 with 64-bit sizes");
 
+/* A scene: `count` blocks from block `first` on. With a count of 0 it names no block, and `first` may be any number. */
+typedef struct streterva_scene {
+    uint64_t first;
+    uint64_t count;
+} streterva_scene;
+
+STRETERVA_ASSERT(sizeof(streterva_scene) == 16, "a scene is 2 words of 64 bits");
+
 /* What a function returns. */
 enum streterva_refusal {
     STRETERVA_ACCEPTED = 0,
@@ -107,6 +120,7 @@ enum streterva_refusal {
     STRETERVA_NO_RECORD = 13,          /* bytes 0 to 511 are not the record of a sound state */
     STRETERVA_NO_SUCH_SPOT = 14,       /* the disk or the row does not exist */
     STRETERVA_NO_BLOCK_THERE = 15,     /* no open block lives at the spot */
+    STRETERVA_SCENE_REFUSED = 17,      /* a scene reaches past the open blocks or stands after the first 65,536 */
     STRETERVA_WRONG_LENGTH = 100       /* a state or figures of the wrong length: nothing was touched */
 };
 
@@ -143,6 +157,12 @@ enum streterva_why {
 
 /* The part of its window that a moved block is in. */
 enum streterva_part { STRETERVA_HEAD = 1, STRETERVA_BODY = 2, STRETERVA_TAIL = 3 };
+
+/* Places of the figures of load. */
+enum streterva_load_figure {
+    STRETERVA_LOAD_PLACE = 0, /* refused with 17: the place of the first such scene, counted from 0; else 0 */
+    STRETERVA_LOAD_SERVED = 1 /* at STRETERVA_LOAD_SERVED + d: the blocks that disk d serves, 0 when it does not exist */
+};
 
 /* The bytes that a medium needs for this block size, these rows and this number of disks, all within the limits. */
 static inline uint64_t streterva_medium_bytes(uint64_t size, uint64_t rows, uint64_t disks)
@@ -239,6 +259,15 @@ uint64_t streterva_address(const uint64_t *state, size_t state_words, uint64_t b
  */
 uint64_t streterva_holder(const uint64_t *state, size_t state_words, uint64_t disk, uint64_t row, uint64_t *figures,
                           size_t figures_words);
+
+/*
+ * Load: tells how many of the blocks that the scenes name each disk serves, by their live spots. A block named by two scenes
+ * counts twice. The state and the scenes never change.
+ * Refuses: 1; 17, a scene reaches past the open blocks or stands after the first 65,536, where one of 0 blocks is refused too.
+ * Figures (17): enum streterva_load_figure.
+ */
+uint64_t streterva_load(const uint64_t *state, size_t state_words, const streterva_scene *scenes, size_t scenes_count,
+                        uint64_t *figures, size_t figures_words);
 
 /* Soundness: 0 when the state is sound, 1 when it is not, 100 when it has not 15 words. */
 uint64_t streterva_soundness(const uint64_t *state, size_t state_words);

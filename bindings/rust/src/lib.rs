@@ -1,11 +1,11 @@
 //! Bindings to Streterva: a RAID-0 volume (striping without parity) that takes more disks while it is in use.
 //!
-//! The library behind it, `libcapi.a`, is proved against its specification, "document 01"; the words and the numbers of
-//! refusals here are that document's. A *block* is an address in the volume, a *row* is a position on one disk, a *spot* is a
-//! disk and a row.
+//! The library behind it, `libcapi.a`, is proved against its specification, "document 01", and "document 02" for
+//! [`State::load`]; the words and the numbers of refusals here are those documents'. A *block* is an address in the volume, a
+//! *row* is a position on one disk, a *spot* is a disk and a row.
 //!
 //! The caller keeps two things: the medium, a slice of bytes with the record and all disks, and the [`State`], plain data.
-//! Both are lent to each call. A call that is refused changes neither and gives a [`Refusal`].
+//! Both are lent to each call. A call that is refused changes neither and gives a [`Refusal`], load a [`LoadRefusal`].
 //!
 //! ```
 //! use streterva::{Block, State, Step};
@@ -57,7 +57,8 @@ mod state;
 #[cfg(test)]
 mod tests;
 
-pub use refusal::Refusal;
+pub use raw::Scene;
+pub use refusal::{LoadRefusal, Refusal};
 pub use state::State;
 
 /// An address in the volume.

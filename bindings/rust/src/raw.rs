@@ -1,10 +1,12 @@
-//! The library's functions on plain slices, with document 01's numbers as answers.
+//! The library's functions on plain slices, with the numbers of documents 01 and 02 as answers.
 //!
 //! Each function returns 0 when it accepts the call, or else the number of the refusal. A state is a slice of [`STATE_WORDS`]
 //! words and figures are as many words as the function says. With any other length the function returns [`WRONG_LENGTH`] before
-//! all other tests and touches nothing. A medium that is too short is refused with 2, a piece that is not one block long with 4.
+//! all other tests and touches nothing. A medium that is too short is refused with 2, a piece that is not one block long with 4,
+//! a list of scenes that is too long with 17.
 //!
-//! A refused call sets its figures to 0 and changes nothing else; format and restart also set the state to zeros.
+//! A refused call sets its figures to 0, all but the place that load tells with 17, and changes nothing else; format and
+//! restart also set the state to zeros.
 //!
 //! # Why these functions are safe
 //!
@@ -30,8 +32,24 @@ pub const ADDRESS_FIGURES: usize = 5;
 /// Figures of [`holder`]: the block.
 pub const HOLDER_FIGURES: usize = 1;
 
+/// Figures of [`load`]: with 17 the place of the scene, else 0; the blocks that disks 0 to 15 serve.
+pub const LOAD_FIGURES: usize = 17;
+
+/// The most scenes in a list.
+pub const MOST_SCENES: usize = 65_536;
+
 /// The answer when a state or figures have the wrong length. Nothing was touched.
 pub const WRONG_LENGTH: u64 = 100;
+
+/// A scene: `count` blocks from block `first` on. With a count of 0 it names no block, and `first` may be any number.
+#[derive(Clone, Copy, Debug, PartialEq, Eq, Hash)]
+#[repr(C)]
+pub struct Scene {
+    /// The first block.
+    pub first: u64,
+    /// The number of blocks.
+    pub count: u64,
+}
 
 extern "C" {
     fn streterva_format(
@@ -124,6 +142,15 @@ extern "C" {
         state_words: usize,
         disk: u64,
         row: u64,
+        figures: *mut u64,
+        figures_words: usize,
+    ) -> u64;
+
+    fn streterva_load(
+        state: *const u64,
+        state_words: usize,
+        scenes: *const Scene,
+        scenes_count: usize,
         figures: *mut u64,
         figures_words: usize,
     ) -> u64;
@@ -284,6 +311,22 @@ pub fn holder(state: &[u64], disk: u64, row: u64, figures: &mut [u64]) -> u64 {
             state.len(),
             disk,
             row,
+            figures.as_mut_ptr(),
+            figures.len(),
+        )
+    }
+}
+
+/// Tells how many of the blocks that the scenes name each disk serves. Refuses 1; 17.
+pub fn load(state: &[u64], scenes: &[Scene], figures: &mut [u64]) -> u64 {
+    // SAFETY: each pointer goes with the length of its slice, borrowed for the call; the written figures overlap nothing; the
+    // state and the scenes, laid out as the library's, are only read.
+    unsafe {
+        streterva_load(
+            state.as_ptr(),
+            state.len(),
+            scenes.as_ptr(),
+            scenes.len(),
             figures.as_mut_ptr(),
             figures.len(),
         )

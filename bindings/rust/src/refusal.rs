@@ -95,3 +95,39 @@ impl fmt::Display for Refusal {
 }
 
 impl Error for Refusal {}
+
+/// Why [`State::load`](crate::State::load) refused its list.
+#[derive(Clone, Copy, Debug, PartialEq, Eq, Hash)]
+pub enum LoadRefusal {
+    /// 1: the state is not sound.
+    NotSound,
+    /// 17: a scene reaches past the open blocks or stands after the first 65,536.
+    Scene {
+        /// The place of the first such scene, counted from 0.
+        place: u64,
+    },
+}
+
+impl LoadRefusal {
+    /// The number of document 01 or 02.
+    pub const fn number(self) -> u64 {
+        match self {
+            LoadRefusal::NotSound => 1,
+            LoadRefusal::Scene { .. } => 17,
+        }
+    }
+}
+
+impl fmt::Display for LoadRefusal {
+    fn fmt(&self, f: &mut fmt::Formatter<'_>) -> fmt::Result {
+        match self {
+            LoadRefusal::NotSound => Refusal::NotSound.fmt(f),
+            LoadRefusal::Scene { place } => write!(
+                f,
+                "the scene at place {place} reaches past the open blocks or stands after the first 65,536"
+            ),
+        }
+    }
+}
+
+impl Error for LoadRefusal {}

@@ -1,7 +1,8 @@
 use std::fmt;
 
 use crate::raw;
-use crate::{Address, Advanced, Block, Part, Reason, Refusal, Restarted, Row, Spot, Step};
+use crate::{Address, Advanced, Block, Part, Reason, Restarted, Row, Scene, Spot, Step};
+use crate::{LoadRefusal, Refusal};
 
 /// The state of a volume: plain data, which the caller keeps and lends to each call together with the medium.
 ///
@@ -245,6 +246,24 @@ impl State {
         let mut block = [0; raw::HOLDER_FIGURES];
         accepted(raw::holder(&self.words, disk, row.0, &mut block))?;
         Ok(Block(block[0]))
+    }
+
+    /// Tells how many of the blocks that the scenes name each disk serves, by their live spots; 0 for disks that do not exist.
+    /// A block named by two scenes counts twice.
+    ///
+    /// # Errors
+    ///
+    /// 1; 17, a scene reaches past the open blocks or stands after the first 65,536, where one of 0 blocks is refused too.
+    pub fn load(&self, scenes: &[Scene]) -> Result<[u64; 16], LoadRefusal> {
+        let mut figures = [0; raw::LOAD_FIGURES];
+        let number = raw::load(&self.words, scenes, &mut figures);
+        let [place, served @ ..] = figures;
+        match number {
+            0 => Ok(served),
+            1 => Err(LoadRefusal::NotSound),
+            17 => Err(LoadRefusal::Scene { place }),
+            _ => unreachable!("the library answered {number}"),
+        }
     }
 }
 

@@ -1,7 +1,8 @@
-//! Each call accepted and refused, on document 01's cases.
+//! Each call accepted and refused, on document 01's cases; load on volumes of the same kind.
 
 use crate::raw;
-use crate::{Address, Advanced, Block, Part, Reason, Refusal, Row, Spot, State, Step};
+use crate::{Address, Advanced, Block, Part, Reason, Row, Scene, Spot, State, Step};
+use crate::{LoadRefusal, Refusal};
 
 /// A medium of arbitrary bytes, with room for `disks` disks.
 fn medium(size: u64, rows: u64, disks: u64) -> Vec<u8> {
@@ -39,6 +40,15 @@ fn finish(volume: &mut State, medium: &mut [u8]) -> u64 {
 fn at(volume: &State, block: u64) -> (u64, u64) {
     let spot = volume.address(Block(block)).unwrap().spot;
     (spot.disk, spot.row.0)
+}
+
+fn scene(first: u64, count: u64) -> Scene {
+    Scene { first, count }
+}
+
+/// The numbers of all 16 disks; those not given are 0.
+fn served(numbers: &[u64]) -> [u64; 16] {
+    std::array::from_fn(|disk| numbers.get(disk).copied().unwrap_or(0))
 }
 
 fn with_word(state: &State, word: usize, value: u64) -> State {
@@ -405,6 +415,44 @@ fn holder_is_the_way_back() {
 }
 
 #[test]
+fn load_counts_the_live_spots() {
+    let (mut medium, mut volume) = three_disks();
+    let all = [scene(0, 15)];
+    assert_eq!(volume.load(&[]), Ok(served(&[])));
+    assert_eq!(volume.load(&all), Ok(served(&[5, 5, 5])));
+    let twice = [scene(0, 4), scene(u64::MAX, 0), scene(3, 2)];
+    assert_eq!(volume.load(&twice), Ok(served(&[3, 2, 1])));
+
+    volume.grow(&mut medium, 5).unwrap();
+    volume.copy(&mut medium, Block(0)).unwrap();
+    assert_eq!(volume.load(&all), Ok(served(&[5, 5, 5])));
+    volume.checkpoint(&mut medium).unwrap();
+    assert_eq!(volume.load(&all), Ok(served(&[4, 5, 5, 1])));
+    finish(&mut volume, &mut medium);
+    assert_eq!(volume.load(&all), Ok(served(&[3, 3, 3, 3, 3])));
+    let all = [scene(0, 25)];
+    assert_eq!(volume.load(&all), Ok(served(&[5, 5, 5, 5, 5])));
+}
+
+#[test]
+fn load_refuses() {
+    let (mut medium, mut volume) = three_disks();
+    let refused = |place| Err(LoadRefusal::Scene { place });
+    volume.grow(&mut medium, 5).unwrap();
+    assert_eq!(volume.load(&[scene(15, 1)]), refused(0));
+    assert_eq!(volume.load(&[scene(14, 1), scene(14, 2)]), refused(1));
+    assert_eq!(volume.load(&[scene(1, u64::MAX)]), refused(0));
+    let mut many = vec![scene(0, 1); raw::MOST_SCENES];
+    assert_eq!(volume.load(&many), Ok(served(&[65_536])));
+    many.push(scene(0, 0));
+    assert_eq!(volume.load(&many), refused(65_536));
+    for unsound in [with_word(&volume, 13, 1), State::from_words([0; 15])] {
+        assert_eq!(unsound.load(&many), Err(LoadRefusal::NotSound));
+        assert_eq!(unsound.load(&[]), Err(LoadRefusal::NotSound));
+    }
+}
+
+#[test]
 fn a_damaged_state_is_refused() {
     let (mut medium, mut volume) = three_disks();
     volume.grow(&mut medium, 5).unwrap();
@@ -506,6 +554,27 @@ fn wrong_lengths_touch_nothing() {
     assert_eq!(piece, [9; 512]);
 }
 
+/// The same for load, with lists that 17 fits and without.
+#[test]
+fn load_of_wrong_lengths_touches_nothing() {
+    let (_, volume) = three_disks();
+    let lists = [vec![], vec![scene(0, 15)], vec![scene(15, 1)]];
+    for list in &lists {
+        for words in (0..=17).filter(|words| *words != raw::STATE_WORDS) {
+            let mut figures = [8; raw::LOAD_FIGURES];
+            let answer = raw::load(&[7; 17][..words], list, &mut figures);
+            assert_eq!((answer, figures), (raw::WRONG_LENGTH, [8; 17]));
+        }
+        for words in (0..=20).filter(|words| *words != raw::LOAD_FIGURES) {
+            let mut figures = [8; 20];
+            let answer = raw::load(&volume.words(), list, &mut figures[..words]);
+            assert_eq!((answer, figures), (raw::WRONG_LENGTH, [8; 20]));
+            let answer = raw::load(&[0; 15], list, &mut figures[..words]);
+            assert_eq!((answer, figures), (raw::WRONG_LENGTH, [8; 20]));
+        }
+    }
+}
+
 /// A refusal of document 01 has 0 for every figure; format and restart also hand back a state of zeros.
 #[test]
 fn refusals_have_zeros() {
@@ -540,6 +609,23 @@ fn refusals_have_zeros() {
     assert_eq!(state, volume.words());
 }
 
+/// The one figure of a refusal that is not 0 is the place of a scene.
+#[test]
+fn refusals_of_load_have_zeros() {
+    let (_, volume) = three_disks();
+    let mut figures = [6; raw::LOAD_FIGURES];
+    let list = [scene(0, 15), scene(0, 15), scene(15, 1)];
+    assert_eq!(raw::load(&volume.words(), &list, &mut figures), 17);
+    let (place, disks) = figures.split_first().unwrap();
+    assert_eq!((*place, disks), (2, &[0; 16][..]));
+    figures = [6; raw::LOAD_FIGURES];
+    assert_eq!(raw::load(&[0; 15], &list, &mut figures), 1);
+    assert_eq!(figures, [0; raw::LOAD_FIGURES]);
+    figures = [6; raw::LOAD_FIGURES];
+    assert_eq!(raw::load(&volume.words(), &[], &mut figures), 0);
+    assert_eq!(figures, [0; raw::LOAD_FIGURES]);
+}
+
 #[test]
 fn refusals_have_their_numbers() {
     for (number, refusal) in (1..).zip(Refusal::ALL) {
@@ -547,9 +633,16 @@ fn refusals_have_their_numbers() {
         assert_eq!(Refusal::from_number(number), Some(refusal));
         assert!(!refusal.to_string().is_empty());
     }
-    for number in [0, 16, raw::WRONG_LENGTH, u64::MAX] {
+    for number in [0, 16, 17, raw::WRONG_LENGTH, u64::MAX] {
         assert_eq!(Refusal::from_number(number), None);
     }
+    let scene = LoadRefusal::Scene { place: 3 };
+    assert_eq!((LoadRefusal::NotSound.number(), scene.number()), (1, 17));
+    assert_eq!(
+        LoadRefusal::NotSound.to_string(),
+        Refusal::NotSound.to_string()
+    );
+    assert!(scene.to_string().contains("place 3"));
 }
 
 #[test]

@@ -101,10 +101,10 @@ count-most p (suc n) =
     let h = count-most p n in
     cond-cases (λ v. count p n + v ≤ suc n) (p n) (λ e. omega arith) (λ e. omega arith)
 
-pub sum-most : (f : ℕ → ℕ) (n b : ℕ) → ((i : ℕ) → f i ≤ b) → sum f n ≤ n * b
+pub sum-most : (f : ℕ → ℕ) (n b : ℕ) → ((i : ℕ) → i < n → f i ≤ b) → sum f n ≤ n * b
 unfolding sum
 sum-most f zero b h = omega arith
-sum-most f (suc n) b h = omega (arith, sum-most f n b h, h n, suc-mul n b)
+sum-most f (suc n) b h = omega (arith, sum-most f n b (λ i l. h i (omega arith)), h n (omega arith), suc-mul n b)
 
 -- ---- counting along a one to one map
 
@@ -180,3 +180,42 @@ count-one-to-one p zero q k f g o = sym (count-none q k (λ j h. by j h (q j) re
     by j h true e = absurd (omega (arith, o .back j h e .0))
     by j h false e = e
 count-one-to-one p (suc n) q k f g o = one-more p n q k f g o (λ r. count-one-to-one p n r k f g)
+
+-- ---- sums of sums
+
+pub sum-none : (f : ℕ → ℕ) (n : ℕ) → ((i : ℕ) → i < n → f i ≡ 0) → sum f n ≡ 0
+unfolding sum
+sum-none f zero h = refl
+sum-none f (suc n) h = rw (sum-none f n (λ i l. h i (omega arith)), h n (omega arith))
+
+pub sum-plus : (f g : ℕ → ℕ) (n : ℕ) → sum (λ i. f i + g i) n ≡ sum f n + sum g n
+unfolding sum
+sum-plus f g zero = refl
+sum-plus f g (suc n) = omega (arith, sum-plus f g n)
+
+pub sum-swap : (f : ℕ → ℕ → ℕ) (m n : ℕ) → sum (λ i. sum (f i) n) m ≡ sum (λ j. sum (λ i. f i j) m) n
+unfolding sum
+sum-swap f m zero = sum-none (λ i. 0) m (λ i h. refl)
+sum-swap f m (suc n) = sum-plus (λ i. sum (f i) n) (λ i. f i n) m ∙ ap (_+ sum (λ i. f i n) m) (sum-swap f m n)
+
+-- ---- numbers counted by what a map makes of them
+
+count-as-sum : (p : ℕ → Bool) (n : ℕ) → sum (λ i. cond (p i) 1 0) n ≡ count p n
+unfolding sum count
+count-as-sum p zero = refl
+count-as-sum p (suc n) = rw (count-as-sum p n)
+
+-- one number below m is k
+count-one : (k m : ℕ) → k < m → count (eqb k) m ≡ 1
+count-one k m h =
+    count-less (eqb k) (λ i. false) m k h (eq-eqb k k refl) refl (λ i n. ne-eqb k i (λ e. n (sym e)))
+    ∙ ap suc (count-none (λ i. false) m (λ i l. refl))
+
+-- each is counted at one of the numbers below m
+pub sum-by-value : (f : ℕ → ℕ) (m n : ℕ) → ((j : ℕ) → j < n → f j < m) → sum (λ d. count (λ j. eqb (f j) d) n) m ≡ n
+unfolding count
+sum-by-value f m zero h = sum-none (λ d. 0) m (λ d l. refl)
+sum-by-value f m (suc n) h =
+    let before = sum-by-value f m n (λ j l. h j (omega arith)) in
+    let last = count-as-sum (eqb (f n)) m ∙ count-one (f n) m (h n (omega arith)) in
+    sum-plus (λ d. count (λ j. eqb (f j) d) n) (λ d. cond (eqb (f n) d) 1 0) m ∙ rw (before, last) (add-one n)

@@ -2,12 +2,13 @@
 use Prim.Native.Nat.{ℕ, zero, suc, _+_, _-_, _*_, _≤_, _<_}
 use mathlib.Core.Path.{_≡_, refl, sym, ap, _∙_}
 use mathlib.Core.List.{List, [], _∷_, _++_, append-nil, append-assoc}
-use mathlib.Core.Logic.{_⊎_, inl, inr, ⊎-elim}
+use mathlib.Core.Logic.{_⊎_, inl, inr, _≢_, ⊎-elim}
 use native.Mathlib.Nat.{zero-add, add-zero, add-suc, suc-add, zero-mul, suc-mul, not-suc-le-zero, le-of-suc-le-suc, eq-or-lt-of-le}
 use native.Mathlib.Numerals.{add-one}
+use native.Mathlib.Decide.{ℕ-discrete}
 use native.Mathlib.Omega.{arith}
-use lib.ListN.{length, take, drop, getD, set, replicate, length-append, length-take, length-drop, drop-of-length-le, List·getD-append}
-use lib.Seq.{sets, sets-eq, length-sets, take-at, drop-at, set-at, getD-at, append-snoc, drop-drop, drop-set-lt, drop-set-add, take-set-le, ext-getD}
+use lib.ListN.{length, take, drop, getD, set, replicate, length-set, length-append, length-take, length-drop, drop-of-length-le, List·getD-append}
+use lib.Seq.{sets, sets-eq, length-sets, take-at, drop-at, set-at, getD-at, append-snoc, drop-drop, drop-set-lt, drop-set-add, take-set-le, getD-set-same, getD-set-other, ext-getD}
 use Rattle.base.specs.Below.{table, joined}
 
 module _ {A : Type 0} where
@@ -91,6 +92,17 @@ module _ {A : Type 0} where
   table-self z l n e =
       ext-getD z (table (λ i. getD l i z) n) l (length-table (λ i. getD l i z) n ∙ sym e)
       (λ i h. getD-table z (λ j. getD l j z) n i (rw (length-table (λ j. getD l j z) n) at h))
+
+  -- one entry changed
+  pub set-table : (z : A) (f g : ℕ → A) (n k : ℕ) → k < n → ((i : ℕ) → i < n → i ≢ k → f i ≡ g i) → set (table f n) k (g k) ≡ table g n
+  set-table z f g n k h same =
+      sym (table-self z (set (table f n) k (g k)) n (length-set (table f n) k (g k) ∙ length-table f n))
+      ∙ table-ext (λ i. getD (set (table f n) k (g k)) i z) g n
+      (λ i l.
+      elim (ℕ-discrete i k) [
+        | yes q ↦ rw q (getD-set-same (table f n) k (g k) z (rw (length-table f n) h))
+        | no q ↦ getD-set-other (table f n) k i (g k) z q ∙ getD-table z f n i l ∙ same i l q
+      ])
 
   -- one more entry, as a loop stores it
   pub table-next : (z : A) (n i : ℕ) (f : ℕ → A) (l : List A) → i < n → l ≡ table f i ++ replicate (n - i) z

@@ -1,19 +1,26 @@
 -- What the code of the exported functions needs: the tests of the lengths. Assumes nothing.
 use Prim.Native.Nat.{ℕ}
-use mathlib.Core.Path.{_≡_}
-use mathlib.Core.Bool.{true, false}
-use mathlib.Core.List.{List}
+use mathlib.Core.Path.{_≡_, ap, _∙_}
+use mathlib.Core.Bool.{true, false, cond}
+use mathlib.Core.List.{List, [], _∷_, _++_, append-nil}
 use mathlib.Core.Logic.{_≢_}
+use native.Mathlib.Omega.{arith}
 use lib.Dec.{eqb}
-use lib.ListN.{length}
+use lib.ListN.{length, take, drop, set, drop-of-length-le}
 use borrow.Author.Tests.{eq-eqb, ne-eqb}
 use Rattle.base.specs.Refusals.{refusal}
-use Rattle.base.proofs.Booleans.{by-test}
+use Rattle.base.proofs.Booleans.{and-left, by-test}
 use Rattle.medium.specs.declared.Geometry.{Geometry}
 use Rattle.medium.specs.Medium.{Observations, apply}
+use Rattle.volume.specs.declared.Volume.{Volume}
 use Rattle.volume.specs.Calls.{refused, formatTable, formatOutcome}
-use Rattle.capi.specs.Exported.{lengthsFit}
-use Rattle.capi.specs.Words.{stateWords}
+use Rattle.volume.specs.States.{zeros}
+use Rattle.scene_load.specs.declared.Load.{Load}
+use Rattle.scene_load.specs.declared.Scene.{Scene}
+use Rattle.scene_load.specs.Loads.{loadOf, number as loadNumber}
+use Rattle.capi.specs.Exported.{wrongLength, lengthsFit, untouched, lookedUp, loadLeft}
+use Rattle.capi.specs.Figures.{loadFigures}
+use Rattle.capi.specs.Words.{stateWords, stateFrom}
 
 pub words-wrong : (words : List ℕ) (n : ℕ) (figures : List ℕ) → length words ≢ stateWords → lengthsFit words n figures ≡ false
 unfolding lengthsFit
@@ -33,3 +40,34 @@ pub format-stores : (z s n : ℕ) (o : Observations) (g k : Geometry) (m after :
 unfolding formatOutcome refused apply
 format-stores z s n o g k m after =
     by-test (eqb (refusal (formatTable z s n (o .byteCount))) 0) (λ t. rw t (λ e. e)) (λ t. rw t (λ e. e))
+
+-- the figures of a load: the numbers put behind the place, which is put first
+pub load-put : (figures served put : List ℕ) (place told : ℕ) → length figures ≡ 17 → put ≡ served → told ≡ place
+    → set (take 1 figures ++ (put ++ drop 16 (drop 1 figures))) 0 told ≡ place ∷ served
+load-put figures served put place told e p q = rw (p, q) (first-put figures e)
+  where
+    first-put : (figures : List ℕ) → length figures ≡ 17 → set (take 1 figures ++ (served ++ drop 16 (drop 1 figures))) 0 place ≡ place ∷ served
+    first-put [] e = absurd (omega arith)
+    first-put (x ∷ rest) e = rw (drop-of-length-le rest {i = 16} (omega arith)) (ap (place ∷_) (append-nil served))
+
+-- the state that load takes from words of any length
+abbrev pub stateTaken : (words : List ℕ) → Volume
+stateTaken words = cond (eqb (length words) stateWords) (stateFrom words) zeros
+
+-- what the calls of `streterva_load` leave is what it says: where the lengths fit, the state is that of the words
+module _ (words : List ℕ) (scenes : List Scene) (figures : List ℕ) where
+  taken : lengthsFit words 17 figures ≡ true → stateTaken words ≡ stateFrom words
+  unfolding lengthsFit
+  taken e = rw (and-left (eqb (length words) stateWords) (eqb (length figures) 17) e)
+
+  pub load-left : (v : Volume) (load : Load) (n : ℕ) (after : List ℕ) → v ≡ stateTaken words → load ≡ loadOf v scenes
+      → (n ≡ cond (lengthsFit words 17 figures) (loadNumber (load .answer)) wrongLength)
+      × (after ≡ cond (lengthsFit words 17 figures) (loadFigures load) figures)
+      → (n ≡ loadLeft words scenes figures .number) × (after ≡ loadLeft words scenes figures .figures)
+  unfolding loadLeft lookedUp untouched
+  load-left v load n after e f g =
+      by-test (lengthsFit words 17 figures)
+      (λ t.
+      let same : load ≡ loadOf (stateFrom words) scenes = f ∙ ap (λ (s : Volume). loadOf s scenes) (e ∙ taken t) in
+      rw (t, ← same) (rw t at (g .0), rw t at (g .1)))
+      (λ t. rw t (rw t at (g .0), rw t at (g .1)))

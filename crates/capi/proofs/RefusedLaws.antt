@@ -12,6 +12,7 @@ use borrow.Author.Tests.{ltb-true}
 use Rattle.base.specs.Refusals.{refusal}
 use Rattle.base.proofs.Booleans.{cond-cases, and-left, and-right}
 use Rattle.layout.specs.declared.Spot.{Spot}
+use Rattle.layout.specs.Limits.{mostDisks}
 use Rattle.marks.specs.Marks.{noMarks}
 use Rattle.medium.specs.Medium.{Observations}
 use Rattle.volume.specs.declared.Volume.{Volume}
@@ -28,7 +29,10 @@ use Rattle.volume.specs.Records.{numbersOf}
 use Rattle.volume.specs.States.{newState, zeros}
 use Rattle.volume.proofs.Judged.{judged-cases}
 use Rattle.volume.proofs.Theorems.{volume-laws}
-use Rattle.capi.specs.Exported.{Left, wrongLength, lengthsFit, untouched, handedBack, lookedUp, formatLeft, restartLeft, growLeft, copyLeft, checkpointLeft, advanceLeft, writeLeft, readLeft, addressLeft, holderLeft}
+use Rattle.scene_load.specs.declared.Scene.{Scene}
+use Rattle.scene_load.specs.Loads.{placeTold, loadTable, loadOf, number as loadNumber}
+use Rattle.scene_load.proofs.Theorems.{load-laws}
+use Rattle.capi.specs.Exported.{Left, wrongLength, lengthsFit, untouched, handedBack, lookedUp, formatLeft, restartLeft, growLeft, copyLeft, checkpointLeft, advanceLeft, writeLeft, readLeft, addressLeft, holderLeft, loadLeft}
 use Rattle.capi.specs.Figures.{toldFigures, noFigures, callsFigures, advanceFigures, addressFigures, holderFigures}
 use Rattle.capi.specs.Laws.{Words, RefusedLeft}
 use Rattle.capi.specs.Words.{stateWords, wordOf, wordsOf, stateFrom}
@@ -68,6 +72,10 @@ address-number v x = other-number (addressTable v x) _ (volume-laws .address-ref
 pub holder-number : (v : Volume) (p : Spot) → holderNumber (holderReply v p .answer) ≢ wrongLength
 unfolding holderTable
 holder-number v p = other-number (holderTable v p) _ (volume-laws .holder-refuses v p .number-told) refl
+
+pub load-number : (v : Volume) (scenes : List Scene) → loadNumber (loadOf v scenes .answer) ≢ wrongLength
+unfolding loadTable
+load-number v scenes = other-number (loadTable v scenes (length scenes)) _ (load-laws .load-refuses v scenes .number-told) refl
 
 module _ (v : Volume) where
   pub grow-number : (count : ℕ) (o : Observations) → number (growOutcome v count o .reply .answer) ≢ wrongLength
@@ -190,6 +198,15 @@ module _ (words : List ℕ) where
   holder-refused p figures =
       let answer = holderReply (stateFrom words) p .answer in
       looked-left words 1 (holderNumber answer) (holderFigures answer) (lengthsFit words 1 figures) (untouched words figures []) (holder-zero answer)
+
+  pub load-refused : (scenes : List Scene) (figures : List ℕ)
+      → lengthsFit words 17 figures ≡ true → loadLeft words scenes figures .number ≢ 0
+      → loadLeft words scenes figures .figures ≡ placeTold (loadOf (stateFrom words) scenes .answer) ∷ replicate mostDisks 0
+  unfolding loadLeft lookedUp
+  load-refused scenes figures e h =
+      let told = load-laws .load-refuses (stateFrom words) scenes in
+      let refuses = rw e at h in
+      rw e (ap (placeTold (loadOf (stateFrom words) scenes .answer) ∷_) (told .no-numbers (λ z. refuses (told .number-told ∙ z))))
 
 -- ---- restart, which hands back a state of zeros
 

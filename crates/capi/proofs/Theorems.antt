@@ -1,6 +1,6 @@
 -- The laws of words and of the exported functions: `capi-laws` proves all of `CapiLaws` in `specs/Laws.antt`. Assumes nothing.
 use Rattle.capi.specs.Laws.{CapiLaws}
-use Rattle.capi.proofs.RefusedLaws.{format-number, restart-number, grow-number, copy-number, checkpoint-number, advance-number, write-number, read-number, address-number, holder-number, grow-refused, copy-refused, checkpoint-refused, advance-refused, format-refused, restart-refused, address-refused, holder-refused, write-keeps, read-keeps}
+use Rattle.capi.proofs.RefusedLaws.{format-number, restart-number, grow-number, copy-number, checkpoint-number, advance-number, write-number, read-number, address-number, holder-number, load-number, grow-refused, copy-refused, checkpoint-refused, advance-refused, format-refused, restart-refused, address-refused, holder-refused, load-refused, write-keeps, read-keeps}
 use Rattle.capi.proofs.WordLaws.{words-count, marks-fit, state-back, state-arrays, words-back}
 
 pub capi-laws : CapiLaws
@@ -21,6 +21,7 @@ capi-laws =
       read-number = read-number;
       address-number = address-number;
       holder-number = holder-number;
+      load-number = load-number;
       grow-refused = grow-refused;
       copy-refused = copy-refused;
       checkpoint-refused = checkpoint-refused;
@@ -29,6 +30,7 @@ capi-laws =
       restart-refused = restart-refused;
       address-refused = address-refused;
       holder-refused = holder-refused;
+      load-refused = load-refused;
       write-keeps = write-keeps;
       read-keeps = read-keeps;
     }

@@ -11,7 +11,9 @@ use Rattle.volume.specs.declared.Answer.{Answer}
 use Rattle.volume.specs.Answers.{number, addressNumber, holderNumber}
 use Rattle.volume.specs.Calls.{Outcome, formatOutcome, restartOutcome, growOutcome, copyOutcome, checkpointOutcome, advanceOutcome, writeOutcome, readOutcome, addressReply, holderReply}
 use Rattle.volume.specs.Sound.{sound}
-use Rattle.capi.specs.Figures.{noFigures, callsFigures, advanceFigures, addressFigures, holderFigures}
+use Rattle.scene_load.specs.declared.Scene.{Scene}
+use Rattle.scene_load.specs.Loads.{loadOf, number as loadNumber}
+use Rattle.capi.specs.Figures.{noFigures, callsFigures, advanceFigures, addressFigures, holderFigures, loadFigures}
 use Rattle.capi.specs.Words.{stateWords, wordsOf, stateFrom}
 
 pub record Left : Type 0 where
@@ -90,6 +92,12 @@ unfoldable pub holderLeft : (words : List ℕ) (p : Spot) (figures : List ℕ) �
 holderLeft words p figures =
     let answer = holderReply (stateFrom words) p .answer in
     cond (lengthsFit words 1 figures) (lookedUp (holderNumber answer) (holderFigures answer) words) (untouched words figures [])
+
+-- document 02, W2
+unfoldable pub loadLeft : (words : List ℕ) (scenes : List Scene) (figures : List ℕ) → Left
+loadLeft words scenes figures =
+    let load = loadOf (stateFrom words) scenes in
+    cond (lengthsFit words 17 figures) (lookedUp (loadNumber (load .answer)) (loadFigures load) words) (untouched words figures [])
 
 -- "1: state not sound", asked alone
 unfoldable pub soundnessLeft : (words : List ℕ) → Left

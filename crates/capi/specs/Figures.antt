@@ -13,6 +13,8 @@ use Rattle.volume.specs.declared.AddressAnswer.{AddressAnswer}
 use Rattle.volume.specs.declared.AddressAnswer.the-variants as address
 use Rattle.volume.specs.declared.HolderAnswer.{HolderAnswer}
 use Rattle.volume.specs.Answers.{callsTold, blockTold}
+use Rattle.scene_load.specs.declared.Load.{Load}
+use Rattle.scene_load.specs.Loads.{placeTold}
 
 -- 1 head, 2 body, 3 tail
 unfoldable pub partNumber : (part : Part) → ℕ
@@ -56,3 +58,7 @@ addressFigures (address.At p reason) = p .disk ∷ p .row .0 ∷ reasonFigures r
 -- of holder: the block
 abbrev pub holderFigures : (a : HolderAnswer) → List ℕ
 holderFigures a = blockTold a ∷ []
+
+-- of load: the place, and how many blocks each disk serves
+abbrev pub loadFigures : (load : Load) → List ℕ
+loadFigures load = placeTold (load .answer) ∷ load .served

@@ -2,16 +2,19 @@
 use Prim.Native.Nat.{ℕ, _^_, _<_}
 use mathlib.Core.Path.{_≡_}
 use mathlib.Core.Bool.{Bool, true}
-use mathlib.Core.List.{List, []}
+use mathlib.Core.List.{List, [], _∷_}
 use mathlib.Core.Logic.{_≢_}
 use lib.ListN.{length, getD, replicate}
 use Rattle.layout.specs.declared.Spot.{Spot}
+use Rattle.layout.specs.Limits.{mostDisks}
 use Rattle.marks.specs.Marks.{markCount}
 use Rattle.medium.specs.Medium.{Observations, noStore}
 use Rattle.volume.specs.declared.Volume.{Volume}
 use Rattle.volume.specs.Answers.{number, addressNumber, holderNumber}
 use Rattle.volume.specs.Calls.{formatOutcome, restartOutcome, growOutcome, copyOutcome, checkpointOutcome, advanceOutcome, writeOutcome, readOutcome, addressReply, holderReply}
-use Rattle.capi.specs.Exported.{Left, wrongLength, lengthsFit, formatLeft, restartLeft, growLeft, copyLeft, checkpointLeft, advanceLeft, writeLeft, readLeft, addressLeft, holderLeft}
+use Rattle.scene_load.specs.declared.Scene.{Scene}
+use Rattle.scene_load.specs.Loads.{placeTold, loadOf, number as loadNumber}
+use Rattle.capi.specs.Exported.{Left, wrongLength, lengthsFit, formatLeft, restartLeft, growLeft, copyLeft, checkpointLeft, advanceLeft, writeLeft, readLeft, addressLeft, holderLeft, loadLeft}
 use Rattle.capi.specs.Words.{stateWords, wordOf, wordsOf, stateFrom}
 
 -- the lengths that the types of the code give the arrays of a state
@@ -49,6 +52,7 @@ pub record CapiLaws : Type 0 where
   pub read-number : (v : Volume) (x : ℕ) (piece : List ℕ) (o : Observations) → number (readOutcome v x piece o .reply .answer) ≢ wrongLength
   pub address-number : (v : Volume) (x : ℕ) → addressNumber (addressReply v x .answer) ≢ wrongLength
   pub holder-number : (v : Volume) (p : Spot) → holderNumber (holderReply v p .answer) ≢ wrongLength
+  pub load-number : (v : Volume) (scenes : List Scene) → loadNumber (loadOf v scenes .answer) ≢ wrongLength
   -- a refused call leaves the words as they were, has zeros as figures and stores nothing
   pub grow-refused : (words : List ℕ) (count : ℕ) (figures : List ℕ) (o : Observations) → Words words
       → lengthsFit words 1 figures ≡ true → growLeft words count figures o .number ≢ 0 → RefusedLeft words 1 (growLeft words count figures o)
@@ -66,6 +70,10 @@ pub record CapiLaws : Type 0 where
       → lengthsFit words 5 figures ≡ true → addressLeft words x figures .number ≢ 0 → RefusedLeft words 5 (addressLeft words x figures)
   pub holder-refused : (words : List ℕ) (p : Spot) (figures : List ℕ)
       → lengthsFit words 1 figures ≡ true → holderLeft words p figures .number ≢ 0 → RefusedLeft words 1 (holderLeft words p figures)
+  -- a refused load has zeros as numbers, and with 17 alone a place
+  pub load-refused : (words : List ℕ) (scenes : List Scene) (figures : List ℕ)
+      → lengthsFit words 17 figures ≡ true → loadLeft words scenes figures .number ≢ 0
+      → loadLeft words scenes figures .figures ≡ placeTold (loadOf (stateFrom words) scenes .answer) ∷ replicate mostDisks 0
   -- write and read leave the words as they were, which is why they are lent to be read only
   pub write-keeps : (words : List ℕ) (x : ℕ) (piece : List ℕ) (o : Observations) → Words words → writeLeft words x piece o .words ≡ words
   pub read-keeps : (words : List ℕ) (x : ℕ) (piece : List ℕ) (o : Observations) → Words words → readLeft words x piece o .words ≡ words

@@ -8,6 +8,7 @@ mod calls;
 mod figures;
 mod growth;
 mod handed;
+mod loads;
 mod lookups;
 mod words;
 
@@ -24,3 +25,5 @@ const ADVANCE_FIGURES: usize = 4;
 const ADDRESS_FIGURES: usize = 5;
 
 const HOLDER_FIGURES: usize = 1;
+
+const LOAD_FIGURES: usize = 17;

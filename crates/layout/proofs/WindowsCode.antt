@@ -37,7 +37,7 @@ module _ (m n : ℕ) (g : Grows m n) where
   unfolding cutMoves
   cut-most r =
       let k : min m r ≤ mostDisks = omega (arith, g .most) in
-      omega (arith, sum-most (λ d. min n (r - d)) (min m r) mostDisks (λ d. omega (arith, g .most)))
+      omega (arith, sum-most (λ d. min n (r - d)) (min m r) mostDisks (λ d h. omega (arith, g .most)))
 
   pub whole-most : (s w : ℕ) → s ≤ mostRows → (s / (m + n) - w) * (m * n) ≤ 64_000_000
   whole-most s w h =

@@ -5,6 +5,7 @@ use mathlib.Core.Bool.{Bool, true, false, not}
 use mathlib.Core.List.{List}
 use mathlib.Core.Logic.{_≢_}
 use native.Mathlib.Nat.{mul-le-mul}
+use native.Mathlib.Decide.{ℕ-discrete}
 use native.Mathlib.Omega.{arith}
 use lib.Dec.{ltb}
 use lib.ListN.{getD}
@@ -185,3 +186,12 @@ module _ (v : Volume) (g : v .growing ≢ 0) where
     pub old-address : (x : ℕ) → atNewSpot (v .rows) (countsNow v) moved x ≡ false → addressOf (v .rows) (countsBefore v) x ≡ liveAddressOf (tallyOf v) x
     unfolding addressOf liveAddressOf liveSpotOf liveSpot oldSpot liveReasonOf growthsOf movedBlocks tallyOf historyOf
     old-address x f = rw (growing-mode, f, history-before (v .growths) (v .counts) has-growth)
+
+-- ---- whether a growth runs or not
+
+pub open-most : (v : Volume) → sound v ≡ true → openBlocks (tallyOf v) ≤ 16_000_000
+open-most v e =
+    elim (ℕ-discrete (v .growing) 0) [
+      | yes g ↦ rw (← rest-open v g) (blocks-most v e)
+      | no g ↦ rw (← growing-open v g e) (old-blocks-most v g e)
+    ]

@@ -60,7 +60,7 @@ unfolding holderTable disks refusal
 found-some v p x e w f =
     rw (e, lt-leb (disks v) (p .disk) (w .disk), lt-leb (v .rows) (p .row .0) (w .row), f)
 
-is-open : (v : Volume) (x : ℕ) → sound v ≡ true → x < openBlocks (tallyOf v) → refusal (addressTable v x) ≡ 0
+pub is-open : (v : Volume) (x : ℕ) → sound v ≡ true → x < openBlocks (tallyOf v) → refusal (addressTable v x) ≡ 0
 unfolding addressTable refusal
 is-open v x e h = rw (e, lt-leb (openBlocks (tallyOf v)) x h)
 

@@ -50,7 +50,7 @@ impl Volume {
     }
 
     // The number of open blocks.
-    pub(crate) fn open_blocks(self) -> usize
+    pub fn open_blocks(self) -> usize
         requires { ⌜ sound self ≡ true ⌝ }
         ensures { λ r. ⌜ r ≡ openBlocks (tallyOf self) ⌝ }
     {
@@ -63,7 +63,7 @@ impl Volume {
     }
 
     // The live spot of block x.
-    pub(crate) fn live_spot(self, x: Block) -> Spot
+    pub fn live_spot(self, x: Block) -> Spot
         requires { ⌜ sound self ≡ true ⌝ }
         requires { ⌜ x .0 < openBlocks (tallyOf self) ⌝ }
         ensures { λ r. ⌜ r ≡ liveSpotOf (tallyOf self) (x .0) ⌝ }

@@ -1,0 +1,5 @@
+pub mod Refusing
+pub mod Serving
+pub mod Theorems
+pub mod BlocksCode
+pub mod ScenesCode

@@ -1,0 +1,2 @@
+pub mod Loads
+pub mod Laws

@@ -1,0 +1,123 @@
+-- Document 02, W2: the load of a scene list. "I hold a lent list of scenes, each a first block and a count, and want to know how many of its
+-- blocks each disk serves." Assumes nothing.
+use Prim.Native.Nat.{ℕ, _+_, _*_, _^_, _≤_, _<_}
+use mathlib.Core.Path.{_≡_}
+use mathlib.Core.Bool.{Bool, true, false, cond, not, _&&_, _||_}
+use mathlib.Core.List.{List, [], _∷_}
+use lib.Dec.{eqb, leb, ltb}
+use lib.ListN.{length, getD, replicate}
+use Rattle.base.specs.Below.{count, sum, table, first}
+use Rattle.layout.specs.Limits.{mostDisks}
+use Rattle.layout.specs.Tally.{openBlocks}
+use Rattle.volume.specs.declared.Volume.{Volume}
+use Rattle.volume.specs.Answers.{addressNumber, spotTold}
+use Rattle.volume.specs.Calls.{judged, addressReply}
+use Rattle.volume.specs.Sound.{sound}
+use Rattle.volume.specs.States.{tallyOf}
+use Rattle.scene_load.specs.declared.Scene.{Scene}
+use Rattle.scene_load.specs.declared.Load.{Load}
+use Rattle.scene_load.specs.declared.LoadAnswer.{LoadAnswer}
+use Rattle.scene_load.specs.declared.LoadAnswer.the-variants.{Refused, SceneRefused, Counted}
+
+-- The number that each case of an answer stands for, and its one figure: "the place of the first such scene, counted from 0".
+unfoldable pub number : (a : LoadAnswer) → ℕ
+number (Refused k) = k
+number (SceneRefused place) = 17
+number Counted = 0
+
+unfoldable pub placeTold : (a : LoadAnswer) → ℕ
+placeTold (Refused k) = 0
+placeTold (SceneRefused place) = place
+placeTold Counted = 0
+
+-- the scene at a place of a list
+abbrev pub sceneAt : (scenes : List Scene) (place : ℕ) → Scene
+sceneAt scenes place = getD scenes place (record { first = 0; count = 0 })
+
+-- ---- what is counted
+
+-- "whose address names that disk": the live spot, also while a growth runs
+unfoldable pub names : (v : Volume) (d x : ℕ) → Bool
+names v d x = eqb (addressNumber (addressReply v x .answer)) 0 && eqb (spotTold (addressReply v x .answer) .disk) d
+
+-- how many blocks of a scene disk d serves; "A scene of 0 blocks adds nothing"
+unfoldable pub servedOfScene : (v : Volume) (d : ℕ) (scene : Scene) → ℕ
+servedOfScene v d scene = count (λ j. names v d (scene .first + j)) (scene .count)
+
+-- how many blocks of the first n scenes; "A block named by two scenes counts twice."
+unfoldable pub servedOfFirst : (v : Volume) (scenes : List Scene) (n d : ℕ) → ℕ
+servedOfFirst v scenes n d = sum (λ place. servedOfScene v d (sceneAt scenes place)) n
+
+-- ---- what is refused
+
+-- "the first 65,536"
+abbrev pub mostScenes : ℕ
+mostScenes = 65_536
+
+-- "reaches past the open blocks"; a scene of 0 blocks "reaches nowhere"
+unfoldable pub reachesPast : (blocks : ℕ) (scene : Scene) → Bool
+reachesPast blocks scene = not (eqb (scene .count) 0) && ltb blocks (scene .first + scene .count)
+
+-- "17 when a scene reaches past the open blocks or stands after the first 65,536"
+unfoldable pub isRefused : (blocks place : ℕ) (scene : Scene) → Bool
+isRefused blocks place scene = leb mostScenes place || reachesPast blocks scene
+
+-- "the place of the first such scene, counted from 0" among the first n, or n where there is none
+unfoldable pub refusedPlace : (v : Volume) (scenes : List Scene) (n : ℕ) → ℕ
+refusedPlace v scenes n = first (λ place. isRefused (openBlocks (tallyOf v)) place (sceneAt scenes place)) n
+
+-- ---- the load: 1; 17, "tested after 1"
+
+unfoldable pub loadTable : (v : Volume) (scenes : List Scene) (n : ℕ) → List (ℕ × Bool)
+loadTable v scenes n = (1, not (sound v)) ∷ (17, ltb (refusedPlace v scenes n) n) ∷ []
+
+-- "with 0 for every disk"
+unfoldable pub refusedWith : (answer : LoadAnswer) → Load
+refusedWith answer = record { answer = answer; served = replicate mostDisks 0 }
+
+unfoldable pub refusedLoad : (place k : ℕ) → Load
+refusedLoad place k = refusedWith (cond (eqb k 17) (SceneRefused place) (Refused k))
+
+-- of the first n scenes of a list, and of all
+unfoldable pub loadOfFirst : (v : Volume) (scenes : List Scene) (n : ℕ) → Load
+loadOfFirst v scenes n =
+    judged (loadTable v scenes n) (refusedLoad (refusedPlace v scenes n))
+    (record { answer = Counted; served = table (servedOfFirst v scenes n) mostDisks })
+
+unfoldable pub loadOf : (v : Volume) (scenes : List Scene) → Load
+loadOf v scenes = loadOfFirst v scenes (length scenes)
+
+-- ---- one scene after another, as the code takes them
+
+abbrev pub emptyLoad : (v : Volume) → Load
+emptyLoad v = loadOfFirst v [] 0
+
+unfoldable pub isCounted : (a : LoadAnswer) → Bool
+isCounted (Refused k) = false
+isCounted (SceneRefused place) = false
+isCounted Counted = true
+
+-- the numbers with those of a scene added
+abbrev pub withBlocks : (v : Volume) (served : List ℕ) (scene : Scene) → List ℕ
+withBlocks v served scene = table (λ d. getD served d 0 + servedOfScene v d scene) mostDisks
+
+-- a load with one scene more, at this place of the list; a refused load stays as it is
+unfoldable pub withScene : (v : Volume) (load : Load) (place : ℕ) (scene : Scene) → Load
+withScene v load place scene =
+    cond (isCounted (load .answer))
+    (cond (isRefused (openBlocks (tallyOf v)) place scene) (refusedWith (SceneRefused place))
+    (record { answer = Counted; served = withBlocks v (load .served) scene }))
+    load
+
+-- what the code may rest on: scenes were counted only of a sound state, and each of those before this place added at most all open blocks
+-- that there can be
+pub record Usable (v : Volume) (load : Load) (place : ℕ) : Type 0 where
+  pub is-sound : isCounted (load .answer) ≡ true → sound v ≡ true
+  pub no-more : isCounted (load .answer) ≡ true → (d : ℕ) → d < mostDisks → getD (load .served) d 0 ≤ place * 16_000_000
+
+-- of one scene: all its blocks are open, and no number wraps with so many more
+abbrev pub AllOpen : (v : Volume) (scene : Scene) → Type 0
+AllOpen v scene = (j : ℕ) → j < scene .count → scene .first + j < openBlocks (tallyOf v)
+
+abbrev pub NoneWraps : (served : List ℕ) (more : ℕ) → Type 0
+NoneWraps served more = (d : ℕ) → d < mostDisks → getD served d 0 + more < 2 ^ 64

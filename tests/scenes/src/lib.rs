@@ -1,0 +1,150 @@
+//! What the library's load must answer, from the reference's addresses block
+//! by block, and the library's own answer.
+
+use reference::refusal::NOT_SOUND;
+use reference::spot::Block;
+use reference::state::State;
+use streterva::raw::{self, Scene};
+
+/// Disks that an answer has numbers for.
+pub const DISKS: usize = 16;
+
+/// The most scenes in a list.
+pub const MOST: usize = 65_536;
+
+/// Number of the refusal of a scene.
+pub const SCENE: u64 = 17;
+
+/// What a figure holds before a call.
+const BEFORE: u64 = 0xAAAA_AAAA_AAAA_AAAA;
+
+/// An answer of load: its number, the place of the scene refused and the
+/// blocks that each disk serves.
+#[derive(Clone, Copy, PartialEq, Eq, Debug)]
+pub struct Answer {
+    pub number: u64,
+    pub place: u64,
+    pub served: [u64; DISKS],
+}
+
+/// The answer of an accepted list; disks after the given ones have 0.
+pub fn served(numbers: &[u64]) -> Answer {
+    let mut served = [0; DISKS];
+    served[..numbers.len()].copy_from_slice(numbers);
+    Answer {
+        number: 0,
+        place: 0,
+        served,
+    }
+}
+
+/// The answer that refuses the scene at `place`.
+pub fn refused(place: u64) -> Answer {
+    Answer {
+        number: SCENE,
+        place,
+        served: [0; DISKS],
+    }
+}
+
+/// The answer to a state that is not sound.
+pub fn not_sound() -> Answer {
+    Answer {
+        number: NOT_SOUND,
+        ..refused(0)
+    }
+}
+
+/// What load must answer.
+pub fn expected(state: &State, scenes: &[Scene]) -> Answer {
+    if !state.sound() {
+        return not_sound();
+    }
+    for (place, scene) in scenes.iter().enumerate() {
+        if place >= MOST || reaches_past(state, scene) {
+            return refused(place as u64);
+        }
+    }
+    let mut answer = served(&[]);
+    for scene in scenes {
+        for x in scene.first..scene.first + scene.count {
+            let disk = state.live(Block(x)).spot.disk;
+            answer.served[disk as usize] += 1;
+        }
+    }
+    answer
+}
+
+fn reaches_past(state: &State, scene: &Scene) -> bool {
+    let end = scene.first as u128 + scene.count as u128;
+    scene.count > 0 && end > state.open() as u128
+}
+
+/// What load answers. The words around the figures stay as they were, and so
+/// does the state.
+pub fn answer(state: &State, scenes: &[Scene]) -> Answer {
+    let words = state.to_words();
+    let mut lent = [BEFORE; raw::LOAD_FIGURES + 2];
+    let number = raw::load(&words, scenes, &mut lent[1..=raw::LOAD_FIGURES]);
+    let [before, place, served @ .., after] = lent;
+    assert_eq!((before, after), (BEFORE, BEFORE));
+    assert_eq!(State::from_words(&words), *state);
+    Answer {
+        number,
+        place,
+        served,
+    }
+}
+
+/// Asks the library, compares, and gives the answer.
+pub fn compared(state: &State, scenes: &[Scene]) -> Answer {
+    let answer = answer(state, scenes);
+    let some = &scenes[..scenes.len().min(20)];
+    let wanted = expected(state, scenes);
+    assert_eq!(answer, wanted, "{state:?}, scenes from {some:?}");
+    if answer.number == 0 {
+        adds_up(state, scenes, &answer);
+    }
+    answer
+}
+
+/// The numbers of an accepted list sum up to its counts, and only disks that
+/// exist have any.
+pub fn adds_up(state: &State, scenes: &[Scene], answer: &Answer) {
+    let counts: u64 = scenes.iter().map(|scene| scene.count).sum();
+    assert_eq!(answer.served.iter().sum::<u64>(), counts);
+    let (_, others) = answer.served.split_at(state.disks() as usize);
+    assert!(others.iter().all(|&number| number == 0));
+}
+
+pub fn scene(first: u64, count: u64) -> Scene {
+    Scene { first, count }
+}
+
+/// The scene of all open blocks.
+pub fn whole(state: &State) -> Scene {
+    scene(0, state.open())
+}
+
+/// A state of 512-byte blocks at rest.
+pub fn at_rest(counts: &[u64], s: u64) -> State {
+    let mut state = State {
+        z: 512,
+        s,
+        ..State::ZEROS
+    };
+    state.t = counts.len() as u64 - 1;
+    state.counts[..counts.len()].copy_from_slice(counts);
+    state
+}
+
+/// The growth to the last count under way; all copies are recorded.
+pub fn growing(counts: &[u64], s: u64, w: u64, recorded: u64) -> State {
+    State {
+        growing: 1,
+        w,
+        recorded,
+        copied: recorded,
+        ..at_rest(counts, s)
+    }
+}
