@@ -15,14 +15,12 @@ use Rattle.base.proofs.Booleans.{clash, by-test}
 use Rattle.base.proofs.Lowest.{first-before, first-passes}
 use Rattle.base.proofs.Refusals.{passed, held}
 use Rattle.layout.specs.Limits.{mostDisks}
-use Rattle.layout.specs.Tally.{openBlocks}
 use Rattle.volume.specs.declared.Volume.{Volume}
 use Rattle.volume.specs.Sound.{sound}
-use Rattle.volume.specs.States.{tallyOf}
 use Rattle.scene_load.specs.declared.Scene.{Scene}
 use Rattle.scene_load.specs.declared.Load.{Load}
 use Rattle.scene_load.specs.declared.LoadAnswer.the-variants.{Counted}
-use Rattle.scene_load.specs.Loads.{number, placeTold, sceneAt, reachesPast, isRefused, mostScenes, refusedPlace, loadTable, refusedWith, refusedLoad, loadOfFirst, loadOf}
+use Rattle.scene_load.specs.Loads.{number, placeTold, reachesPast, isRefused, refusedAt, mostScenes, refusedPlace, loadTable, refusedWith, refusedLoad, loadOfFirst, loadOf}
 use Rattle.scene_load.specs.Laws.{refusalOf, LoadRefuses, FirstRefused}
 
 -- ---- one scene
@@ -51,20 +49,17 @@ block-within blocks place scene e j h = omega (arith, within-open blocks place s
 -- ---- a list, up to n scenes
 
 module _ (v : Volume) (scenes : List Scene) (n : ℕ) where
-  abbrev refusedAt : ℕ → Bool
-  refusedAt place = isRefused (openBlocks (tallyOf v)) place (sceneAt scenes place)
-
   -- no refusal: the state is sound and no scene is refused
   pub accepted-sound : refusal (loadTable v scenes n) ≡ 0 → sound v ≡ true
   unfolding loadTable
   accepted-sound e = held 1 (sound v) ((17, ltb (refusedPlace v scenes n) n) ∷ []) (omega arith) e .0
 
-  pub accepted-all : refusal (loadTable v scenes n) ≡ 0 → (i : ℕ) → i < n → refusedAt i ≡ false
+  pub accepted-all : refusal (loadTable v scenes n) ≡ 0 → (i : ℕ) → i < n → refusedAt v scenes i ≡ false
   unfolding loadTable refusedPlace
   accepted-all e i h =
       let rest = held 1 (sound v) ((17, ltb (refusedPlace v scenes n) n) ∷ []) (omega arith) e .1 in
       let none = passed 17 (ltb (refusedPlace v scenes n) n) [] (omega arith) rest .0 in
-      first-before refusedAt n i (omega (arith, ltb-false (refusedPlace v scenes n) n none))
+      first-before (refusedAt v scenes) n i (omega (arith, ltb-false (refusedPlace v scenes n) n none))
 
   -- 17: the state is sound, and the place is that of the first scene that is refused
   seventeen : (a b : Bool) → refusal ((1, not a) ∷ (17, b) ∷ []) ≡ 17 → b ≡ true
@@ -123,15 +118,15 @@ module _ (v : Volume) (scenes : List Scene) where
       rw (place-of-first e)
       (record {
         in-list = below;
-        scene-refused = first-passes (refusedAt v scenes (length scenes)) (length scenes) below;
-        earlier-not = first-before (refusedAt v scenes (length scenes)) (length scenes);
+        scene-refused = first-passes (refusedAt v scenes) (length scenes) below;
+        earlier-not = first-before (refusedAt v scenes) (length scenes);
       })
 
-  pub some-refused : (place : ℕ) → sound v ≡ true → place < length scenes → isRefused (openBlocks (tallyOf v)) place (sceneAt scenes place) ≡ true
+  pub some-refused : (place : ℕ) → sound v ≡ true → place < length scenes → refusedAt v scenes place ≡ true
       → refusalOf v scenes ≡ 17
   unfolding loadTable refusal refusedPlace
   some-refused place s h e =
-      let p = refusedAt v scenes (length scenes) in
+      let p = refusedAt v scenes in
       elim (decLt (first p (length scenes)) (length scenes)) [
         | yes l ↦ rw (s, lt-ltb (first p (length scenes)) (length scenes) l)
         | no l ↦ clash e (first-before p (length scenes) place (omega (arith, l)))

@@ -1,7 +1,7 @@
 -- What the walk over a list of scenes meets: the load of the first scenes, with one scene more. Assumes nothing.
 use Prim.Native.Nat.{ℕ, suc, _+_, _≤_}
 use mathlib.Core.Path.{_≡_, refl, sym, ap, _∙_}
-use mathlib.Core.Bool.{Bool, true, false}
+use mathlib.Core.Bool.{true, false}
 use mathlib.Core.List.{List}
 use native.Mathlib.Decide.{ℕ-discrete}
 use native.Mathlib.Omega.{arith}
@@ -23,7 +23,7 @@ use Rattle.volume.proofs.LiveCode.{open-most}
 use Rattle.scene_load.specs.declared.Scene.{Scene}
 use Rattle.scene_load.specs.declared.Load.{Load}
 use Rattle.scene_load.specs.declared.LoadAnswer.the-variants.{Refused, SceneRefused, Counted}
-use Rattle.scene_load.specs.Loads.{sceneAt, names, servedOfScene, servedOfFirst, isRefused, refusedPlace, loadTable, refusedWith, refusedLoad, loadOfFirst, emptyLoad, isCounted, withBlocks, withScene, Usable}
+use Rattle.scene_load.specs.Loads.{sceneAt, names, servedOfScene, servedOfFirst, refusedAt, refusedPlace, loadTable, refusedWith, refusedLoad, loadOfFirst, emptyLoad, isCounted, withBlocks, withScene, Usable}
 use Rattle.scene_load.proofs.Refusing.{within-open}
 
 -- the load of no scenes, of whatever list
@@ -40,9 +40,6 @@ unfolding loadOfFirst loadTable refusal refusedLoad refusedWith
 empty-unsound v e = rw e
 
 module _ (v : Volume) (scenes : List Scene) where
-  abbrev refusedAt : ℕ → Bool
-  refusedAt place = isRefused (openBlocks (tallyOf v)) place (sceneAt scenes place)
-
   abbrev counted : ℕ → Load
   counted n = record { answer = Counted; served = table (servedOfFirst v scenes n) mostDisks }
 
@@ -51,11 +48,11 @@ module _ (v : Volume) (scenes : List Scene) where
   unfolding loadOfFirst loadTable refusal refusedLoad
   unsound-load n e = rw e
 
-  refused-load : (n : ℕ) → sound v ≡ true → ltb (first refusedAt n) n ≡ true → loadOfFirst v scenes n ≡ refusedWith (SceneRefused (first refusedAt n))
+  refused-load : (n : ℕ) → sound v ≡ true → ltb (first (refusedAt v scenes) n) n ≡ true → loadOfFirst v scenes n ≡ refusedWith (SceneRefused (first (refusedAt v scenes) n))
   unfolding loadOfFirst loadTable refusal refusedLoad refusedPlace
   refused-load n e h = rw (e, h)
 
-  counted-load : (n : ℕ) → sound v ≡ true → ltb (first refusedAt n) n ≡ false → loadOfFirst v scenes n ≡ counted n
+  counted-load : (n : ℕ) → sound v ≡ true → ltb (first (refusedAt v scenes) n) n ≡ false → loadOfFirst v scenes n ≡ counted n
   unfolding loadOfFirst loadTable refusal refusedLoad refusedPlace
   counted-load n e h = rw (e, h)
 
@@ -77,36 +74,36 @@ module _ (v : Volume) (scenes : List Scene) where
         (λ d h. ap (_+ servedOfScene v d (sceneAt scenes i)) (getD-table 0 (servedOfFirst v scenes i) mostDisks d h))
 
     -- a refused list stays refused, at the same place
-    refused-before : sound v ≡ true → ltb (first refusedAt i) i ≡ true → next (loadOfFirst v scenes i) ≡ loadOfFirst v scenes (suc i)
+    refused-before : sound v ≡ true → ltb (first (refusedAt v scenes) i) i ≡ true → next (loadOfFirst v scenes i) ≡ loadOfFirst v scenes (suc i)
     unfolding first isCounted refusedWith
     refused-before s h =
-        let same : first refusedAt (suc i) ≡ first refusedAt i = rw h in
-        let below = ltb-true (first refusedAt i) i h in
-        rw (refused-load i s h) (stays (refusedWith (SceneRefused (first refusedAt i))) refl)
+        let same : first (refusedAt v scenes) (suc i) ≡ first (refusedAt v scenes) i = rw h in
+        let below = ltb-true (first (refusedAt v scenes) i) i h in
+        rw (refused-load i s h) (stays (refusedWith (SceneRefused (first (refusedAt v scenes) i))) refl)
         ∙ ap (λ (p : ℕ). refusedWith (SceneRefused p)) (sym same)
-        ∙ sym (refused-load (suc i) s (lt-ltb (first refusedAt (suc i)) (suc i) (omega arith)))
+        ∙ sym (refused-load (suc i) s (lt-ltb (first (refusedAt v scenes) (suc i)) (suc i) (omega arith)))
 
-    refused-here : sound v ≡ true → ltb (first refusedAt i) i ≡ false → refusedAt i ≡ true → next (loadOfFirst v scenes i) ≡ loadOfFirst v scenes (suc i)
+    refused-here : sound v ≡ true → ltb (first (refusedAt v scenes) i) i ≡ false → refusedAt v scenes i ≡ true → next (loadOfFirst v scenes i) ≡ loadOfFirst v scenes (suc i)
     unfolding first withScene isCounted
     refused-here s h r =
-        let here : first refusedAt (suc i) ≡ i = rw (h, r) in
+        let here : first (refusedAt v scenes) (suc i) ≡ i = rw (h, r) in
         rw (counted-load i s h, r)
         (ap (λ (p : ℕ). refusedWith (SceneRefused p)) (sym here)
-        ∙ sym (refused-load (suc i) s (lt-ltb (first refusedAt (suc i)) (suc i) (omega arith))))
+        ∙ sym (refused-load (suc i) s (lt-ltb (first (refusedAt v scenes) (suc i)) (suc i) (omega arith))))
 
-    counted-here : sound v ≡ true → ltb (first refusedAt i) i ≡ false → refusedAt i ≡ false → next (loadOfFirst v scenes i) ≡ loadOfFirst v scenes (suc i)
+    counted-here : sound v ≡ true → ltb (first (refusedAt v scenes) i) i ≡ false → refusedAt v scenes i ≡ false → next (loadOfFirst v scenes i) ≡ loadOfFirst v scenes (suc i)
     unfolding first withScene isCounted
     counted-here s h r =
-        let none : first refusedAt (suc i) ≡ suc i = rw (h, r) in
+        let none : first (refusedAt v scenes) (suc i) ≡ suc i = rw (h, r) in
         rw (counted-load i s h, r)
         (ap (λ (l : List ℕ). record { answer = Counted; served = l }) numbers-next
-        ∙ sym (counted-load (suc i) s (le-ltb (first refusedAt (suc i)) (suc i) (omega arith))))
+        ∙ sym (counted-load (suc i) s (le-ltb (first (refusedAt v scenes) (suc i)) (suc i) (omega arith))))
 
     pub next-load : next (loadOfFirst v scenes i) ≡ loadOfFirst v scenes (suc i)
     unfolding isCounted refusedWith
     next-load =
         by-test (sound v)
-        (λ s. by-test (ltb (first refusedAt i) i) (refused-before s) (λ h. by-test (refusedAt i) (refused-here s h) (counted-here s h)))
+        (λ s. by-test (ltb (first (refusedAt v scenes) i) i) (refused-before s) (λ h. by-test (refusedAt v scenes i) (refused-here s h) (counted-here s h)))
         (λ s. rw (unsound-load i s, unsound-load (suc i) s) (stays (refusedWith (Refused 1)) refl))
 
   -- ---- what the code may rest on
@@ -115,13 +112,13 @@ module _ (v : Volume) (scenes : List Scene) where
   unfolding isCounted refusedWith
   counted-sound i c = by-test (sound v) (λ s. s) (λ s. clash (rw (unsound-load i s) at c) refl)
 
-  counted-none : (i : ℕ) → isCounted (loadOfFirst v scenes i .answer) ≡ true → ltb (first refusedAt i) i ≡ false
+  counted-none : (i : ℕ) → isCounted (loadOfFirst v scenes i .answer) ≡ true → ltb (first (refusedAt v scenes) i) i ≡ false
   unfolding isCounted refusedWith
   counted-none i c =
-      by-test (ltb (first refusedAt i) i) (λ h. clash (rw (refused-load i (counted-sound i c) h) at c) refl) (λ h. h)
+      by-test (ltb (first (refusedAt v scenes) i) i) (λ h. clash (rw (refused-load i (counted-sound i c) h) at c) refl) (λ h. h)
 
   -- a scene that is not refused adds at most all open blocks
-  scene-most : sound v ≡ true → (d place : ℕ) → refusedAt place ≡ false → servedOfScene v d (sceneAt scenes place) ≤ 16_000_000
+  scene-most : sound v ≡ true → (d place : ℕ) → refusedAt v scenes place ≡ false → servedOfScene v d (sceneAt scenes place) ≤ 16_000_000
   unfolding servedOfScene
   scene-most s d place r =
       let scene = sceneAt scenes place in
@@ -138,8 +135,8 @@ module _ (v : Volume) (scenes : List Scene) where
         is-sound = counted-sound i;
         no-more = λ c d h.
             let s = counted-sound i c in
-            let none = ltb-false (first refusedAt i) i (counted-none i c) in
+            let none = ltb-false (first (refusedAt v scenes) i) i (counted-none i c) in
             rw (counted-load i s (counted-none i c), getD-table 0 (servedOfFirst v scenes i) mostDisks d h)
             (sum-most (λ place. servedOfScene v d (sceneAt scenes place)) i 16_000_000
-            (λ place l. scene-most s d place (first-before refusedAt i place (omega arith))));
+            (λ place l. scene-most s d place (first-before (refusedAt v scenes) i place (omega arith))));
       }

@@ -14,7 +14,7 @@ use Rattle.volume.specs.declared.Volume.{Volume}
 use Rattle.volume.specs.Sound.{sound}
 use Rattle.volume.specs.States.{disks, tallyOf}
 use Rattle.scene_load.specs.declared.Scene.{Scene}
-use Rattle.scene_load.specs.Loads.{number, placeTold, sceneAt, names, servedOfScene, servedOfFirst, reachesPast, isRefused, mostScenes, loadTable, loadOf}
+use Rattle.scene_load.specs.Loads.{number, placeTold, sceneAt, names, servedOfScene, servedOfFirst, reachesPast, refusedAt, mostScenes, loadTable, loadOf}
 
 -- the number that refuses a list, 0 where none does
 abbrev pub refusalOf : (v : Volume) (scenes : List Scene) → ℕ
@@ -33,8 +33,8 @@ pub record LoadRefuses (v : Volume) (scenes : List Scene) : Type 0 where
 -- a list refused with 17: the place told is that of the first scene that is refused
 pub record FirstRefused (v : Volume) (scenes : List Scene) (place : ℕ) : Type 0 where
   pub in-list : place < length scenes
-  pub scene-refused : isRefused (openBlocks (tallyOf v)) place (sceneAt scenes place) ≡ true
-  pub earlier-not : (i : ℕ) → i < place → isRefused (openBlocks (tallyOf v)) i (sceneAt scenes i) ≡ false
+  pub scene-refused : refusedAt v scenes place ≡ true
+  pub earlier-not : (i : ℕ) → i < place → refusedAt v scenes i ≡ false
 
 -- an accepted list
 pub record Counts (v : Volume) (scenes : List Scene) : Type 0 where
@@ -62,6 +62,6 @@ pub record LoadLaws : Type 0 where
   pub load-refuses : (v : Volume) (scenes : List Scene) → LoadRefuses v scenes
   pub first-refused : (v : Volume) (scenes : List Scene) → refusalOf v scenes ≡ 17 → FirstRefused v scenes (placeTold (loadOf v scenes .answer))
   pub some-refused : (v : Volume) (scenes : List Scene) (place : ℕ) → sound v ≡ true → place < length scenes
-      → isRefused (openBlocks (tallyOf v)) place (sceneAt scenes place) ≡ true → refusalOf v scenes ≡ 17
+      → refusedAt v scenes place ≡ true → refusalOf v scenes ≡ 17
   -- and what is counted
   pub load-counts : (v : Volume) (scenes : List Scene) → refusalOf v scenes ≡ 0 → Counts v scenes

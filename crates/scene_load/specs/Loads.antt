@@ -62,9 +62,12 @@ reachesPast blocks scene = not (eqb (scene .count) 0) && ltb blocks (scene .firs
 unfoldable pub isRefused : (blocks place : ℕ) (scene : Scene) → Bool
 isRefused blocks place scene = leb mostScenes place || reachesPast blocks scene
 
+abbrev pub refusedAt : (v : Volume) (scenes : List Scene) (place : ℕ) → Bool
+refusedAt v scenes place = isRefused (openBlocks (tallyOf v)) place (sceneAt scenes place)
+
 -- "the place of the first such scene, counted from 0" among the first n, or n where there is none
 unfoldable pub refusedPlace : (v : Volume) (scenes : List Scene) (n : ℕ) → ℕ
-refusedPlace v scenes n = first (λ place. isRefused (openBlocks (tallyOf v)) place (sceneAt scenes place)) n
+refusedPlace v scenes n = first (refusedAt v scenes) n
 
 -- ---- the load: 1; 17, "tested after 1"
 

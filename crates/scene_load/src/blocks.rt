@@ -60,23 +60,24 @@ pub(crate) fn empty_load(v: Volume) -> Load
     }
 }
 
-// The load with one scene more, at this place of the list.
+// The load with one scene more, at this place of the list. A refused load stays as it is.
 pub(crate) fn with_scene(v: Volume, load: Load, place: usize, first: usize, count: usize) -> Load
     requires { ⌜ Usable v load place ⌝ }
     ensures { λ r. ⌜ r ≡ withScene v load place (record { first = first; count = count }) ⌝ }
 {
     let answer = load.answer;
+    let so_far = load.served;
     let LoadAnswer::Counted = answer else {
         return load;
     };
+    let none = [0; 16];
     if is_refused(v.open_blocks(), place, first, count) {
         return Load {
             answer: LoadAnswer::SceneRefused(place),
-            served: [0; 16],
+            served: none,
         };
     }
-    let before = load.served;
-    let served = with_blocks(v, before, first, count);
+    let served = with_blocks(v, so_far, first, count);
     Load {
         answer: LoadAnswer::Counted,
         served,

@@ -1,9 +1,10 @@
 -- `with_blocks` meets its contract. The loop's invariant: the numbers have the blocks passed. Assumes nothing.
-use Prim.Native.Nat.{_-_, _≤_}
+use Prim.Native.Nat.{_-_, _≤_, _<_}
 use mathlib.Core.Path.{_≡_, ap}
 use native.Mathlib.Omega.{arith}
 use borrow.Author.Needs.{needs}
 use Rattle.layout.specs.declared.Spot.{Spot}
+use Rattle.layout.specs.Limits.{mostDisks}
 use Rattle.volume.proofs.LiveCode.{open-most}
 use Rattle.scene_load.proofs.BlocksCode.{withFirst, none-added, number-most, block-added, disk-small}
 use Rattle.scene_load.proofs.blocks.with_blocks.Statement.{statement}
@@ -26,23 +27,27 @@ add-sum c =
 live-spot-requires : tie.Need-live-spot-requires Inv-loop μ-loop
 live-spot-requires c κs = let s = c .before .before in (s .pre .0, s .pre .1 .0 _ (c .loop-test .taken))
 
+-- the block's disk is one of the 16
+small : (c : tie.After-live-spot Inv-loop μ-loop) → c .live-spot .result .disk < mostDisks
+small c =
+    let s = c .before .before .before in
+    disk-small _ (s .pre .0) _ _ (s .pre .1 .0 _ (c .before .loop-test .taken)) (c .live-spot .ensures)
+
 mul-sum : tie.Need-mul-sum Inv-loop μ-loop
-mul-sum c = let s = c .before .before .before in omega (arith, disk-small _ (s .pre .0) _ _ (s .pre .1 .0 _ (c .before .loop-test .taken)) (c .live-spot .ensures))
+mul-sum c = omega (arith, small c)
 
 array-read-sum : tie.Need-array-read-sum Inv-loop μ-loop
-array-read-sum c = let s = c .before .before .before in disk-small _ (s .pre .0) _ _ (s .pre .1 .0 _ (c .before .loop-test .taken)) (c .live-spot .ensures)
+array-read-sum c = small c
 
 add-sum-2 : tie.Need-add-sum-2 Inv-loop μ-loop
 add-sum-2 c =
     let s = c .before .before .before in
     let l = c .before .before .loop in
-    let d = c .live-spot .result .disk in
-    let small = disk-small _ (s .pre .0) _ _ (s .pre .1 .0 _ (c .before .loop-test .taken)) (c .live-spot .ensures) in
-    let most = rw (← l .inv .1) at (number-most (s .args .v) (s .args .served) (s .args .first) (l .j) d small) in
-    omega (arith, most, s .pre .1 .1 d small, c .before .loop-test .taken)
+    let most = rw (← l .inv .1) at (number-most (s .args .v) (s .args .served) (s .args .first) (l .j) (c .live-spot .result .disk) (small c)) in
+    omega (arith, most, s .pre .1 .1 (c .live-spot .result .disk) (small c), c .before .loop-test .taken)
 
 array-write-sum : tie.Need-array-write-sum Inv-loop μ-loop
-array-write-sum c = let s = c .before .before .before in disk-small _ (s .pre .0) _ _ (s .pre .1 .0 _ (c .before .loop-test .taken)) (c .live-spot .ensures)
+array-write-sum c = small c
 
 add-j : tie.Need-add-j Inv-loop μ-loop
 add-j c = omega arith
@@ -55,8 +60,8 @@ loop-again c =
     let s = c .before .before .before in
     let l = c .before .before .loop in
     let block = s .pre .1 .0 (l .j) (c .before .loop-test .taken) in
-    let small = disk-small _ (s .pre .0) _ _ block (c .live-spot .ensures) in
-    (omega (arith, c .before .loop-test .taken), rw (← l .inv .1) at (block-added (s .args .v) (s .args .served) (s .args .first) (s .pre .0) (l .j) _ block (ap (λ (p : Spot). p .disk) (c .live-spot .ensures)) small))
+    let disk = ap (λ (p : Spot). p .disk) (c .live-spot .ensures) in
+    (omega (arith, c .before .loop-test .taken), rw (← l .inv .1) at (block-added (s .args .v) (s .args .served) (s .args .first) (s .pre .0) (l .j) _ block disk (small c)))
 
 returns : tie.Need-returns Inv-loop μ-loop
 returns c =
