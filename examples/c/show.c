@@ -127,6 +127,32 @@ static void tell(uint64_t block)
     printf("\n");
 }
 
+/* How many blocks of three scenes each disk serves, counted once more block by block. */
+static void tell_load(void)
+{
+    static const streterva_scene scenes[] = {{0, 20}, {15, 10}, {UINT64_MAX, 0}};
+    enum { SCENES = sizeof scenes / sizeof scenes[0] };
+    uint64_t load[STRETERVA_LOAD_FIGURES], counted[STRETERVA_MOST_DISKS] = {0};
+    expect("load",
+           streterva_load(state.words, STRETERVA_STATE_WORDS, scenes, SCENES, load, STRETERVA_LOAD_FIGURES),
+           STRETERVA_ACCEPTED);
+    for (size_t i = 0; i < SCENES; i++)
+        for (uint64_t j = 0; j < scenes[i].count; j++) {
+            uint64_t at[STRETERVA_ADDRESS_FIGURES];
+            expect("address",
+                   streterva_address(state.words, STRETERVA_STATE_WORDS, scenes[i].first + j, at, STRETERVA_ADDRESS_FIGURES),
+                   STRETERVA_ACCEPTED);
+            counted[at[STRETERVA_ADDRESS_DISK]]++;
+        }
+    printf("load of blocks 0 to 19, blocks 15 to 24 and no blocks:");
+    for (size_t disk = 0; disk < STRETERVA_MOST_DISKS; disk++) {
+        expect("a disk's number", load[STRETERVA_LOAD_SERVED + disk], counted[disk]);
+        if (disk < NEW_DISKS)
+            printf(" %llu", (unsigned long long)load[STRETERVA_LOAD_SERVED + disk]);
+    }
+    printf("\n");
+}
+
 int main(void)
 {
     medium_bytes = (size_t)streterva_medium_bytes(SIZE, ROWS, NEW_DISKS);
@@ -193,6 +219,7 @@ int main(void)
         expect("the holder of a block's spot", holder[0], block);
     }
     printf("address and holder agree on blocks 0 to %d\n", NEW_BLOCKS - 1);
+    tell_load();
     free(medium);
     return 0;
 }

@@ -2,7 +2,8 @@
 // takes the state and hands the next one back, beside the answer.
 //
 // The calls, `is_sound`, `zeros` and the limits are offered to others and take any input. What has a
-// `requires` is seen in this crate alone.
+// `requires` is not offered to others: it is seen in this crate alone, but for `open_blocks` and `live_spot`,
+// by which a crate above addresses many blocks after one test of soundness.
 mod calls;
 mod growth;
 mod live;
