@@ -5,7 +5,6 @@ use mathlib.Core.Bool.{Bool, true, false, cond}
 use mathlib.Core.List.{List}
 use mathlib.Core.Logic.{_⊎_, _≢_, ⊎-elim}
 use native.Mathlib.Nat.{add-zero}
-use native.Mathlib.Decide.{ℕ-discrete}
 use native.Mathlib.Omega.{arith}
 use lib.Dec.{eqb, ltb}
 use lib.ListN.{length, getD, set, replicate}
@@ -21,14 +20,14 @@ use Rattle.layout.specs.Tally.{openBlocks, liveSpotOf}
 use Rattle.volume.specs.declared.Volume.{Volume}
 use Rattle.volume.specs.Sound.{sound}
 use Rattle.volume.specs.States.{tallyOf}
-use Rattle.volume.proofs.LiveCode.{open-most}
 use Rattle.scene_load.specs.declared.Load.{Load}
 use Rattle.scene_load.specs.declared.LoadAnswer.{LoadAnswer}
 use Rattle.scene_load.specs.declared.LoadAnswer.the-variants.{Refused, SceneRefused, Counted}
 use Rattle.scene_load.specs.declared.Scene.{Scene}
-use Rattle.scene_load.specs.Loads.{names, servedOfScene, mostScenes, reachesPast, isRefused, refusedWith, isCounted, withBlocks, withScene, Usable, NoneWraps}
+use Rattle.scene_load.specs.Loads.{names, servedOfScene, mostScenes, reachesPast, isRefused, refusedWith}
+use Rattle.scene_load.specs.Steps.{isCounted, withBlocks, withScene, Usable, NoneWraps}
 use Rattle.scene_load.proofs.LoadAnswer.{the-type}
-use Rattle.scene_load.proofs.Refusing.{place-allowed, within-open}
+use Rattle.scene_load.proofs.Refusing.{place-allowed, few-blocks}
 use Rattle.scene_load.proofs.Serving.{names-live, live-disk, disks-most}
 
 -- ---- is the scene refused
@@ -137,9 +136,5 @@ module _ (v : Volume) (load : Load) (place : ℕ) (scene : Scene) where
     none-wraps usable e d h =
         let before : getD (load .served) d 0 ≤ place * 16_000_000 = usable .no-more (rw c) d h in
         let early = place-allowed (openBlocks (tallyOf v)) place scene e in
-        let few : scene .count ≤ 16_000_000 =
-        elim (ℕ-discrete (scene .count) 0) [
-          | yes z ↦ omega (arith, z)
-          | no z ↦ omega (arith, within-open (openBlocks (tallyOf v)) place scene e z, open-most v (counted-sound v load place c usable))
-        ] in
+        let few = few-blocks v (counted-sound v load place c usable) place scene e in
         omega arith

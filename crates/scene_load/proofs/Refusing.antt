@@ -4,7 +4,7 @@ use mathlib.Core.Path.{_≡_, refl, sym}
 use mathlib.Core.Bool.{Bool, true, false, cond, not, _&&_, _||_}
 use mathlib.Core.List.{List, [], _∷_}
 use mathlib.Core.Logic.{_≢_}
-use native.Mathlib.Decide.{decLt}
+use native.Mathlib.Decide.{decLt, ℕ-discrete}
 use native.Mathlib.Omega.{arith}
 use lib.Dec.{eqb, leb, ltb}
 use lib.ListN.{length, replicate}
@@ -15,8 +15,11 @@ use Rattle.base.proofs.Booleans.{clash, by-test}
 use Rattle.base.proofs.Lowest.{first-before, first-passes}
 use Rattle.base.proofs.Refusals.{passed, held}
 use Rattle.layout.specs.Limits.{mostDisks}
+use Rattle.layout.specs.Tally.{openBlocks}
 use Rattle.volume.specs.declared.Volume.{Volume}
 use Rattle.volume.specs.Sound.{sound}
+use Rattle.volume.specs.States.{tallyOf}
+use Rattle.volume.proofs.LiveCode.{open-most}
 use Rattle.scene_load.specs.declared.Scene.{Scene}
 use Rattle.scene_load.specs.declared.Load.{Load}
 use Rattle.scene_load.specs.declared.LoadAnswer.the-variants.{Counted}
@@ -37,7 +40,7 @@ pub place-allowed : (blocks place : ℕ) (scene : Scene) → isRefused blocks pl
 unfolding isRefused
 place-allowed blocks place scene e = leb-false mostScenes place (neither (leb mostScenes place) (reachesPast blocks scene) e .0)
 
-pub within-open : (blocks place : ℕ) (scene : Scene) → isRefused blocks place scene ≡ false → scene .count ≢ 0 → scene .first + scene .count ≤ blocks
+within-open : (blocks place : ℕ) (scene : Scene) → isRefused blocks place scene ≡ false → scene .count ≢ 0 → scene .first + scene .count ≤ blocks
 unfolding isRefused reachesPast
 within-open blocks place scene e h =
     let past = neither (leb mostScenes place) (reachesPast blocks scene) e .1 in
@@ -45,6 +48,14 @@ within-open blocks place scene e h =
 
 pub block-within : (blocks place : ℕ) (scene : Scene) → isRefused blocks place scene ≡ false → (j : ℕ) → j < scene .count → scene .first + j < blocks
 block-within blocks place scene e j h = omega (arith, within-open blocks place scene e (λ (z : scene .count ≡ 0). absurd (omega arith)))
+
+-- and so it has no more blocks than a volume can have
+pub few-blocks : (v : Volume) → sound v ≡ true → (place : ℕ) (scene : Scene) → isRefused (openBlocks (tallyOf v)) place scene ≡ false → scene .count ≤ 16_000_000
+few-blocks v s place scene e =
+    elim (ℕ-discrete (scene .count) 0) [
+      | yes z ↦ omega (arith, z)
+      | no z ↦ omega (arith, within-open (openBlocks (tallyOf v)) place scene e z, open-most v s)
+    ]
 
 -- ---- a list, up to n scenes
 

@@ -3,7 +3,6 @@ use Prim.Native.Nat.{ℕ, suc, _+_, _≤_}
 use mathlib.Core.Path.{_≡_, refl, sym, ap, _∙_}
 use mathlib.Core.Bool.{true, false}
 use mathlib.Core.List.{List}
-use native.Mathlib.Decide.{ℕ-discrete}
 use native.Mathlib.Omega.{arith}
 use lib.Dec.{ltb}
 use lib.ListN.{getD, replicate}
@@ -15,16 +14,14 @@ use Rattle.base.proofs.Counting.{count-most, sum-most}
 use Rattle.base.proofs.Lists.{getD-table, table-ext}
 use Rattle.base.proofs.Lowest.{first-before}
 use Rattle.layout.specs.Limits.{mostDisks}
-use Rattle.layout.specs.Tally.{openBlocks}
 use Rattle.volume.specs.declared.Volume.{Volume}
 use Rattle.volume.specs.Sound.{sound}
-use Rattle.volume.specs.States.{tallyOf}
-use Rattle.volume.proofs.LiveCode.{open-most}
 use Rattle.scene_load.specs.declared.Scene.{Scene}
 use Rattle.scene_load.specs.declared.Load.{Load}
 use Rattle.scene_load.specs.declared.LoadAnswer.the-variants.{Refused, SceneRefused, Counted}
-use Rattle.scene_load.specs.Loads.{sceneAt, names, servedOfScene, servedOfFirst, refusedAt, refusedPlace, loadTable, refusedWith, refusedLoad, loadOfFirst, emptyLoad, isCounted, withBlocks, withScene, Usable}
-use Rattle.scene_load.proofs.Refusing.{within-open}
+use Rattle.scene_load.specs.Loads.{sceneAt, names, servedOfScene, servedOfFirst, refusedAt, refusedPlace, loadTable, refusedWith, refusedLoad, loadOfFirst}
+use Rattle.scene_load.specs.Steps.{emptyLoad, isCounted, withBlocks, withScene, Usable}
+use Rattle.scene_load.proofs.Refusing.{few-blocks}
 
 -- the load of no scenes, of whatever list
 pub none-taken : (v : Volume) (scenes : List Scene) → emptyLoad v ≡ loadOfFirst v scenes 0
@@ -122,11 +119,7 @@ module _ (v : Volume) (scenes : List Scene) where
   unfolding servedOfScene
   scene-most s d place r =
       let scene = sceneAt scenes place in
-      let fewer = count-most (λ j. names v d (scene .first + j)) (scene .count) in
-      elim (ℕ-discrete (scene .count) 0) [
-        | yes z ↦ omega (arith, fewer, z)
-        | no z ↦ omega (arith, fewer, within-open (openBlocks (tallyOf v)) place scene r z, open-most v s)
-      ]
+      omega (arith, count-most (λ j. names v d (scene .first + j)) (scene .count), few-blocks v s place scene r)
 
   pub load-usable : (i : ℕ) → Usable v (loadOfFirst v scenes i) i
   unfolding servedOfFirst

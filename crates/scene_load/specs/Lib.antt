@@ -1,2 +1,3 @@
 pub mod Loads
+pub mod Steps
 pub mod Laws

@@ -1,8 +1,7 @@
 -- Document 02, W2: the load of a scene list. "I hold a lent list of scenes, each a first block and a count, and want to know how many of its
 -- blocks each disk serves." Assumes nothing.
-use Prim.Native.Nat.{ℕ, _+_, _*_, _^_, _≤_, _<_}
-use mathlib.Core.Path.{_≡_}
-use mathlib.Core.Bool.{Bool, true, false, cond, not, _&&_, _||_}
+use Prim.Native.Nat.{ℕ, _+_}
+use mathlib.Core.Bool.{Bool, cond, not, _&&_, _||_}
 use mathlib.Core.List.{List, [], _∷_}
 use lib.Dec.{eqb, leb, ltb}
 use lib.ListN.{length, getD, replicate}
@@ -89,38 +88,3 @@ loadOfFirst v scenes n =
 
 unfoldable pub loadOf : (v : Volume) (scenes : List Scene) → Load
 loadOf v scenes = loadOfFirst v scenes (length scenes)
-
--- ---- one scene after another, as the code takes them
-
-abbrev pub emptyLoad : (v : Volume) → Load
-emptyLoad v = loadOfFirst v [] 0
-
-unfoldable pub isCounted : (a : LoadAnswer) → Bool
-isCounted (Refused k) = false
-isCounted (SceneRefused place) = false
-isCounted Counted = true
-
--- the numbers with those of a scene added
-abbrev pub withBlocks : (v : Volume) (served : List ℕ) (scene : Scene) → List ℕ
-withBlocks v served scene = table (λ d. getD served d 0 + servedOfScene v d scene) mostDisks
-
--- a load with one scene more, at this place of the list; a refused load stays as it is
-unfoldable pub withScene : (v : Volume) (load : Load) (place : ℕ) (scene : Scene) → Load
-withScene v load place scene =
-    cond (isCounted (load .answer))
-    (cond (isRefused (openBlocks (tallyOf v)) place scene) (refusedWith (SceneRefused place))
-    (record { answer = Counted; served = withBlocks v (load .served) scene }))
-    load
-
--- what the code may rest on: scenes were counted only of a sound state, and each of those before this place added at most all open blocks
--- that there can be
-pub record Usable (v : Volume) (load : Load) (place : ℕ) : Type 0 where
-  pub is-sound : isCounted (load .answer) ≡ true → sound v ≡ true
-  pub no-more : isCounted (load .answer) ≡ true → (d : ℕ) → d < mostDisks → getD (load .served) d 0 ≤ place * 16_000_000
-
--- of one scene: all its blocks are open, and no number wraps with so many more
-abbrev pub AllOpen : (v : Volume) (scene : Scene) → Type 0
-AllOpen v scene = (j : ℕ) → j < scene .count → scene .first + j < openBlocks (tallyOf v)
-
-abbrev pub NoneWraps : (served : List ℕ) (more : ℕ) → Type 0
-NoneWraps served more = (d : ℕ) → d < mostDisks → getD served d 0 + more < 2 ^ 64

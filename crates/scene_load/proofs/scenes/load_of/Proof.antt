@@ -53,7 +53,8 @@ use Rattle.volume.proofs.Volume as Vol
 use Rattle.volume.proofs.Volume.Laws as Vol′
 use Rattle.scene_load.specs.declared.Load.{Load}
 use Rattle.scene_load.specs.declared.Scene.{Scene}
-use Rattle.scene_load.specs.Loads.{sceneAt, loadOfFirst, loadOf, emptyLoad, Usable, withScene}
+use Rattle.scene_load.specs.Loads.{sceneAt, loadOfFirst, loadOf}
+use Rattle.scene_load.specs.Steps.{emptyLoad, Usable, withScene}
 use Rattle.scene_load.proofs.ScenesCode.{none-taken, next-load, load-usable}
 use Rattle.scene_load.proofs.Load as L
 use Rattle.scene_load.proofs.Load.Laws as L′
