@@ -1,4 +1,4 @@
--- What the code of the exported functions needs: the tests of the lengths. Assumes nothing.
+-- What the code of the exported functions needs: the tests of the lengths, and what load puts and leaves. Assumes nothing.
 use Prim.Native.Nat.{ℕ}
 use mathlib.Core.Path.{_≡_, ap, _∙_}
 use mathlib.Core.Bool.{true, false, cond}
@@ -14,11 +14,10 @@ use Rattle.medium.specs.declared.Geometry.{Geometry}
 use Rattle.medium.specs.Medium.{Observations, apply}
 use Rattle.volume.specs.declared.Volume.{Volume}
 use Rattle.volume.specs.Calls.{refused, formatTable, formatOutcome}
-use Rattle.volume.specs.States.{zeros}
 use Rattle.scene_load.specs.declared.Load.{Load}
 use Rattle.scene_load.specs.declared.Scene.{Scene}
-use Rattle.scene_load.specs.Loads.{loadOf, number as loadNumber}
-use Rattle.capi.specs.Exported.{wrongLength, lengthsFit, untouched, lookedUp, loadLeft}
+use Rattle.scene_load.specs.Loads.{loadOf, loadNumber}
+use Rattle.capi.specs.Exported.{wrongLength, lengthsFit, untouched, lookedUp, stateTaken, loadLeft}
 use Rattle.capi.specs.Figures.{loadFigures}
 use Rattle.capi.specs.Words.{stateWords, stateFrom}
 
@@ -46,13 +45,9 @@ pub load-put : (figures served put : List ℕ) (place told : ℕ) → length fig
     → set (take 1 figures ++ (put ++ drop 16 (drop 1 figures))) 0 told ≡ place ∷ served
 load-put figures served put place told e p q = rw (p, q) (first-put figures e)
   where
-    first-put : (figures : List ℕ) → length figures ≡ 17 → set (take 1 figures ++ (served ++ drop 16 (drop 1 figures))) 0 place ≡ place ∷ served
-    first-put [] e = absurd (omega arith)
-    first-put (x ∷ rest) e = rw (drop-of-length-le rest {i = 16} (omega arith)) (ap (place ∷_) (append-nil served))
-
--- the state that load takes from words of any length
-abbrev pub stateTaken : (words : List ℕ) → Volume
-stateTaken words = cond (eqb (length words) stateWords) (stateFrom words) zeros
+    first-put : (words : List ℕ) → length words ≡ 17 → set (take 1 words ++ (served ++ drop 16 (drop 1 words))) 0 place ≡ place ∷ served
+    first-put [] f = absurd (omega arith)
+    first-put (x ∷ rest) f = rw (drop-of-length-le rest {i = 16} (omega arith)) (ap (place ∷_) (append-nil served))
 
 -- what the calls of `streterva_load` leave is what it says: where the lengths fit, the state is that of the words
 module _ (words : List ℕ) (scenes : List Scene) (figures : List ℕ) where

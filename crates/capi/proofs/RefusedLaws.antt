@@ -30,7 +30,7 @@ use Rattle.volume.specs.States.{newState, zeros}
 use Rattle.volume.proofs.Judged.{judged-cases}
 use Rattle.volume.proofs.Theorems.{volume-laws}
 use Rattle.scene_load.specs.declared.Scene.{Scene}
-use Rattle.scene_load.specs.Loads.{placeTold, loadTable, loadOf, number as loadNumber}
+use Rattle.scene_load.specs.Loads.{placeTold, loadTable, loadOf, loadNumber}
 use Rattle.scene_load.proofs.Theorems.{load-laws}
 use Rattle.capi.specs.Exported.{Left, wrongLength, lengthsFit, untouched, handedBack, lookedUp, formatLeft, restartLeft, growLeft, copyLeft, checkpointLeft, advanceLeft, writeLeft, readLeft, addressLeft, holderLeft, loadLeft}
 use Rattle.capi.specs.Figures.{toldFigures, noFigures, callsFigures, advanceFigures, addressFigures, holderFigures}

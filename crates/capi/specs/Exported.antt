@@ -1,5 +1,5 @@
 -- What each exported function leaves: the number that it returns, the lent words of the state, the lent figures, its store and the lent
--- piece. It is the volume's own outcome, of the state that the words hold. Assumes nothing.
+-- piece. It is the volume's own outcome, or `scene_load`'s, of the state that the words hold. Assumes nothing.
 use Prim.Native.Nat.{ℕ}
 use mathlib.Core.Bool.{Bool, cond, _&&_}
 use mathlib.Core.List.{List, []}
@@ -8,11 +8,13 @@ use lib.ListN.{length}
 use Rattle.layout.specs.declared.Spot.{Spot}
 use Rattle.medium.specs.Medium.{Observations, Store, noStore}
 use Rattle.volume.specs.declared.Answer.{Answer}
+use Rattle.volume.specs.declared.Volume.{Volume}
 use Rattle.volume.specs.Answers.{number, addressNumber, holderNumber}
 use Rattle.volume.specs.Calls.{Outcome, formatOutcome, restartOutcome, growOutcome, copyOutcome, checkpointOutcome, advanceOutcome, writeOutcome, readOutcome, addressReply, holderReply}
 use Rattle.volume.specs.Sound.{sound}
+use Rattle.volume.specs.States.{zeros}
 use Rattle.scene_load.specs.declared.Scene.{Scene}
-use Rattle.scene_load.specs.Loads.{loadOf, number as loadNumber}
+use Rattle.scene_load.specs.Loads.{loadOf, loadNumber}
 use Rattle.capi.specs.Figures.{noFigures, callsFigures, advanceFigures, addressFigures, holderFigures, loadFigures}
 use Rattle.capi.specs.Words.{stateWords, wordsOf, stateFrom}
 
@@ -93,7 +95,10 @@ holderLeft words p figures =
     let answer = holderReply (stateFrom words) p .answer in
     cond (lengthsFit words 1 figures) (lookedUp (holderNumber answer) (holderFigures answer) words) (untouched words figures [])
 
--- document 02, W2
+-- Document 02, W2. The scenes are walked with the state of zeros where the words have the wrong length.
+abbrev pub stateTaken : (words : List ℕ) → Volume
+stateTaken words = cond (eqb (length words) stateWords) (stateFrom words) zeros
+
 unfoldable pub loadLeft : (words : List ℕ) (scenes : List Scene) (figures : List ℕ) → Left
 loadLeft words scenes figures =
     let load = loadOf (stateFrom words) scenes in

@@ -13,7 +13,7 @@ use Rattle.volume.specs.declared.Volume.{Volume}
 use Rattle.volume.specs.Answers.{number, addressNumber, holderNumber}
 use Rattle.volume.specs.Calls.{formatOutcome, restartOutcome, growOutcome, copyOutcome, checkpointOutcome, advanceOutcome, writeOutcome, readOutcome, addressReply, holderReply}
 use Rattle.scene_load.specs.declared.Scene.{Scene}
-use Rattle.scene_load.specs.Loads.{placeTold, loadOf, number as loadNumber}
+use Rattle.scene_load.specs.Loads.{placeTold, loadOf, loadNumber}
 use Rattle.capi.specs.Exported.{Left, wrongLength, lengthsFit, formatLeft, restartLeft, growLeft, copyLeft, checkpointLeft, advanceLeft, writeLeft, readLeft, addressLeft, holderLeft, loadLeft}
 use Rattle.capi.specs.Words.{stateWords, wordOf, wordsOf, stateFrom}
 
@@ -70,7 +70,7 @@ pub record CapiLaws : Type 0 where
       → lengthsFit words 5 figures ≡ true → addressLeft words x figures .number ≢ 0 → RefusedLeft words 5 (addressLeft words x figures)
   pub holder-refused : (words : List ℕ) (p : Spot) (figures : List ℕ)
       → lengthsFit words 1 figures ≡ true → holderLeft words p figures .number ≢ 0 → RefusedLeft words 1 (holderLeft words p figures)
-  -- a refused load has zeros as numbers, and with 17 alone a place
+  -- a refused load has zeros as numbers, beside the place that it tells
   pub load-refused : (words : List ℕ) (scenes : List Scene) (figures : List ℕ)
       → lengthsFit words 17 figures ≡ true → loadLeft words scenes figures .number ≢ 0
       → loadLeft words scenes figures .figures ≡ placeTold (loadOf (stateFrom words) scenes .answer) ∷ replicate mostDisks 0

@@ -2,13 +2,9 @@
 // numbers, so that the exported one only calls.
 ghost use mathlib.Core.Path.{_≡_};
 ghost use mathlib.Core.Bool.{cond};
-ghost use lib.Dec.{eqb};
-ghost use lib.ListN.{length};
-ghost use Rattle.scene_load.specs.Loads.{number, placeTold};
-ghost use Rattle.volume.specs.States.{zeros};
-ghost use Rattle.capi.specs.Exported.{wrongLength, lengthsFit, loadLeft};
+ghost use Rattle.scene_load.specs.Loads.{loadNumber, placeTold};
+ghost use Rattle.capi.specs.Exported.{wrongLength, lengthsFit, stateTaken, loadLeft};
 ghost use Rattle.capi.specs.Figures.{loadFigures};
-ghost use Rattle.capi.specs.Words.{stateWords, stateFrom};
 use super::LOAD_FIGURES;
 use super::STATE_WORDS;
 use super::WRONG_LENGTH;
@@ -21,7 +17,7 @@ use volume::Volume;
 
 // The state of words, or the state of zeros where they have the wrong length.
 fn state_or_zeros(words: &[usize]) -> Volume
-    ensures { λ r. ⌜ r ≡ cond (eqb (length (now (words .entry))) stateWords) (stateFrom (now (words .entry))) zeros ⌝ }
+    ensures { λ r. ⌜ r ≡ stateTaken (now (words .entry)) ⌝ }
 {
     if words.len() != STATE_WORDS {
         return Volume::zeros();
@@ -31,7 +27,7 @@ fn state_or_zeros(words: &[usize]) -> Volume
 
 // The number of a load.
 fn load_number(a: LoadAnswer) -> usize
-    ensures { λ r. ⌜ r ≡ number a ⌝ }
+    ensures { λ r. ⌜ r ≡ loadNumber a ⌝ }
 {
     match a {
         LoadAnswer::Refused(k) => k,
@@ -53,7 +49,7 @@ fn place_told(a: LoadAnswer) -> usize
 
 // Puts the figures of a load, and gives its number.
 fn hand_load(state: &[usize], load: Load, figures: &mut [usize]) -> usize
-    ensures { λ r. ⌜ (r ≡ cond (lengthsFit (now (state .entry)) 17 (now (figures .entry))) (number (load .answer)) wrongLength)
+    ensures { λ r. ⌜ (r ≡ cond (lengthsFit (now (state .entry)) 17 (now (figures .entry))) (loadNumber (load .answer)) wrongLength)
         × (now (figures .exit) ≡ cond (lengthsFit (now (state .entry)) 17 (now (figures .entry))) (loadFigures load) (now (figures .entry))) ⌝ }
 {
     if state.len() != STATE_WORDS {

@@ -20,6 +20,7 @@ use Rattle.layout.specs.Tally.{openBlocks, liveSpotOf}
 use Rattle.volume.specs.declared.Volume.{Volume}
 use Rattle.volume.specs.Sound.{sound}
 use Rattle.volume.specs.States.{tallyOf}
+use Rattle.volume.proofs.CallsCode.{disks-most}
 use Rattle.scene_load.specs.declared.Load.{Load}
 use Rattle.scene_load.specs.declared.LoadAnswer.{LoadAnswer}
 use Rattle.scene_load.specs.declared.LoadAnswer.the-variants.{Refused, SceneRefused, Counted}
@@ -28,7 +29,7 @@ use Rattle.scene_load.specs.Loads.{names, servedOfScene, mostScenes, rea
 use Rattle.scene_load.specs.Steps.{isCounted, withBlocks, withScene, Usable, NoneWraps}
 use Rattle.scene_load.proofs.LoadAnswer.{the-type}
 use Rattle.scene_load.proofs.Refusing.{place-allowed, few-blocks}
-use Rattle.scene_load.proofs.Serving.{names-live, live-disk, disks-most}
+use Rattle.scene_load.proofs.Serving.{names-live, live-disk}
 
 -- ---- is the scene refused
 
@@ -83,9 +84,9 @@ module _ (v : Volume) (served : List ℕ) (first : ℕ) where
   unfolding servedOfScene
   number-next j d hit e = omega (arith, count-next (λ i. names v d (first + i)) j hit e)
 
-  module _ (e : sound v ≡ true) (j disk : ℕ) (blocks : first + j < openBlocks (tallyOf v)) (at : disk ≡ liveSpotOf (tallyOf v) (first + j) .disk) (small : disk < mostDisks) where
+  module _ (e : sound v ≡ true) (j disk : ℕ) (is-open : first + j < openBlocks (tallyOf v)) (at : disk ≡ liveSpotOf (tallyOf v) (first + j) .disk) (small : disk < mostDisks) where
     named : (d : ℕ) → names v d (first + j) ≡ eqb disk d
-    named d = rw at (names-live v e d (first + j) blocks)
+    named d = rw at (names-live v e d (first + j) is-open)
 
     -- one block more, at its disk
     pub block-added : set (withFirst v served first j) disk (getD (withFirst v served first j) disk 0 + 1) ≡ withFirst v served first (j + 1)

@@ -1,18 +1,18 @@
 -- Scenes that are refused, and the load of a list that has one or has none. Assumes nothing.
 use Prim.Native.Nat.{ℕ, _+_, _≤_, _<_}
 use mathlib.Core.Path.{_≡_, refl, sym}
-use mathlib.Core.Bool.{Bool, true, false, cond, not, _&&_, _||_}
+use mathlib.Core.Bool.{Bool, true, false, cond, not}
 use mathlib.Core.List.{List, [], _∷_}
 use mathlib.Core.Logic.{_≢_}
 use native.Mathlib.Decide.{decLt, ℕ-discrete}
 use native.Mathlib.Omega.{arith}
 use lib.Dec.{eqb, leb, ltb}
 use lib.ListN.{length, replicate}
-use borrow.Author.Tests.{ltb-true, ltb-false, lt-ltb, leb-false, le-leb, eqb-true, ne-eqb}
+use borrow.Author.Tests.{ltb-true, ltb-false, lt-ltb, le-ltb, leb-false, le-leb, eqb-true, ne-eqb}
 use Rattle.base.specs.Below.{first}
 use Rattle.base.specs.Refusals.{refusal}
-use Rattle.base.proofs.Booleans.{clash, by-test}
-use Rattle.base.proofs.Lowest.{first-before, first-passes}
+use Rattle.base.proofs.Booleans.{neither, clash, by-test}
+use Rattle.base.proofs.Lowest.{first-before, first-passes, first-none}
 use Rattle.base.proofs.Refusals.{passed, held}
 use Rattle.layout.specs.Limits.{mostDisks}
 use Rattle.layout.specs.Tally.{openBlocks}
@@ -23,17 +23,10 @@ use Rattle.volume.proofs.LiveCode.{open-most}
 use Rattle.scene_load.specs.declared.Scene.{Scene}
 use Rattle.scene_load.specs.declared.Load.{Load}
 use Rattle.scene_load.specs.declared.LoadAnswer.the-variants.{Counted}
-use Rattle.scene_load.specs.Loads.{number, placeTold, reachesPast, isRefused, refusedAt, mostScenes, refusedPlace, loadTable, refusedWith, refusedLoad, loadOfFirst, loadOf}
+use Rattle.scene_load.specs.Loads.{loadNumber, placeTold, reachesPast, isRefused, refusedAt, mostScenes, refusedPlace, loadTable, refusedWith, refusedLoad, loadOfFirst, loadOf}
 use Rattle.scene_load.specs.Laws.{refusalOf, LoadRefuses, FirstRefused}
 
 -- ---- one scene
-
-neither : (a b : Bool) → (a || b) ≡ false → (a ≡ false) × (b ≡ false)
-neither true b e = clash refl e
-neither false b e = (refl, e)
-
-not-both : (a b : Bool) → (not a && b) ≡ false → a ≡ false → b ≡ false
-not-both a b e f = rw f at e
 
 -- a scene that is not refused: its place is among the first 65,536, and it ends among the open blocks or has none
 pub place-allowed : (blocks place : ℕ) (scene : Scene) → isRefused blocks place scene ≡ false → place < mostScenes
@@ -43,8 +36,7 @@ place-allowed blocks place scene e = leb-false mostScenes place (neither (leb mo
 within-open : (blocks place : ℕ) (scene : Scene) → isRefused blocks place scene ≡ false → scene .count ≢ 0 → scene .first + scene .count ≤ blocks
 unfolding isRefused reachesPast
 within-open blocks place scene e h =
-    let past = neither (leb mostScenes place) (reachesPast blocks scene) e .1 in
-    ltb-false blocks (scene .first + scene .count) (not-both (eqb (scene .count) 0) (ltb blocks (scene .first + scene .count)) past (ne-eqb (scene .count) 0 h))
+    ltb-false blocks (scene .first + scene .count) (rw (ne-eqb (scene .count) 0 h) at (neither (leb mostScenes place) (reachesPast blocks scene) e .1))
 
 pub block-within : (blocks place : ℕ) (scene : Scene) → isRefused blocks place scene ≡ false → (j : ℕ) → j < scene .count → scene .first + j < blocks
 block-within blocks place scene e j h = omega (arith, within-open blocks place scene e (λ (z : scene .count ≡ 0). absurd (omega arith)))
@@ -90,8 +82,8 @@ module _ (place k : ℕ) (counted : Load) (e : counted .answer ≡ Counted) wher
   abbrev told : Load
   told = cond (eqb k 0) counted (refusedLoad place k)
 
-  number-is : number (told .answer) ≡ k
-  unfolding number refusedLoad refusedWith
+  number-is : loadNumber (told .answer) ≡ k
+  unfolding loadNumber refusedLoad refusedWith
   number-is =
       by-test (eqb k 0) (λ t. rw (t, e) (sym (eqb-true k 0 t)))
       (λ t. by-test (eqb k 17) (λ u. rw (t, u) (sym (eqb-true k 17 u))) (λ u. rw (t, u)))
@@ -142,6 +134,15 @@ module _ (v : Volume) (scenes : List Scene) where
         | yes l ↦ rw (s, lt-ltb (first p (length scenes)) (length scenes) l)
         | no l ↦ clash e (first-before p (length scenes) place (omega (arith, l)))
       ]
+
+  pub unsound-first : sound v ≡ false → refusalOf v scenes ≡ 1
+  unfolding loadTable refusal
+  unsound-first e = rw e
+
+  pub all-accepted : sound v ≡ true → ((place : ℕ) → place < length scenes → refusedAt v scenes place ≡ false) → refusalOf v scenes ≡ 0
+  unfolding loadTable refusal refusedPlace
+  all-accepted s none =
+      rw (s, le-ltb (first (refusedAt v scenes) (length scenes)) (length scenes) (omega (arith, first-none (refusedAt v scenes) (length scenes) none)))
 
   pub few-scenes : refusalOf v scenes ≡ 0 → length scenes ≤ mostScenes
   unfolding isRefused

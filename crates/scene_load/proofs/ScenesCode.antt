@@ -2,7 +2,7 @@
 use Prim.Native.Nat.{ℕ, suc, _+_, _≤_}
 use mathlib.Core.Path.{_≡_, refl, sym, ap, _∙_}
 use mathlib.Core.Bool.{true, false}
-use mathlib.Core.List.{List}
+use mathlib.Core.List.{List, []}
 use native.Mathlib.Omega.{arith}
 use lib.Dec.{ltb}
 use lib.ListN.{getD, replicate}
@@ -22,19 +22,12 @@ use Rattle.scene_load.specs.declared.LoadAnswer.the-variants.{Refused, S
 use Rattle.scene_load.specs.Loads.{sceneAt, names, servedOfScene, servedOfFirst, refusedAt, refusedPlace, loadTable, refusedWith, refusedLoad, loadOfFirst}
 use Rattle.scene_load.specs.Steps.{emptyLoad, isCounted, withBlocks, withScene, Usable}
 use Rattle.scene_load.proofs.Refusing.{few-blocks}
+use Rattle.scene_load.proofs.BlocksCode.{stays-refused}
 
 -- the load of no scenes, of whatever list
 pub none-taken : (v : Volume) (scenes : List Scene) → emptyLoad v ≡ loadOfFirst v scenes 0
 unfolding loadOfFirst loadTable refusedPlace servedOfFirst sum first
 none-taken v scenes = refl
-
-pub empty-sound : (v : Volume) → sound v ≡ true → record { answer = Counted; served = replicate mostDisks 0 } ≡ emptyLoad v
-unfolding loadOfFirst loadTable refusal refusedPlace servedOfFirst sum first table
-empty-sound v e = rw e
-
-pub empty-unsound : (v : Volume) → sound v ≡ false → record { answer = Refused 1; served = replicate mostDisks 0 } ≡ emptyLoad v
-unfolding loadOfFirst loadTable refusal refusedLoad refusedWith
-empty-unsound v e = rw e
 
 module _ (v : Volume) (scenes : List Scene) where
   abbrev counted : ℕ → Load
@@ -59,10 +52,6 @@ module _ (v : Volume) (scenes : List Scene) where
     abbrev next : Load → Load
     next load = withScene v load i (sceneAt scenes i)
 
-    stays : (a : Load) → isCounted (a .answer) ≡ false → next a ≡ a
-    unfolding withScene
-    stays a e = rw e
-
     -- the numbers, with those of one scene more
     numbers-next : withBlocks v (table (servedOfFirst v scenes i) mostDisks) (sceneAt scenes i) ≡ table (servedOfFirst v scenes (suc i)) mostDisks
     unfolding servedOfFirst sum
@@ -76,7 +65,7 @@ module _ (v : Volume) (scenes : List Scene) where
     refused-before s h =
         let same : first (refusedAt v scenes) (suc i) ≡ first (refusedAt v scenes) i = rw h in
         let below = ltb-true (first (refusedAt v scenes) i) i h in
-        rw (refused-load i s h) (stays (refusedWith (SceneRefused (first (refusedAt v scenes) i))) refl)
+        rw (refused-load i s h) (sym (stays-refused v (refusedWith (SceneRefused (first (refusedAt v scenes) i))) i (sceneAt scenes i) refl))
         ∙ ap (λ (p : ℕ). refusedWith (SceneRefused p)) (sym same)
         ∙ sym (refused-load (suc i) s (lt-ltb (first (refusedAt v scenes) (suc i)) (suc i) (omega arith)))
 
@@ -101,18 +90,18 @@ module _ (v : Volume) (scenes : List Scene) where
     next-load =
         by-test (sound v)
         (λ s. by-test (ltb (first (refusedAt v scenes) i) i) (refused-before s) (λ h. by-test (refusedAt v scenes i) (refused-here s h) (counted-here s h)))
-        (λ s. rw (unsound-load i s, unsound-load (suc i) s) (stays (refusedWith (Refused 1)) refl))
+        (λ s. rw (unsound-load i s, unsound-load (suc i) s) (sym (stays-refused v (refusedWith (Refused 1)) i (sceneAt scenes i) refl)))
 
   -- ---- what the code may rest on
 
-  counted-sound : (i : ℕ) → isCounted (loadOfFirst v scenes i .answer) ≡ true → sound v ≡ true
+  sound-counted : (i : ℕ) → isCounted (loadOfFirst v scenes i .answer) ≡ true → sound v ≡ true
   unfolding isCounted refusedWith
-  counted-sound i c = by-test (sound v) (λ s. s) (λ s. clash (rw (unsound-load i s) at c) refl)
+  sound-counted i c = by-test (sound v) (λ s. s) (λ s. clash (rw (unsound-load i s) at c) refl)
 
   counted-none : (i : ℕ) → isCounted (loadOfFirst v scenes i .answer) ≡ true → ltb (first (refusedAt v scenes) i) i ≡ false
   unfolding isCounted refusedWith
   counted-none i c =
-      by-test (ltb (first (refusedAt v scenes) i) i) (λ h. clash (rw (refused-load i (counted-sound i c) h) at c) refl) (λ h. h)
+      by-test (ltb (first (refusedAt v scenes) i) i) (λ h. clash (rw (refused-load i (sound-counted i c) h) at c) refl) (λ h. h)
 
   -- a scene that is not refused adds at most all open blocks
   scene-most : sound v ≡ true → (d place : ℕ) → refusedAt v scenes place ≡ false → servedOfScene v d (sceneAt scenes place) ≤ 16_000_000
@@ -125,11 +114,21 @@ module _ (v : Volume) (scenes : List Scene) where
   unfolding servedOfFirst
   load-usable i =
       record {
-        is-sound = counted-sound i;
+        is-sound = sound-counted i;
         no-more = λ c d h.
-            let s = counted-sound i c in
+            let s = sound-counted i c in
             let none = ltb-false (first (refusedAt v scenes) i) i (counted-none i c) in
             rw (counted-load i s (counted-none i c), getD-table 0 (servedOfFirst v scenes i) mostDisks d h)
             (sum-most (λ place. servedOfScene v d (sceneAt scenes place)) i 16_000_000
             (λ place l. scene-most s d place (first-before (refusedAt v scenes) i place (omega arith))));
       }
+
+-- ---- the load of no scenes, as the code makes it
+
+pub empty-sound : (v : Volume) → sound v ≡ true → record { answer = Counted; served = replicate mostDisks 0 } ≡ emptyLoad v
+unfolding servedOfFirst sum table first
+empty-sound v e = sym (counted-load v [] 0 e refl)
+
+pub empty-unsound : (v : Volume) → sound v ≡ false → record { answer = Refused 1; served = replicate mostDisks 0 } ≡ emptyLoad v
+unfolding refusedWith
+empty-unsound v e = sym (unsound-load v [] 0 e)

@@ -16,10 +16,10 @@ use Rattle.volume.specs.Answers.{addressNumber, spotTold}
 use Rattle.volume.specs.Calls.{addressTable}
 use Rattle.volume.specs.Sound.{sound}
 use Rattle.volume.specs.States.{disks, tallyOf}
+use Rattle.volume.proofs.CallsCode.{disks-most}
 use Rattle.volume.proofs.LookUpLaws.{look-ups-of, is-open, address-found}
-use Rattle.volume.proofs.SoundLaws.{sound-facts}
 use Rattle.scene_load.specs.declared.Scene.{Scene}
-use Rattle.scene_load.specs.Loads.{sceneAt, names, servedOfScene, servedOfFirst}
+use Rattle.scene_load.specs.Loads.{sceneAt, names, servedOfScene, servedOfFirst, AllOpen}
 
 module _ (v : Volume) (e : sound v ≡ true) where
   -- an open block's address names the disk of its live spot, which is there
@@ -31,13 +31,9 @@ module _ (v : Volume) (e : sound v ≡ true) where
   unfolding tallyOf disks
   live-disk x h = look-ups-of v e .live-within x h .disk
 
-  pub disks-most : disks v ≤ mostDisks
-  unfolding disks
-  disks-most = sound-facts v e .limits .disks-most
-
   -- ---- of a scene with open blocks only
 
-  module _ (scene : Scene) (all : (j : ℕ) → j < scene .count → scene .first + j < openBlocks (tallyOf v)) where
+  module _ (scene : Scene) (all : AllOpen v scene) where
     pub scene-no-disk : (d : ℕ) → disks v ≤ d → servedOfScene v d scene ≡ 0
     unfolding servedOfScene
     scene-no-disk d h =
@@ -50,11 +46,11 @@ module _ (v : Volume) (e : sound v ≡ true) where
         let disk : ℕ → ℕ = λ j. liveSpotOf (tallyOf v) (scene .first + j) .disk in
         sum-ext (λ d. servedOfScene v d scene) (λ d. count (λ j. eqb (disk j) d) (scene .count)) mostDisks
         (λ d h. count-ext (λ j. names v d (scene .first + j)) (λ j. eqb (disk j) d) (scene .count) (λ j l. names-live d (scene .first + j) (all j l)))
-        ∙ sum-by-value disk mostDisks (scene .count) (λ j l. omega (arith, live-disk (scene .first + j) (all j l), disks-most))
+        ∙ sum-by-value disk mostDisks (scene .count) (λ j l. omega (arith, live-disk (scene .first + j) (all j l), disks-most v e))
 
   -- ---- of a list of them
 
-  module _ (scenes : List Scene) (n : ℕ) (all : (i : ℕ) → i < n → (j : ℕ) → j < sceneAt scenes i .count → sceneAt scenes i .first + j < openBlocks (tallyOf v)) where
+  module _ (scenes : List Scene) (n : ℕ) (all : (i : ℕ) → i < n → AllOpen v (sceneAt scenes i)) where
     pub no-disk : (d : ℕ) → disks v ≤ d → servedOfFirst v scenes n d ≡ 0
     unfolding servedOfFirst
     no-disk d h = sum-none (λ i. servedOfScene v d (sceneAt scenes i)) n (λ i l. scene-no-disk (sceneAt scenes i) (all i l) d h)

@@ -14,9 +14,9 @@ use Rattle.layout.specs.Tally.{openBlocks}
 use Rattle.volume.specs.declared.Volume.{Volume}
 use Rattle.volume.specs.States.{tallyOf}
 use Rattle.scene_load.specs.declared.Scene.{Scene}
-use Rattle.scene_load.specs.Loads.{sceneAt, servedOfScene, servedOfFirst, reachesPast, loadOfFirst, loadOf}
+use Rattle.scene_load.specs.Loads.{sceneAt, servedOfScene, servedOfFirst, reachesPast, loadOfFirst, loadOf, AllOpen}
 use Rattle.scene_load.specs.Laws.{refusalOf, servedOf, Counts, LoadLaws}
-use Rattle.scene_load.proofs.Refusing.{block-within, accepted-sound, accepted-all, load-refuses, first-refused, some-refused, few-scenes}
+use Rattle.scene_load.proofs.Refusing.{block-within, accepted-sound, accepted-all, load-refuses, first-refused, some-refused, unsound-first, all-accepted, few-scenes}
 use Rattle.scene_load.proofs.Serving.{names-live, no-disk, sum-of-disks}
 
 empty-adds-nothing : (v : Volume) (d first : ℕ) → servedOfScene v d (record { first = first; count = 0 }) ≡ 0
@@ -38,8 +38,8 @@ reaches-open : (blocks first count : ℕ) → reachesPast blocks (record { first
 reaches-open blocks first count e = omega (arith, ltb-false blocks (first + (count + 1)) (rw (reaches-is blocks first count) at e))
 
 module _ (v : Volume) (scenes : List Scene) (e : refusalOf v scenes ≡ 0) where
-  block-open : (place : ℕ) → place < length scenes → (j : ℕ) → j < sceneAt scenes place .count → sceneAt scenes place .first + j < openBlocks (tallyOf v)
-  block-open place h = block-within (openBlocks (tallyOf v)) place (sceneAt scenes place) (accepted-all v scenes (length scenes) e place h)
+  blocks-open : (place : ℕ) → place < length scenes → AllOpen v (sceneAt scenes place)
+  blocks-open place h = block-within (openBlocks (tallyOf v)) place (sceneAt scenes place) (accepted-all v scenes (length scenes) e place h)
 
   number-of-disk : (d : ℕ) → d < mostDisks → getD (loadOf v scenes .served) d 0 ≡ servedOf v scenes d
   unfolding loadOf loadOfFirst
@@ -51,11 +51,11 @@ module _ (v : Volume) (scenes : List Scene) (e : refusalOf v scenes ≡ 0) where
       record {
         state-sound = sound;
         few-scenes = few-scenes v scenes e;
-        block-open = λ place j h. block-open place h j;
-        live-disk = λ d place j h l. names-live v sound d (sceneAt scenes place .first + j) (block-open place h j l);
+        blocks-open = blocks-open;
+        live-disk = λ d place j h l. names-live v sound d (sceneAt scenes place .first + j) (blocks-open place h j l);
         number-of-disk = number-of-disk;
-        no-disk = no-disk v sound scenes (length scenes) block-open;
-        sum-of-disks = sum-of-disks v sound scenes (length scenes) block-open;
+        no-disk = no-disk v sound scenes (length scenes) blocks-open;
+        sum-of-disks = sum-of-disks v sound scenes (length scenes) blocks-open;
       }
 
 pub load-laws : LoadLaws
@@ -68,5 +68,7 @@ load-laws =
       load-refuses = load-refuses;
       first-refused = first-refused;
       some-refused = some-refused;
+      unsound-first = unsound-first;
+      all-accepted = all-accepted;
       load-counts = load-counts;
     }

@@ -9,12 +9,12 @@ use lib.ListN.{length, getD, replicate}
 use Rattle.base.specs.Below.{sum}
 use Rattle.base.specs.Refusals.{refusal}
 use Rattle.layout.specs.Limits.{mostDisks}
-use Rattle.layout.specs.Tally.{openBlocks, liveSpotOf}
+use Rattle.layout.specs.Tally.{liveSpotOf}
 use Rattle.volume.specs.declared.Volume.{Volume}
 use Rattle.volume.specs.Sound.{sound}
 use Rattle.volume.specs.States.{disks, tallyOf}
 use Rattle.scene_load.specs.declared.Scene.{Scene}
-use Rattle.scene_load.specs.Loads.{number, placeTold, sceneAt, names, servedOfScene, servedOfFirst, reachesPast, refusedAt, mostScenes, loadTable, loadOf}
+use Rattle.scene_load.specs.Loads.{loadNumber, placeTold, sceneAt, names, servedOfScene, servedOfFirst, reachesPast, refusedAt, mostScenes, loadTable, loadOf, AllOpen}
 
 -- the number that refuses a list, 0 where none does
 abbrev pub refusalOf : (v : Volume) (scenes : List Scene) → ℕ
@@ -26,7 +26,7 @@ servedOf v scenes d = servedOfFirst v scenes (length scenes) d
 
 -- a refusal: the table's number; 0 for every disk; a place with 17 alone
 pub record LoadRefuses (v : Volume) (scenes : List Scene) : Type 0 where
-  pub number-told : number (loadOf v scenes .answer) ≡ refusalOf v scenes
+  pub number-told : loadNumber (loadOf v scenes .answer) ≡ refusalOf v scenes
   pub no-numbers : refusalOf v scenes ≢ 0 → loadOf v scenes .served ≡ replicate mostDisks 0
   pub no-place : refusalOf v scenes ≢ 17 → placeTold (loadOf v scenes .answer) ≡ 0
 
@@ -41,7 +41,7 @@ pub record Counts (v : Volume) (scenes : List Scene) : Type 0 where
   pub state-sound : sound v ≡ true
   pub few-scenes : length scenes ≤ mostScenes
   -- every listed block is open, and its address names the disk of its live spot
-  pub block-open : (place j : ℕ) → place < length scenes → j < sceneAt scenes place .count → sceneAt scenes place .first + j < openBlocks (tallyOf v)
+  pub blocks-open : (place : ℕ) → place < length scenes → AllOpen v (sceneAt scenes place)
   pub live-disk : (d place j : ℕ) → place < length scenes → j < sceneAt scenes place .count
       → names v d (sceneAt scenes place .first + j) ≡ eqb (liveSpotOf (tallyOf v) (sceneAt scenes place .first + j) .disk) d
   -- "each disk's number is the count of listed blocks whose address names that disk"
@@ -63,5 +63,9 @@ pub record LoadLaws : Type 0 where
   pub first-refused : (v : Volume) (scenes : List Scene) → refusalOf v scenes ≡ 17 → FirstRefused v scenes (placeTold (loadOf v scenes .answer))
   pub some-refused : (v : Volume) (scenes : List Scene) (place : ℕ) → sound v ≡ true → place < length scenes
       → refusedAt v scenes place ≡ true → refusalOf v scenes ≡ 17
+  -- 1 comes before 17, and no other list is refused
+  pub unsound-first : (v : Volume) (scenes : List Scene) → sound v ≡ false → refusalOf v scenes ≡ 1
+  pub all-accepted : (v : Volume) (scenes : List Scene) → sound v ≡ true → ((place : ℕ) → place < length scenes → refusedAt v scenes place ≡ false)
+      → refusalOf v scenes ≡ 0
   -- and what is counted
   pub load-counts : (v : Volume) (scenes : List Scene) → refusalOf v scenes ≡ 0 → Counts v scenes

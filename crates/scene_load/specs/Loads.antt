@@ -1,6 +1,6 @@
 -- Document 02, W2: the load of a scene list. "I hold a lent list of scenes, each a first block and a count, and want to know how many of its
 -- blocks each disk serves." Assumes nothing.
-use Prim.Native.Nat.{ℕ, _+_}
+use Prim.Native.Nat.{ℕ, _+_, _<_}
 use mathlib.Core.Bool.{Bool, cond, not, _&&_, _||_}
 use mathlib.Core.List.{List, [], _∷_}
 use lib.Dec.{eqb, leb, ltb}
@@ -19,10 +19,10 @@ use Rattle.scene_load.specs.declared.LoadAnswer.{LoadAnswer}
 use Rattle.scene_load.specs.declared.LoadAnswer.the-variants.{Refused, SceneRefused, Counted}
 
 -- The number that each case of an answer stands for, and its one figure: "the place of the first such scene, counted from 0".
-unfoldable pub number : (a : LoadAnswer) → ℕ
-number (Refused k) = k
-number (SceneRefused place) = 17
-number Counted = 0
+unfoldable pub loadNumber : (a : LoadAnswer) → ℕ
+loadNumber (Refused k) = k
+loadNumber (SceneRefused place) = 17
+loadNumber Counted = 0
 
 unfoldable pub placeTold : (a : LoadAnswer) → ℕ
 placeTold (Refused k) = 0
@@ -56,6 +56,10 @@ mostScenes = 65_536
 -- "reaches past the open blocks"; a scene of 0 blocks "reaches nowhere"
 unfoldable pub reachesPast : (blocks : ℕ) (scene : Scene) → Bool
 reachesPast blocks scene = not (eqb (scene .count) 0) && ltb blocks (scene .first + scene .count)
+
+-- every block of a scene is open
+abbrev pub AllOpen : (v : Volume) (scene : Scene) → Type 0
+AllOpen v scene = (j : ℕ) → j < scene .count → scene .first + j < openBlocks (tallyOf v)
 
 -- "17 when a scene reaches past the open blocks or stands after the first 65,536"
 unfoldable pub isRefused : (blocks place : ℕ) (scene : Scene) → Bool

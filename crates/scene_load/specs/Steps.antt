@@ -43,9 +43,6 @@ pub record Usable (v : Volume) (load : Load) (place : ℕ) : Type 0 where
   pub is-sound : isCounted (load .answer) ≡ true → sound v ≡ true
   pub no-more : isCounted (load .answer) ≡ true → (d : ℕ) → d < mostDisks → getD (load .served) d 0 ≤ place * 16_000_000
 
--- of one scene: all its blocks are open, and no number wraps with so many more
-abbrev pub AllOpen : (v : Volume) (scene : Scene) → Type 0
-AllOpen v scene = (j : ℕ) → j < scene .count → scene .first + j < openBlocks (tallyOf v)
-
+-- no number wraps with so many blocks more
 abbrev pub NoneWraps : (served : List ℕ) (more : ℕ) → Type 0
 NoneWraps served more = (d : ℕ) → d < mostDisks → getD served d 0 + more < 2 ^ 64

@@ -2,8 +2,8 @@
 ghost use mathlib.Core.Path.{_≡_};
 ghost use mathlib.Core.Bool.{true};
 ghost use Rattle.volume.specs.Sound.{sound};
-ghost use Rattle.scene_load.specs.Loads.{isRefused};
-ghost use Rattle.scene_load.specs.Steps.{emptyLoad, withBlocks, withScene, Usable, AllOpen, NoneWraps};
+ghost use Rattle.scene_load.specs.Loads.{isRefused, AllOpen};
+ghost use Rattle.scene_load.specs.Steps.{emptyLoad, withBlocks, withScene, Usable, NoneWraps};
 use super::Load;
 use super::LoadAnswer;
 use layout::Block;

@@ -13,7 +13,7 @@ pub struct Scene {
     pub count: usize,
 }
 
-// The answer: refused with a number; refused with 17, with the place of the scene that is to blame, counted from 0; or counted.
+// The answer: refused with a number; refused with 17, with the place of the first scene that is refused, counted from 0; or counted.
 pub enum LoadAnswer {
     Refused(usize),
     SceneRefused(usize),

@@ -1,7 +1,7 @@
 // The growing striped volume: its state by value, and the calls of document 01 as its methods. Each call
 // takes the state and hands the next one back, beside the answer.
 //
-// The calls, `is_sound`, `zeros` and the limits are offered to others and take any input. What has a
+// The calls, `is_sound`, `disk_count`, `zeros` and the limits are offered to others and take any input. What has a
 // `requires` is not offered to others: it is seen in this crate alone, but for `open_blocks` and `live_spot`,
 // by which a crate above addresses many blocks after one test of soundness.
 mod calls;

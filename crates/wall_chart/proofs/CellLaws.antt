@@ -1,5 +1,5 @@
 -- What the chart of a sound state says: its numbers are whole, and "-" stands where holder says 15. Assumes nothing.
-use Prim.Native.Nat.{ℕ, _+_, _*_, _^_, _≤_, _<_}
+use Prim.Native.Nat.{ℕ, _+_, _^_, _<_}
 use mathlib.Core.Path.{_≡_, refl, sym, ap, _∙_, fun-ext}
 use mathlib.Core.Bool.{Bool, true, false, cond}
 use mathlib.Core.List.{List, _++_}
@@ -13,7 +13,7 @@ use Rattle.base.specs.Below.{joined}
 use Rattle.base.specs.Refusals.{refusal}
 use Rattle.base.proofs.Booleans.{by-test, cond-cases}
 use Rattle.layout.specs.declared.Spot.{Spot}
-use Rattle.layout.specs.Tally.{openBlocks, liveBlockOf, movedBlocks}
+use Rattle.layout.specs.Tally.{liveBlockOf, movedBlocks}
 use Rattle.medium.specs.Medium.{recordBytes, observe}
 use Rattle.record.specs.declared.Column.the-variants.{Number, Blank, NotANumber}
 use Rattle.record.specs.Decimal.{columnWidth, decimal, isDigit, columnStep, columnFold, readColumn}
@@ -29,7 +29,7 @@ use Rattle.volume.specs.Sound.{sound}
 use Rattle.volume.specs.States.{historyOf, disks, tallyOf, withGrowth, recordedOnly}
 use Rattle.volume.proofs.Accepted.{holder-accepted}
 use Rattle.volume.proofs.Judged.{judged-cases, accepted-when}
-use Rattle.volume.proofs.LiveCode.{blocks-most, rest-open, old-blocks-most, growing-open}
+use Rattle.volume.proofs.LiveCode.{open-most}
 use Rattle.volume.proofs.LookUpLaws.{look-ups-of, at-rest-no-15}
 use Rattle.volume.proofs.RecordLaws.{record-length, record-read, recorded-sound}
 use Rattle.volume.proofs.RefusalLaws.{holder-refuses}
@@ -40,12 +40,6 @@ use Rattle.wall_chart.specs.Pages.{recordState}
 use Rattle.wall_chart.proofs.Places.{disk-number, row-number, cell-of-holder}
 
 -- ---- whole numbers
-
-open-most : (v : Volume) → sound v ≡ true → openBlocks (tallyOf v) ≤ 16_000_000
-open-most v s =
-    by-test (eqb (v .growing) 0)
-    (λ e. rw (rest-open v (eqb-true (v .growing) 0 e)) at (blocks-most v s))
-    (λ e. let g = eqb-false (v .growing) 0 e in rw (growing-open v g s) at (old-blocks-most v g s))
 
 pub disk-told : (v : Volume) (disk : ℕ) → sound v ≡ true → disk < disks v → readColumn (bytesOf v (textBytes disk) columnWidth) ≡ Number disk
 unfolding disks

@@ -1,6 +1,6 @@
 -- `load_number` meets its contract. Assumes nothing.
 use borrow.Author.Needs.{needs}
-use Rattle.scene_load.specs.Loads.{number}
+use Rattle.scene_load.specs.Loads.{loadNumber}
 use Rattle.capi.proofs.loads.load_number.Statement.{statement}
 use Rattle.capi.proofs.loads.load_number.Tie as tie
 
@@ -14,15 +14,15 @@ enum-told-2 : tie.Need-enum-told-2
 enum-told-2 c = search needs
 
 returns : tie.Need-returns
-unfolding number
+unfolding loadNumber
 returns c = rw (c .before .a .given .1)
 
 returns-2 : tie.Need-returns-2
-unfolding number
+unfolding loadNumber
 returns-2 c = rw (c .enum-told .given .1)
 
 returns-3 : tie.Need-returns-3
-unfolding number
+unfolding loadNumber
 returns-3 c = rw (c .enum-told2 .given .1)
 
 pub load-number-spec : {M : Type 1} → statement M

@@ -1,5 +1,5 @@
 -- `streterva_load` meets its contract: a walk of its code by hand, since it passes on a lent slice of structs. All that it knows of the three
--- functions that it calls is that each meets its contract. The figures are given up for good to the last of them. Assumes nothing.
+-- functions that it calls is that each meets its contract. The figures are lent to the last of them and not used again. Assumes nothing.
 use mathlib.Core.Path.{_≡_, refl, subst}
 use Prim.Native.Nat.{ℕ}
 use mathlib.Core.Bool.{cond}
@@ -44,7 +44,7 @@ use Rattle.volume.proofs.Volume as Vol
 use Rattle.volume.proofs.Volume.Laws as Vol′
 use Rattle.scene_load.specs.declared.Load.{Load}
 use Rattle.scene_load.specs.declared.Scene.{Scene}
-use Rattle.scene_load.specs.Loads.{loadOf, number}
+use Rattle.scene_load.specs.Loads.{loadNumber, loadOf}
 use Rattle.scene_load.proofs.Load as L
 use Rattle.scene_load.proofs.Load.Laws as L′
 use Rattle.scene_load.proofs.Scene as S
@@ -52,9 +52,9 @@ use Rattle.scene_load.proofs.load_of as load-of
 use Rattle.scene_load.proofs.load_of.Symbol as load-of-def
 use Rattle.scene_load.proofs.load_of.Symbol.{name as #load-of}
 use Rattle.scene_load.proofs.load_of.Met as load-of-thm
-use Rattle.capi.specs.Exported.{wrongLength, lengthsFit}
+use Rattle.capi.specs.Exported.{wrongLength, lengthsFit, stateTaken}
 use Rattle.capi.specs.Figures.{loadFigures}
-use Rattle.capi.proofs.ExportedCode.{stateTaken, load-left}
+use Rattle.capi.proofs.ExportedCode.{load-left}
 use Rattle.capi.proofs.loads.state_or_zeros as state-or-zeros
 use Rattle.capi.proofs.loads.state_or_zeros.Symbol as state-or-zeros-def
 use Rattle.capi.proofs.loads.state_or_zeros.Symbol.{name as #state-or-zeros}
@@ -157,10 +157,10 @@ module _ {M : Type 1} (𝓤 : URA M) (H : Heap 𝓤) (A : Atoms 𝓤) (W : Given
   said-taken v = exE 𝓤 _ (λ ws. snd∗ 𝓤 (sem 𝓤 H A (lasts state-or-zeros.ended (κ₀, tt) (x₀, tt) ws)) (fact 𝓤 (v ≡ stateTaken (now x₀))))
 
   abbrev to-loaded : Volume → Val → Loaded 𝓤 H A mem run .Ghost
-  to-loaded v mv = (((κ₁, tt), (q₁, tt), tt, (v, (x₁, tt)), (mv ∷ [], (s₁ ∷ [], tt))), tt)
+  to-loaded v stateValue = (((κ₁, tt), (q₁, tt), tt, (v, (x₁, tt)), (stateValue ∷ [], (s₁ ∷ [], tt))), tt)
 
-  goes-loaded : (v : Volume) (mv : Val) → Is Vol.the-row v (mv ∷ []) → ent 𝓤 (⋆ 𝓤 H A (‵ (flft κ₁ q₁) ∷ ‵ Own₁ ∷ [])) (Loaded 𝓤 H A mem run .pre (to-loaded v mv))
-  goes-loaded v mv is =
+  goes-loaded : (v : Volume) (stateValue : Val) → Is Vol.the-row v (stateValue ∷ []) → ent 𝓤 (⋆ 𝓤 H A (‵ (flft κ₁ q₁) ∷ ‵ Own₁ ∷ [])) (Loaded 𝓤 H A mem run .pre (to-loaded v stateValue))
+  goes-loaded v stateValue is =
       qed W (‵ (flft κ₁ q₁) ∷ ‵ Own₁ ∷ []) ∵ nothing ! $ move ! (1 ∷ 0 ∷ []) $ join ! $ nothing ! $ move ! (2 ∷ 0 ∷ []) $ fjoin ! $
       owned ! Vol.the-row (Is Vol.the-row) (LL.makes Vol.the-type Vol′.the-plain 𝓤 H A) v _ is $ fjoin ! $ move ! (1 ∷ 0 ∷ []) $ join ! $ frame ! $ done !
 
@@ -179,7 +179,7 @@ module _ {M : Type 1} (𝓤 : URA M) (H : Heap 𝓤) (A : Atoms 𝓤) (W : Given
 
   -- what the last call says of its number and of the figures
   abbrev Said : Load → ℕ → List ℕ → Type 0
-  Said r n zs = (n ≡ cond (lengthsFit (now x₀) 17 (now x₂)) (number (r .answer)) wrongLength) × (zs ≡ cond (lengthsFit (now x₀) 17 (now x₂)) (loadFigures r) (now x₂))
+  Said r n zs = (n ≡ cond (lengthsFit (now x₀) 17 (now x₂)) (loadNumber (r .answer)) wrongLength) × (zs ≡ cond (lengthsFit (now x₀) 17 (now x₂)) (loadFigures r) (now x₂))
 
   -- ---- the exit
 
@@ -209,10 +209,10 @@ module _ {M : Type 1} (𝓤 : URA M) (H : Heap 𝓤) (A : Atoms 𝓤) (W : Given
           ∷ ‵ (flft κ₀ q₀) ∷ ‵ (flft κ₁ q₁) ∷ ‵ (flft κ₂ q₂) ∷ ‵ Own₀ ∷ ‵ Own₁ ∷ ‵ Own₂ ∷ []
 
       -- the figures are lent to the last call, and the number is returned
-      third : (v : Volume) (mv : Val) (r : Load) (u : Val) → v ≡ stateTaken (now x₀) → r ≡ loadOf v (now x₁) → Is L.the-row r (u ∷ [])
-          → ent 𝓤 (⋆ 𝓤 H A (Held (‵ (fat fullShare Vol′.mir l₄ 0 mv)) (‵ (fat fullShare L′.mir l₅ 0 u)))) (Wp 𝓤 H C Λ En mirs.t-3 (atReturn 𝓤 H En Post))
-      third v mv r u e f isr =
-          qed W (Held (‵ (fat fullShare Vol′.mir l₄ 0 mv)) (‵ (fat fullShare L′.mir l₅ 0 u))) ∵ exec ! C Λ En mirs.t-3 (atRet En Post) $
+      third : (v : Volume) (stateValue : Val) (r : Load) (u : Val) → v ≡ stateTaken (now x₀) → r ≡ loadOf v (now x₁) → Is L.the-row r (u ∷ [])
+          → ent 𝓤 (⋆ 𝓤 H A (Held (‵ (fat fullShare Vol′.mir l₄ 0 stateValue)) (‵ (fat fullShare L′.mir l₅ 0 u)))) (Wp 𝓤 H C Λ En mirs.t-3 (atReturn 𝓤 H En Post))
+      third v stateValue r u e f isr =
+          qed W (Held (‵ (fat fullShare Vol′.mir l₄ 0 stateValue)) (‵ (fat fullShare L′.mir l₅ 0 u))) ∵ exec ! C Λ En mirs.t-3 (atRet En Post) $
           assigns ! (addr ! (from ! (fld ! refl (hop ! (look-in ! 8 (sub ! 0 refl (whole !))) (stop !))))) (from ! (stop !)) (init ! 2 refl (tt, tt)) $
           assigns ! (agg ! (and-then ! (load ! (from ! (stop !)) (look ! 2 refl)) (and-then ! (load ! (from ! (fld ! refl (stop !))) (look-in ! 8 (sub ! 1 refl (whole !)))) (no-more !)))) (from ! (stop !)) (init ! 0 refl (tt, (tt, (record { fits = room₂ .0 }, tt)))) $
           move ! (19 ∷ []) $ use1 W (‵ Own₀ ⊛ ‵ Own₀) (shr-slice-copy 𝓤 H A W (named 0) κ₀ usize .twice x₀ (s₀ ∷ [])) $ split ! $ move ! (0 ∷ 22 ∷ []) $ join ! $
@@ -231,19 +231,19 @@ module _ {M : Type 1} (𝓤 : URA M) (H : Heap 𝓤) (A : Atoms 𝓤) (W : Given
           keep ! (3 ∷ 9 ∷ 1 ∷ 8 ∷ 10 ∷ 4 ∷ 0 ∷ []) $ by ! (exits v r n z (zs .1 .1 .0) e f g l)))))))
 
       -- the scenes are walked
-      second : (v : Volume) (mv : Val) → v ≡ stateTaken (now x₀) → Is Vol.the-row v (mv ∷ [])
-          → ent 𝓤 (⋆ 𝓤 H A (Held (‵ (fat fullShare Vol′.mir l₄ 0 mv)) (‵ (froom L′.mir l₅ 0)))) (Wp 𝓤 H C Λ En mirs.t-2 (atReturn 𝓤 H En Post))
-      second v mv e isv =
-          qed W (Held (‵ (fat fullShare Vol′.mir l₄ 0 mv)) (‵ (froom L′.mir l₅ 0))) ∵ exec ! C Λ En mirs.t-2 (atRet En Post) $
+      second : (v : Volume) (stateValue : Val) → v ≡ stateTaken (now x₀) → Is Vol.the-row v (stateValue ∷ [])
+          → ent 𝓤 (⋆ 𝓤 H A (Held (‵ (fat fullShare Vol′.mir l₄ 0 stateValue)) (‵ (froom L′.mir l₅ 0)))) (Wp 𝓤 H C Λ En mirs.t-2 (atReturn 𝓤 H En Post))
+      second v stateValue e isv =
+          qed W (Held (‵ (fat fullShare Vol′.mir l₄ 0 stateValue)) (‵ (froom L′.mir l₅ 0))) ∵ exec ! C Λ En mirs.t-2 (atRet En Post) $
           move ! (20 ∷ []) $ use1 W (‵ Own₁ ⊛ ‵ Own₁) (shr-slice-copy 𝓤 H A W (named 1) κ₁ S.the-row .twice x₁ (s₁ ∷ [])) $ split ! $
-          move ! (19 ∷ 0 ∷ []) $ use2 W (raw (Loaded 𝓤 H A mem run .pre (to-loaded v mv))) (goes-loaded v mv isv) $
-          calls-at ! fm (Loaded 𝓤 H A mem run) known-loaded (to-loaded v mv) (and-then ! (load ! (from ! (stop !)) (look ! 8 refl)) (and-then ! (load ! (from ! (stop !)) (look ! 12 refl)) (no-more !))) (λ u.
+          move ! (19 ∷ 0 ∷ []) $ use2 W (raw (Loaded 𝓤 H A mem run .pre (to-loaded v stateValue))) (goes-loaded v stateValue isv) $
+          calls-at ! fm (Loaded 𝓤 H A mem run) known-loaded (to-loaded v stateValue) (and-then ! (load ! (from ! (stop !)) (look ! 8 refl)) (and-then ! (load ! (from ! (stop !)) (look ! 12 refl)) (no-more !))) (λ u.
           use1 W (later (some (λ (r : Load). ((‵ (flft κ₁ q₁) ⊛ ‵ ftrue) ⊛ ‵ (L.the-row .own r (u ∷ []))) ⊛ raw (ensured 𝓤 H A load-of.ended (load-of.clauses 𝓤 H A mem run) (κ₁, tt) (v, (x₁, tt)) tt r)))) (id⊢ 𝓤 _) $ await ! tt $ pick ! (λ r.
           split ! $ move ! (1 ∷ []) $ use1 W (raw (fact 𝓤 (r ≡ loadOf v (now x₁)))) (said-loaded v r) $ heard ! (r ≡ loadOf v (now x₁)) (λ f. split ! $ split ! $ move ! (2 ∷ []) $
           -- [the load; the token; …; what scenes own; _7 4; …; the tokens 20, 21; what state owns; what figures own]
           peeks ! L.the-row (Is L.the-row) (shows 𝓤 H A L.the-row) r (u ∷ []) (λ is.
           land ! (from ! (stop !)) (init ! 8 refl (LL.lawful L.the-type L′.the-laws 𝓤 H A W .typed r _ is .0)) $
-          keep ! (4 ∷ 5 ∷ 6 ∷ 7 ∷ 8 ∷ 9 ∷ 10 ∷ 11 ∷ 12 ∷ 13 ∷ 14 ∷ 15 ∷ 16 ∷ 17 ∷ 18 ∷ 19 ∷ 20 ∷ 1 ∷ 21 ∷ 22 ∷ 3 ∷ 23 ∷ []) $ by ! (third v mv r u e f is)))))
+          keep ! (4 ∷ 5 ∷ 6 ∷ 7 ∷ 8 ∷ 9 ∷ 10 ∷ 11 ∷ 12 ∷ 13 ∷ 14 ∷ 15 ∷ 16 ∷ 17 ∷ 18 ∷ 19 ∷ 20 ∷ 1 ∷ 21 ∷ 22 ∷ 3 ∷ 23 ∷ []) $ by ! (third v stateValue r u e f is)))))
 
       -- the state is taken from its words
       first : ent 𝓤 (⋆ 𝓤 H A (Held (‵ (froom Vol′.mir l₄ 0)) (‵ (froom L′.mir l₅ 0)))) (Wp 𝓤 H C Λ En mirs.t-1 (atReturn 𝓤 H En Post))

@@ -116,16 +116,16 @@ module _ {M : Type 1} (𝓤 : URA M) (H : Heap 𝓤) (A : Atoms 𝓤) (mem : Mem
   said-with v a i f c r =
       exE 𝓤 _ (λ ws. snd∗ 𝓤 (sem 𝓤 H A (lasts with-scene.ended tt (v, (a, (i, (f, (c, tt))))) ws)) (fact 𝓤 (r ≡ withScene v a i (record { first = f; count = c }))))
 
-  module _ (W : Given 𝓤 H A) (v : Volume) (mv : Val) (isv : Is Vol.the-row v (mv ∷ [])) where
+  module _ (W : Given 𝓤 H A) (v : Volume) (stateValue : Val) (isv : Is Vol.the-row v (stateValue ∷ [])) where
     abbrev to-empty : Empty .Ghost
-    to-empty = ((tt, tt, tt, (v, tt), (mv ∷ [], tt)), tt)
+    to-empty = ((tt, tt, tt, (v, tt), (stateValue ∷ [], tt)), tt)
 
     goes-empty : ent 𝓤 (sem 𝓤 H A ftrue) (Empty .pre to-empty)
     goes-empty = qed W (‵ ftrue ∷ []) ∵ owned ! Vol.the-row (Is Vol.the-row) (LL.makes Vol.the-type Vol′.the-plain 𝓤 H A) v _ isv $ fjoin ! $ nothing ! $ join ! $ frame ! $ done !
 
     module _ (a : Load) (u : Val) (isa : Is L.the-row a (u ∷ [])) (i f c : ℕ) (gi : i < 2 ^ 64) (gf : f < 2 ^ 64) (gc : c < 2 ^ 64) (usable : Usable v a i) where
       abbrev to-with : With .Ghost
-      to-with = ((tt, tt, tt, (v, (a, (i, (f, (c, tt))))), (mv ∷ [], (u ∷ [], (vint w64 i ∷ [], (vint w64 f ∷ [], (vint w64 c ∷ [], tt)))))), tt)
+      to-with = ((tt, tt, tt, (v, (a, (i, (f, (c, tt))))), (stateValue ∷ [], (u ∷ [], (vint w64 i ∷ [], (vint w64 f ∷ [], (vint w64 c ∷ [], tt)))))), tt)
 
       goes-with : ent 𝓤 (sem 𝓤 H A ftrue) (With .pre to-with)
       goes-with =
@@ -137,7 +137,7 @@ module _ {M : Type 1} (𝓤 : URA M) (H : Heap 𝓤) (A : Atoms 𝓤) (mem : Mem
 
 -- ---- the walk
 
-module _ {M : Type 1} (𝓤 : URA M) (H : Heap 𝓤) (A : Atoms 𝓤) (W : Given 𝓤 H A) (mem : Memory → SProp 𝓤) (run : Routine → Fun 𝓤) (κ : Lft) (q : Share) (v : Volume) (mv : Val) (b o : ℕ) (γ : GName) (ys : List Scene) where
+module _ {M : Type 1} (𝓤 : URA M) (H : Heap 𝓤) (A : Atoms 𝓤) (W : Given 𝓤 H A) (mem : Memory → SProp 𝓤) (run : Routine → Fun 𝓤) (κ : Lft) (q : Share) (v : Volume) (stateValue : Val) (b o : ℕ) (γ : GName) (ys : List Scene) where
   abbrev n : ℕ
   n = length ys
 
@@ -147,17 +147,17 @@ module _ {M : Type 1} (𝓤 : URA M) (H : Heap 𝓤) (A : Atoms 𝓤) (W : Given
   abbrev elem : ℕ → Scene
   elem i = sceneAt ys i
 
-  -- the machine value of a scene; mv is the state's
-  abbrev mach : ℕ → Val
-  mach i = LL.tuple-val S.the-type S′.the-laws (S.the-type .to (elem i))
+  -- the machine value of a scene; `stateValue` is the state's
+  abbrev sceneValue : ℕ → Val
+  sceneValue i = LL.tuple-val S.the-type S′.the-laws (S.the-type .to (elem i))
 
   abbrev at : Vals load-of.signature (κ, tt)
-  at = (mv ∷ [], (sliceVal (b, o) n ∷ [], tt))
+  at = (stateValue ∷ [], (sliceVal (b, o) n ∷ [], tt))
 
   abbrev Post : Val → SProp 𝓤
   Post = walkOf 𝓤 H A load-of.ended stayed (load-of.clauses 𝓤 H A mem run) .post (((κ, tt), (q, tt), tt, x, at), tt)
 
-  module _ (isv : Is Vol.the-row v (mv ∷ [])) where
+  module _ (isv : Is Vol.the-row v (stateValue ∷ [])) where
     exits : (r : Load) (u : Val) → Is L.the-row r (u ∷ []) → r ≡ loadOf v ys
         → ent 𝓤 (⋆ 𝓤 H A (‵ (flft κ q) ∷ ‵ (ShrSlice (named 0) κ S.the-row .own (x .1 .0) (at .1 .0)) ∷ [])) (Post u)
     exits r u is e =
@@ -178,7 +178,7 @@ module _ {M : Type 1} (𝓤 : URA M) (H : Heap 𝓤) (A : Atoms 𝓤) (W : Given
       En = (L′.mir, l₀) ∷ (Vol′.mir, l₁) ∷ (slice, l₂) ∷ (L′.mir, l₃) ∷ (word, l₄) ∷ (S′.mir, l₅) ∷ (word, l₆) ∷ (tyBool, l₇) ∷ (tyPtr, l₈) ∷ (S′.mir, l₉) ∷ []
 
       abbrev Frame : List (Item 𝓤)
-      Frame = ‵ (fat fullShare Vol′.mir l₁ 0 mv) ∷ ‵ (fat fullShare slice l₂ 0 (sliceVal (b, o) n)) ∷ ‵ (froom L′.mir l₀ 0)
+      Frame = ‵ (fat fullShare Vol′.mir l₁ 0 stateValue) ∷ ‵ (fat fullShare slice l₂ 0 (sliceVal (b, o) n)) ∷ ‵ (froom L′.mir l₀ 0)
           ∷ ‵ (fshr-bor κ (λ s. arr-parts (shares S.the-row) n .part s ys b o)) ∷ ‵ (flft κ q) ∷ ‵ (fres γ (codedHoleys S.the-row .code (heres S.the-row ys))) ∷ ‵ (at-slice S.the-row (x .1 .0) (at .1 .0))
           ∷ ‵ (fdies L′.mir l₀) ∷ ‵ (fdies Vol′.mir l₁) ∷ ‵ (fdies slice l₂) ∷ ‵ (fdies L′.mir l₃) ∷ ‵ (fdies word l₄) ∷ ‵ (fdies S′.mir l₅) ∷ ‵ (fdies word l₆) ∷ ‵ (fdies tyBool l₇) ∷ ‵ (fdies tyPtr l₈) ∷ ‵ (fdies S′.mir l₉) ∷ []
 
@@ -220,13 +220,13 @@ module _ {M : Type 1} (𝓤 : URA M) (H : Heap 𝓤) (A : Atoms 𝓤) (W : Given
           move ! (10 ∷ 11 ∷ []) $
           looks-slice ! tt S.the-row (Is S.the-row) (shows 𝓤 H A S.the-row) (LL.vals S.the-type S′.the-laws) (LL.tells S.the-type S′.the-laws) (LL.copy S.the-type S′.the-copy 𝓤 H A W) ys b o (λ q′. elem-out ! S.the-row (Is S.the-row) (shows 𝓤 H A S.the-row) (LL.vals S.the-type S′.the-laws) (LL.tells S.the-type S′.the-laws) q′ ys i (record { first = 0; count = 0 }) b o small (λ is.
           -- [scenes[i]; what it owns; the others; what shuts; the fractured borrow; _3 5; _4; _5 7; _6; _7; _8 10; _9 11; _1 12; _2; _0; res; fact; dies]
-          assigns ! (of-opd ! (load ! (from ! (hop ! (look ! 10 refl) (stop !))) (look-raw ! 0 refl))) (from ! (stop !)) (init ! 11 refl (LL.lawful S.the-type S′.the-laws 𝓤 H A W .typed (elem i) (mach i ∷ []) is .0)) $
-          assigns ! (of-opd ! (load ! (from ! (stop !)) (look ! 11 refl))) (from ! (stop !)) (init ! 7 refl (LL.lawful S.the-type S′.the-laws 𝓤 H A W .typed (elem i) (mach i ∷ []) is .0)) $
-          elem-back ! S.the-row q′ ys i (record { first = 0; count = 0 }) (mach i ∷ []) b o small $ shuts-slice ! tt S.the-row q′ ys b o $
+          assigns ! (of-opd ! (load ! (from ! (hop ! (look ! 10 refl) (stop !))) (look-raw ! 0 refl))) (from ! (stop !)) (init ! 11 refl (LL.lawful S.the-type S′.the-laws 𝓤 H A W .typed (elem i) (sceneValue i ∷ []) is .0)) $
+          assigns ! (of-opd ! (load ! (from ! (stop !)) (look ! 11 refl))) (from ! (stop !)) (init ! 7 refl (LL.lawful S.the-type S′.the-laws 𝓤 H A W .typed (elem i) (sceneValue i ∷ []) is .0)) $
+          elem-back ! S.the-row q′ ys i (record { first = 0; count = 0 }) (sceneValue i ∷ []) b o small $ shuts-slice ! tt S.the-row q′ ys b o $
           -- [the token; the borrow; _3 2; _4 3; _5 4; _6; _7; _8; _9 8; _1 9; _2 10; _0 11; res 12; fact 13; dies 14 ..]
-          nothing ! $ use1 W (raw (With 𝓤 H A mem run .pre (to-with 𝓤 H A mem run W v mv isv (loadOfFirst v ys i) u isa i (elem i .first) (elem i .count) i-fits (is .1 .1 .0 .1) (is .1 .1 .1 .0 .1) usable)))
-          (goes-with 𝓤 H A mem run W v mv isv (loadOfFirst v ys i) u isa i (elem i .first) (elem i .count) i-fits (is .1 .1 .0 .1) (is .1 .1 .1 .0 .1) usable) $
-          calls-at ! (fmOf 𝓤 H (W .laws) 𝓣) (With 𝓤 H A mem run) known (to-with 𝓤 H A mem run W v mv isv (loadOfFirst v ys i) u isa i (elem i .first) (elem i .count) i-fits (is .1 .1 .0 .1) (is .1 .1 .1 .0 .1) usable)
+          nothing ! $ use1 W (raw (With 𝓤 H A mem run .pre (to-with 𝓤 H A mem run W v stateValue isv (loadOfFirst v ys i) u isa i (elem i .first) (elem i .count) i-fits (is .1 .1 .0 .1) (is .1 .1 .1 .0 .1) usable)))
+          (goes-with 𝓤 H A mem run W v stateValue isv (loadOfFirst v ys i) u isa i (elem i .first) (elem i .count) i-fits (is .1 .1 .0 .1) (is .1 .1 .1 .0 .1) usable) $
+          calls-at ! (fmOf 𝓤 H (W .laws) 𝓣) (With 𝓤 H A mem run) known (to-with 𝓤 H A mem run W v stateValue isv (loadOfFirst v ys i) u isa i (elem i .first) (elem i .count) i-fits (is .1 .1 .0 .1) (is .1 .1 .1 .0 .1) usable)
           (and-then ! (load ! (from ! (stop !)) (look ! 10 refl)) (and-then ! (load ! (from ! (stop !)) (look ! 3 refl)) (and-then ! (load ! (from ! (stop !)) (look ! 4 refl))
           (and-then ! (load ! (from ! (fld ! refl (stop !))) (look-in ! 5 (sub ! 0 refl (whole !)))) (and-then ! (load ! (from ! (fld ! refl (stop !))) (look-in ! 5 (sub ! 1 refl (whole !)))) (no-more !)))))) (λ u′.
           use1 W (later (some (λ (r : Load). (‵ ftrue ⊛ ‵ (L.the-row .own r (u′ ∷ []))) ⊛ raw (ensured 𝓤 H A with-scene.ended (with-scene.clauses 𝓤 H A mem run) tt (v, (loadOfFirst v ys i, (i, (elem i .first, (elem i .count, tt))))) tt r)))) (id⊢ 𝓤 _) $ await ! tt $ pick ! (λ r.
@@ -287,7 +287,7 @@ module _ {M : Type 1} (𝓤 : URA M) (H : Heap 𝓤) (A : Atoms 𝓤) (W : Given
       -- the parameters are passed, and the load is as the item says
       abbrev Passed : Item 𝓤 → List (Item 𝓤)
       Passed taken = ‵ (froom S′.mir l₉ 0) ∷ ‵ (fdies S′.mir l₉) ∷ ‵ (froom tyPtr l₈ 0) ∷ ‵ (fdies tyPtr l₈) ∷ ‵ (froom tyBool l₇ 0) ∷ ‵ (fdies tyBool l₇) ∷ ‵ (froom word l₆ 0) ∷ ‵ (fdies word l₆) ∷ ‵ (froom S′.mir l₅ 0) ∷ ‵ (fdies S′.mir l₅)
-          ∷ ‵ (froom word l₄ 0) ∷ ‵ (fdies word l₄) ∷ taken ∷ ‵ (fdies L′.mir l₃) ∷ ‵ (fat fullShare slice l₂ 0 (sliceVal (b, o) n)) ∷ ‵ (fdies slice l₂) ∷ ‵ (fat fullShare Vol′.mir l₁ 0 mv) ∷ ‵ (fdies Vol′.mir l₁) ∷ ‵ (froom L′.mir l₀ 0) ∷ ‵ (fdies L′.mir l₀)
+          ∷ ‵ (froom word l₄ 0) ∷ ‵ (fdies word l₄) ∷ taken ∷ ‵ (fdies L′.mir l₃) ∷ ‵ (fat fullShare slice l₂ 0 (sliceVal (b, o) n)) ∷ ‵ (fdies slice l₂) ∷ ‵ (fat fullShare Vol′.mir l₁ 0 stateValue) ∷ ‵ (fdies Vol′.mir l₁) ∷ ‵ (froom L′.mir l₀ 0) ∷ ‵ (fdies L′.mir l₀)
           ∷ (‵ (flft κ q) ⊛ ‵ ftrue) ∷ ‵ (owns (Vol.the-row ∷ ShrSlice (named 0) κ S.the-row ∷ []) x at) ∷ []
 
       -- the load of no scenes is there: i is set to 0, and the loop begins
@@ -301,8 +301,8 @@ module _ {M : Type 1} (𝓤 : URA M) (H : Heap 𝓤) (A : Atoms 𝓤) (W : Given
       starts : Triple 𝓤 (𝓣 .C #empty-load) (Empty 𝓤 H A mem run) → ent 𝓤 (⋆ 𝓤 H A (Passed (‵ (froom L′.mir l₃ 0)))) (Wp 𝓤 H C Λ En mirs.t-1 (atReturn 𝓤 H En Post))
       starts known-empty =
           qed W (Passed (‵ (froom L′.mir l₃ 0))) ∵ exec ! C Λ En mirs.t-1 (atRet En Post) $
-          nothing ! $ use1 W (raw (Empty 𝓤 H A mem run .pre (to-empty 𝓤 H A mem run W v mv isv))) (goes-empty 𝓤 H A mem run W v mv isv) $
-          calls-at ! (fmOf 𝓤 H (W .laws) 𝓣) (Empty 𝓤 H A mem run) known-empty (to-empty 𝓤 H A mem run W v mv isv) (and-then ! (load ! (from ! (stop !)) (look ! 17 refl)) (no-more !)) (λ u.
+          nothing ! $ use1 W (raw (Empty 𝓤 H A mem run .pre (to-empty 𝓤 H A mem run W v stateValue isv))) (goes-empty 𝓤 H A mem run W v stateValue isv) $
+          calls-at ! (fmOf 𝓤 H (W .laws) 𝓣) (Empty 𝓤 H A mem run) known-empty (to-empty 𝓤 H A mem run W v stateValue isv) (and-then ! (load ! (from ! (stop !)) (look ! 17 refl)) (no-more !)) (λ u.
           use1 W (later (some (λ (r : Load). (‵ ftrue ⊛ ‵ (L.the-row .own r (u ∷ []))) ⊛ raw (ensured 𝓤 H A empty-load.ended (empty-load.clauses 𝓤 H A mem run) tt (v, tt) tt r)))) (id⊢ 𝓤 _) $ await ! tt $ pick ! (λ r.
           split ! $ move ! (1 ∷ []) $ use1 W (raw (fact 𝓤 (r ≡ emptyLoad v))) (said-empty 𝓤 H A mem run v r) $ heard ! (r ≡ emptyLoad v) (λ e. split ! $ drop ! $
           peeks ! L.the-row (Is L.the-row) (shows 𝓤 H A L.the-row) r (u ∷ []) (λ got.
@@ -310,9 +310,9 @@ module _ {M : Type 1} (𝓤 : URA M) (H : Heap 𝓤) (A : Atoms 𝓤) (W : Given
           by ! (begins u (subst (λ (l : Load). Is L.the-row l (u ∷ [])) (e ∙ none-taken v ys) got))))))
 
     walk : (𝓣 : Tables 𝓤 H) → Triple 𝓤 (𝓣 .C #empty-load) (Empty 𝓤 H A mem run) → Triple 𝓤 (𝓣 .C #with-scene) (With 𝓤 H A mem run) → Room S.the-row n
-        → ent 𝓤 (onEntry 𝓤 H A load-of.signature (κ, tt) (q, tt) x at) (WpFn 𝓤 H (𝓣 .C) (𝓣 .Λ) spelled (mv ∷ sliceVal (b, o) n ∷ []) Post)
+        → ent 𝓤 (onEntry 𝓤 H A load-of.signature (κ, tt) (q, tt) x at) (WpFn 𝓤 H (𝓣 .C) (𝓣 .Λ) spelled (stateValue ∷ sliceVal (b, o) n ∷ []) Post)
     walk 𝓣 known-empty known g =
-        qed W ((‵ (flft κ q) ⊛ ‵ ftrue) ∷ ‵ (owns (Vol.the-row ∷ ShrSlice (named 0) κ S.the-row ∷ []) x at) ∷ []) ∵ enter ! (𝓣 .C) (𝓣 .Λ) spelled (mv ∷ sliceVal (b, o) n ∷ []) _ $
+        qed W ((‵ (flft κ q) ⊛ ‵ ftrue) ∷ ‵ (owns (Vol.the-row ∷ ShrSlice (named 0) κ S.the-row ∷ []) x at) ∷ []) ∵ enter ! (𝓣 .C) (𝓣 .Λ) spelled (stateValue ∷ sliceVal (b, o) n ∷ []) _ $
         alloc1 ! (λ l₀. alloc1 ! (λ l₁. alloc1 ! (λ l₂. alloc1 ! (λ l₃. alloc1 ! (λ l₄. alloc1 ! (λ l₅. alloc1 ! (λ l₆. alloc1 ! (λ l₇. alloc1 ! (λ l₈. alloc1 ! (λ l₉. alloc0 ! $ params1 ! $
         pass1 ! (init ! 16 refl (LL.lawful Vol.the-type Vol′.the-laws 𝓤 H A W .typed v _ isv .0)) $ pass1 ! (init ! 14 refl (tt, (tt, (record { fits = g .0 }, tt)))) $ pass0 ! $
         by ! (starts 𝓣 known g l₀ l₁ l₂ l₃ l₄ l₅ l₆ l₇ l₈ l₉ known-empty)))))))))))
