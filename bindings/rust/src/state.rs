@@ -254,7 +254,7 @@ impl State {
     /// # Errors
     ///
     /// 1; 17, a scene reaches past the open blocks or stands after the first 65,536, where one of 0 blocks is refused too.
-    pub fn load(&self, scenes: &[Scene]) -> Result<[u64; 16], LoadRefusal> {
+    pub fn load(&self, scenes: &[Scene]) -> Result<[u64; State::MOST_DISKS as usize], LoadRefusal> {
         let mut figures = [0; raw::LOAD_FIGURES];
         let number = raw::load(&self.words, scenes, &mut figures);
         let [place, served @ ..] = figures;

@@ -430,8 +430,8 @@ fn load_counts_the_live_spots() {
     assert_eq!(volume.load(&all), Ok(served(&[4, 5, 5, 1])));
     finish(&mut volume, &mut medium);
     assert_eq!(volume.load(&all), Ok(served(&[3, 3, 3, 3, 3])));
-    let all = [scene(0, 25)];
-    assert_eq!(volume.load(&all), Ok(served(&[5, 5, 5, 5, 5])));
+    let grown = [scene(0, 25)];
+    assert_eq!(volume.load(&grown), Ok(served(&[5, 5, 5, 5, 5])));
 }
 
 #[test]
@@ -554,7 +554,7 @@ fn wrong_lengths_touch_nothing() {
     assert_eq!(piece, [9; 512]);
 }
 
-/// The same for load, with lists that 17 fits and without.
+/// The same for load, also with a list that is refused.
 #[test]
 fn load_of_wrong_lengths_touches_nothing() {
     let (_, volume) = three_disks();
@@ -636,13 +636,13 @@ fn refusals_have_their_numbers() {
     for number in [0, 16, 17, raw::WRONG_LENGTH, u64::MAX] {
         assert_eq!(Refusal::from_number(number), None);
     }
-    let scene = LoadRefusal::Scene { place: 3 };
-    assert_eq!((LoadRefusal::NotSound.number(), scene.number()), (1, 17));
+    let refused = LoadRefusal::Scene { place: 3 };
+    assert_eq!((LoadRefusal::NotSound.number(), refused.number()), (1, 17));
     assert_eq!(
         LoadRefusal::NotSound.to_string(),
         Refusal::NotSound.to_string()
     );
-    assert!(scene.to_string().contains("place 3"));
+    assert!(refused.to_string().contains("place 3"));
 }
 
 #[test]

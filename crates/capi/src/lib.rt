@@ -1,6 +1,6 @@
 // The calls for programs in C and Rust, as a static library: one exported function for each call, on numbers and lent
 // slices. The state crosses as fifteen words, the figures of an answer as a lent slice; each function returns
-// document 01's number, or WRONG_LENGTH. What each of them leaves is in `specs/Exported.antt`, and for C in
+// document 01's number, or document 02's for load, or WRONG_LENGTH. What each of them leaves is in `specs/Exported.antt`, and for C in
 // include/streterva.h.
 //
 // The exported functions take any input. What has a `requires` is seen in this crate alone.

@@ -3,31 +3,7 @@
 use chart::{chart, compared, length, PAGE};
 use reference::limits;
 use reference::record;
-use reference::sample::{damaged_record, sound_state, Random};
-use reference::state::State;
-
-/// A state of 512-byte blocks at rest.
-fn at_rest(counts: &[u64], s: u64) -> State {
-    let mut state = State {
-        z: 512,
-        s,
-        ..State::ZEROS
-    };
-    state.t = counts.len() as u64 - 1;
-    state.counts[..counts.len()].copy_from_slice(counts);
-    state
-}
-
-/// The growth to the last count under way.
-fn growing(counts: &[u64], s: u64, w: u64, recorded: u64) -> State {
-    State {
-        growing: 1,
-        w,
-        recorded,
-        copied: recorded,
-        ..at_rest(counts, s)
-    }
-}
+use reference::sample::{at_rest, damaged_record, growing, sound_state, Random};
 
 /// Document 02's example: counts 1, 3, growth finished, s = 3.
 const EXAMPLE: &str = "   row         0         1         2

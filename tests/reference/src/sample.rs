@@ -64,6 +64,29 @@ impl Random {
     }
 }
 
+/// A state of 512-byte blocks at rest.
+pub fn at_rest(counts: &[u64], s: u64) -> State {
+    let mut state = State {
+        z: limits::SECTOR,
+        s,
+        ..State::ZEROS
+    };
+    state.t = counts.len() as u64 - 1;
+    state.counts[..counts.len()].copy_from_slice(counts);
+    state
+}
+
+/// The growth to the last count under way; all copies are recorded.
+pub fn growing(counts: &[u64], s: u64, w: u64, recorded: u64) -> State {
+    State {
+        growing: 1,
+        w,
+        recorded,
+        copied: recorded,
+        ..at_rest(counts, s)
+    }
+}
+
 /// A sound state with up to `rows` rows; most often a growth runs.
 pub fn sound_state(random: &mut Random, rows: u64) -> State {
     let mut state = State::ZEROS;

@@ -29,13 +29,13 @@ pub struct Answer {
 
 /// The answer of an accepted list; disks after the given ones have 0.
 pub fn served(numbers: &[u64]) -> Answer {
-    let mut served = [0; DISKS];
-    served[..numbers.len()].copy_from_slice(numbers);
-    Answer {
+    let mut answer = Answer {
         number: 0,
         place: 0,
-        served,
-    }
+        served: [0; DISKS],
+    };
+    answer.served[..numbers.len()].copy_from_slice(numbers);
+    answer
 }
 
 /// The answer that refuses the scene at `place`.
@@ -65,14 +65,14 @@ pub fn expected(state: &State, scenes: &[Scene]) -> Answer {
             return refused(place as u64);
         }
     }
-    let mut answer = served(&[]);
+    let mut counted = [0; DISKS];
     for scene in scenes {
         for x in scene.first..scene.first + scene.count {
             let disk = state.live(Block(x)).spot.disk;
-            answer.served[disk as usize] += 1;
+            counted[disk as usize] += 1;
         }
     }
-    answer
+    served(&counted)
 }
 
 fn reaches_past(state: &State, scene: &Scene) -> bool {
@@ -86,26 +86,26 @@ pub fn answer(state: &State, scenes: &[Scene]) -> Answer {
     let words = state.to_words();
     let mut lent = [BEFORE; raw::LOAD_FIGURES + 2];
     let number = raw::load(&words, scenes, &mut lent[1..=raw::LOAD_FIGURES]);
-    let [before, place, served @ .., after] = lent;
+    let [before, place, numbers @ .., after] = lent;
     assert_eq!((before, after), (BEFORE, BEFORE));
     assert_eq!(State::from_words(&words), *state);
     Answer {
         number,
         place,
-        served,
+        served: numbers,
     }
 }
 
 /// Asks the library, compares, and gives the answer.
 pub fn compared(state: &State, scenes: &[Scene]) -> Answer {
-    let answer = answer(state, scenes);
+    let given = answer(state, scenes);
     let some = &scenes[..scenes.len().min(20)];
     let wanted = expected(state, scenes);
-    assert_eq!(answer, wanted, "{state:?}, scenes from {some:?}");
-    if answer.number == 0 {
-        adds_up(state, scenes, &answer);
+    assert_eq!(given, wanted, "{state:?}, scenes from {some:?}");
+    if given.number == 0 {
+        adds_up(state, scenes, &given);
     }
-    answer
+    given
 }
 
 /// The numbers of an accepted list sum up to its counts, and only disks that
@@ -124,27 +124,4 @@ pub fn scene(first: u64, count: u64) -> Scene {
 /// The scene of all open blocks.
 pub fn whole(state: &State) -> Scene {
     scene(0, state.open())
-}
-
-/// A state of 512-byte blocks at rest.
-pub fn at_rest(counts: &[u64], s: u64) -> State {
-    let mut state = State {
-        z: 512,
-        s,
-        ..State::ZEROS
-    };
-    state.t = counts.len() as u64 - 1;
-    state.counts[..counts.len()].copy_from_slice(counts);
-    state
-}
-
-/// The growth to the last count under way; all copies are recorded.
-pub fn growing(counts: &[u64], s: u64, w: u64, recorded: u64) -> State {
-    State {
-        growing: 1,
-        w,
-        recorded,
-        copied: recorded,
-        ..at_rest(counts, s)
-    }
 }

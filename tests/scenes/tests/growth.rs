@@ -32,9 +32,9 @@ fn recorded(volume: &library::State) -> (bool, u64, u64) {
 
 /// The answer for the first `open` blocks, which is the sum of the answers for
 /// each of them.
-fn answer(volume: &library::State, open: u64) -> Answer {
+fn load(volume: &library::State, open: u64) -> Answer {
     let state = plain(volume);
-    let answer = compared(&state, &[scene(0, open)]);
+    let all = compared(&state, &[scene(0, open)]);
     let mut sum = [0; scenes::DISKS];
     for block in 0..open {
         let single = compared(&state, &[scene(block, 1)]);
@@ -42,22 +42,22 @@ fn answer(volume: &library::State, open: u64) -> Answer {
         assert_eq!(single.served[disk as usize], 1);
         sum[disk as usize] += 1;
     }
-    assert_eq!(answer.served, sum);
-    answer
+    assert_eq!(all.served, sum);
+    all
 }
 
 /// Takes a growth to its end. The numbers change at checkpoints and at no other
 /// call, and after a power cut they are the same. Returns the checkpoints.
 fn run(random: &mut Random, volume: &mut library::State, medium: &mut [u8], count: u64) -> u64 {
     let open = plain(volume).open();
-    let mut last = answer(volume, open);
+    let mut last = load(volume, open);
     volume.grow(medium, count).unwrap();
-    assert_eq!(answer(volume, open), last);
+    assert_eq!(load(volume, open), last);
     let mut checkpoints = 0;
     while volume.is_growing() {
         let before = recorded(volume);
         step(random, volume, medium);
-        let now = answer(volume, open);
+        let now = load(volume, open);
         assert_eq!(now != last, recorded(volume) != before);
         let restarted = library::State::restart(medium).unwrap().state;
         assert_eq!(restarted.load(&[scene(0, open)]), Ok(now.served));
@@ -76,7 +76,7 @@ fn grows(seed: u64, rows: u64, counts: &[u64]) {
     for &count in &counts[1..] {
         let checkpoints = run(&mut random, &mut volume, &mut medium, count);
         assert!(checkpoints >= rows.div_ceil(count));
-        let full = answer(&volume, count * rows);
+        let full = load(&volume, count * rows);
         assert!(full.served[..count as usize].iter().all(|&n| n == rows));
     }
 }

@@ -2,8 +2,9 @@
 //! empty scenes, with scenes that end at the last open block or after it, and
 //! lists that are too long.
 
+use reference::sample::{at_rest, growing};
 use reference::state::State;
-use scenes::{at_rest, compared, growing, refused, scene, served, whole, MOST};
+use scenes::{compared, refused, scene, served, whole, MOST};
 use streterva::Scene;
 
 /// Document 02's chart: counts 1, 3, growth finished, s = 3. Disk 0 has blocks

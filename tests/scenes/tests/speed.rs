@@ -1,7 +1,8 @@
 //! The largest volume, all of it in one list. `--nocapture` shows the times.
 
+use reference::sample::{at_rest, growing};
 use reference::state::State;
-use scenes::{adds_up, answer, at_rest, growing, scene, whole, Answer};
+use scenes::{adds_up, answer, scene, whole, Answer};
 use std::time::{Duration, Instant};
 use streterva::Scene;
 
@@ -12,15 +13,15 @@ const COUNTS: [u64; 8] = [2, 4, 6, 8, 10, 12, 14, 16];
 fn timed(name: &str, state: &State, scenes: &[Scene]) -> Answer {
     assert!(state.sound());
     let start = Instant::now();
-    let answer = answer(state, scenes);
+    let given = answer(state, scenes);
     let time = start.elapsed();
-    assert_eq!((answer.number, answer.place), (0, 0));
-    adds_up(state, scenes, &answer);
+    assert_eq!((given.number, given.place), (0, 0));
+    adds_up(state, scenes, &given);
     let blocks: u64 = scenes.iter().map(|scene| scene.count).sum();
     let each = time.as_nanos() as f64 / blocks as f64;
     println!("{name}: {blocks} blocks in {time:.1?}, {each:.1} ns a block");
     assert!(time < Duration::from_secs(60), "{time:?}");
-    answer
+    given
 }
 
 /// At rest each spot has one block.

@@ -1,8 +1,8 @@
 //! Load on many states, sound and not.
 
-use reference::sample::{damage, sound_state, Random};
+use reference::sample::{at_rest, damage, growing, sound_state, Random};
 use reference::state::State;
-use scenes::{at_rest, compared, growing, not_sound, refused, scene, whole, MOST};
+use scenes::{compared, not_sound, refused, scene, whole, MOST};
 use streterva::Scene;
 
 /// A scene within `open` blocks, of no more than 300.
@@ -38,7 +38,7 @@ fn list(random: &mut Random, open: u64) -> Vec<Scene> {
         .collect()
 }
 
-/// Whether an odd list would take the reference long: it is accepted, and
+/// Whether an odd list would take the reference long: it may be accepted, and
 /// names many blocks.
 fn is_long(state: &State, scenes: &[Scene]) -> bool {
     let past = |scene: &Scene| scene.count > state.open();
@@ -49,7 +49,7 @@ fn is_long(state: &State, scenes: &[Scene]) -> bool {
 #[test]
 fn random_states() {
     let mut random = Random::new(1);
-    let (mut accepted, mut refused, mut moving) = (0, 0, 0);
+    let (mut accepted, mut other, mut moving) = (0, 0, 0);
     for _ in 0..20_000 {
         let rows = random.pick(&[2, 20, 40, 1_000_000]);
         let state = sound_state(&mut random, rows);
@@ -60,13 +60,13 @@ fn random_states() {
         let answer = compared(&state, &scenes);
         match answer.number {
             0 => accepted += 1,
-            _ => refused += 1,
+            _ => other += 1,
         }
         let part = state.growing == 1 && state.recorded != 0;
         moving += (part && answer.number == 0) as u32;
     }
     assert!(accepted > 10_000, "{accepted}");
-    assert!(refused > 4_000, "{refused}");
+    assert!(other > 4_000, "{other}");
     assert!(moving > 3_000, "{moving}");
 }
 
