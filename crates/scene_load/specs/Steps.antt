@@ -16,6 +16,7 @@ use Rattle.scene_load.specs.declared.LoadAnswer.{LoadAnswer}
 use Rattle.scene_load.specs.declared.LoadAnswer.the-variants.{Refused, SceneRefused, Counted}
 use Rattle.scene_load.specs.Loads.{servedOfScene, isRefused, refusedWith, loadOfFirst}
 
+-- the load of no scenes
 abbrev pub emptyLoad : (v : Volume) → Load
 emptyLoad v = loadOfFirst v [] 0
 
