@@ -6,6 +6,8 @@ use crate::volume::{self, Words};
 pub const FORMATTED: &str = "t = 0";
 pub const GROWN: &str = "t = 7";
 pub const OLD_BLOCKS: &str = "t = 7, old blocks";
+pub const ADDED: &str = "t = 7, added blocks";
+pub const NOT_ADDED: &str = "t = 7, not added";
 pub const GROWING: &str = "growing";
 pub const CACHED: &str = "t = 7, cached";
 pub const LARGE: &str = "t = 7, large";

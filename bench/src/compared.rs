@@ -23,7 +23,7 @@ pub fn lookups(s: u64) -> Vec<Box<dyn Row>> {
         soundness(label("soundness", GROWING), growing),
         address(label("address", GROWN), grown, 16 * s),
         address(label("address", GROWING), growing, 14 * s),
-        holder(label("holder", GROWN), grown),
+        holder(label("holder", GROWN), grown, 0..16 * s),
     ]
 }
 

@@ -11,6 +11,7 @@ use crate::row::{Label, Row};
 use crate::transfer::{Direction, Transfer};
 use crate::volume::{self, Words};
 use crate::ROUNDS;
+use std::ops::Range;
 
 const SIZES: [u64; 3] = [512, 4096, 65_536];
 const LOOKUP_ROWS: u64 = 100_000;
@@ -62,10 +63,11 @@ pub fn address(label: Label, words: Words, open: u64) -> Box<dyn Row> {
     })
 }
 
-/// Holder on 16 disks.
-pub fn holder(label: Label, words: Words) -> Box<dyn Row> {
-    let spots = order::drawn(LOOKUPS, 16 * words[1]);
-    let spots = spots.iter().map(|i| (i % 16, i / 16)).collect();
+/// Holder at the spots of some of the blocks.
+pub fn holder(label: Label, words: Words, blocks: Range<u64>) -> Box<dyn Row> {
+    let drawn = order::drawn(LOOKUPS, blocks.end - blocks.start);
+    let spot = |i| volume::spot(&words, blocks.start + i);
+    let spots = drawn.into_iter().map(spot).collect();
     Box::new(Holder {
         label,
         words,
@@ -88,7 +90,9 @@ fn lookups() -> Vec<Box<dyn Row>> {
         address(label("address", GROWN), grown, 16 * s),
         address(label("address", OLD_BLOCKS), old, 16 * s),
         address(label("address", GROWING), growing, 14 * s),
-        holder(label("holder", GROWN), grown),
+        holder(label("holder", GROWN), grown, 0..16 * s),
+        holder(label("holder", ADDED), grown, 14 * s..16 * s),
+        holder(label("holder", NOT_ADDED), grown, 0..14 * s),
     ]
 }
 

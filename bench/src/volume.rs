@@ -55,9 +55,15 @@ pub fn bytes(words: &Words) -> usize {
     (RECORD + disks(words) * words[1] * words[0]) as usize
 }
 
-/// Where the live spot of a block starts in the medium.
-pub fn live(words: &Words, block: u64) -> usize {
+/// Disk and row of the live spot of a block.
+pub fn spot(words: &Words, block: u64) -> (u64, u64) {
     let mut figures = [0; raw::ADDRESS_FIGURES];
     assert_eq!(raw::address(words, block, &mut figures), 0);
-    (RECORD + (figures[0] * words[1] + figures[1]) * words[0]) as usize
+    (figures[0], figures[1])
+}
+
+/// Where the live spot of a block starts in the medium.
+pub fn live(words: &Words, block: u64) -> usize {
+    let (disk, row) = spot(words, block);
+    (RECORD + (disk * words[1] + row) * words[0]) as usize
 }

@@ -7,6 +7,7 @@ pub mod Bijection
 pub mod NewestGrowth
 pub mod LiveSpots
 pub mod LookUps
+pub mod AddedBlocks
 pub mod NextBlocks
 pub mod ReasonsTrue
 pub mod MarkSpots

@@ -1,6 +1,6 @@
 -- The remainder that is never negative. Assumes nothing.
 use Prim.Native.Nat.{ℕ, suc, _+_, _-_, _*_, _/_, _%_, _≤_, _<_}
-use mathlib.Core.Path.{_≡_, refl, sym, _∙_}
+use mathlib.Core.Path.{_≡_, refl, sym, _∙_, ap}
 use mathlib.Core.Bool.{Bool, true, false}
 use mathlib.Core.Logic.{_⊎_, inl, inr, ⊎-elim}
 use native.Mathlib.Nat.{div-add-mod', add-mul-mod-self-right, mod-add-mod, mod-lt, mod-eq-of-lt, mod-eq-sub-mod}
@@ -77,3 +77,21 @@ module _ (k : ℕ) where
         same = same a c h;
         only = λ z hz e. sym (undone z c h hz) ∙ sym (minus-mod-left (z + c) c) ∙ (rw e (minus-mod-left a c));
       }
+
+  -- taking b - e off d is taking b off d + e
+  pub minus-minus : (d b e : ℕ) → 0 < k → minusMod d (minusMod b e k) k ≡ minusMod (d + e) b k
+  minus-minus d b e h =
+      let f : ℕ = minusMod b e k in
+      let q : ℕ = minusMod d f k in
+      let i : (f + e) + q ≡ (q + f) + e = omega arith in
+      let j : q + b ≡ b + q = omega arith in
+      let c : (q + b) % k ≡ (d + e) % k =
+      rw j (sym (mod-add-mod b k q))
+      ∙ ap (λ (u : ℕ). (u + q) % k) (sym (same b e h))
+      ∙ mod-add-mod (f + e) k q
+      ∙ ap (λ (u : ℕ). u % k) i
+      ∙ sym (mod-add-mod (q + f) k e)
+      ∙ ap (λ (u : ℕ). (u + e) % k) (same d f h)
+      ∙ mod-add-mod d k e
+      in
+      remainder (d + e) b h .only q (minus-below d f h) c

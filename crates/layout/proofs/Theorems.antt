@@ -6,11 +6,12 @@ use mathlib.Core.List.{List, [], _∷_}
 use native.Mathlib.Omega.{arith}
 use Rattle.base.specs.Below.{count}
 use Rattle.layout.specs.Growth.{minusMod, moves, partOf, newDisk, diskAfter, movesFrom, oldBlockSpot, addedDisk, addedSpot, spotAfter, changeOf, addedIndex, oldDisk, diskBefore, spotBefore, blockAfter}
-use Rattle.layout.specs.History.{diskCount, earlier, oldCount, addedCount, rising, spotOf, blockAt}
+use Rattle.layout.specs.declared.Spot.{Spot}
+use Rattle.layout.specs.History.{Within, diskCount, earlier, oldCount, addedCount, rising, spotOf, blockAt}
 use Rattle.layout.specs.Windows.{windows, windowOfRow, oldSpot, moving, windowOf, movingIn, uncopied, callsLeft}
 use Rattle.layout.specs.Limits.{Limits}
-use Rattle.layout.specs.Tally.{Tally, growing, movedBlocks}
-use Rattle.layout.specs.Laws.{RemainderOf, Bijection, Moving, LiveSpots, Marks, MarksFit, Counts, LookUps, ReasonTrue, LayoutLaws}
+use Rattle.layout.specs.Tally.{Tally, notGrowing, growing, movedBlocks}
+use Rattle.layout.specs.Laws.{RemainderOf, Bijection, Moving, LiveSpots, Marks, MarksFit, Counts, LookUps, AddedAt, ReasonTrue, LayoutLaws}
 use Rattle.layout.specs.Cases.{TableHolds, worked}
 use Rattle.layout.proofs.Histories.{rising-up}
 use Rattle.layout.proofs.Remainder.{remainder}
@@ -18,6 +19,7 @@ use Rattle.layout.proofs.Bijection.{bijection}
 use Rattle.layout.proofs.NewestGrowth.{moving-law}
 use Rattle.layout.proofs.LiveSpots.{live-law}
 use Rattle.layout.proofs.LookUps.{look-ups-law}
+use Rattle.layout.proofs.AddedBlocks.{added-law}
 use Rattle.layout.proofs.ReasonsTrue.{reasons-law}
 use Rattle.layout.proofs.MarkBlocks.{marks-law}
 use Rattle.layout.proofs.MoveCounts.{counts-law}
@@ -69,6 +71,16 @@ pub look-ups : (t : Tally) → rising (t .counts) ≡ true → (t .mode ≡ grow
 look-ups t r g =
     look-ups-law t (spots-and-blocks (t .rows) (t .counts) r) (λ e. live-spots (t .rows) (t .counts) r (g e) (movedBlocks t))
 
+-- which spots have a block that the newest growth added, no growth running
+pub added-blocks : (t : Tally) → rising (t .counts) ≡ true → 0 < oldCount (t .counts) → t .mode ≡ notGrowing
+    → (p : Spot) → Within (t .rows) (t .counts) p → AddedAt t p
+added-blocks t r g e =
+    has-growth
+    (λ h. (p : Spot) → Within (t .rows) h p
+    → AddedAt (record { rows = t .rows; counts = h; mode = t .mode; window = t .window; copied = t .copied; recorded = t .recorded }) p)
+    (λ c m h q. added-law (t .rows) c m h q (t .window) (t .copied) (t .recorded) (t .mode) e)
+    (t .counts) r g
+
 -- the reason that is told of a block is true
 pub reason-true : (s : ℕ) (h : List ℕ) (x : ℕ) → rising h ≡ true → ReasonTrue s h x
 reason-true = reasons-law
@@ -89,6 +101,7 @@ layout-laws =
       marks-fit = marks-fit;
       move-counts = move-counts;
       look-ups = look-ups;
+      added-blocks = added-blocks;
       reason-true = reason-true;
       layout-cases = layout-cases;
     }

@@ -9,8 +9,8 @@ use mathlib.Core.Option.{none, some}
 use lib.ListN.{length}
 use Rattle.layout.specs.declared.Spot.{Spot}
 use Rattle.base.specs.Below.{count}
-use Rattle.layout.specs.Growth.{minusMod}
-use Rattle.layout.specs.History.{diskCount, oldCount, addedCount, rising, Within, spotOf, blockAt}
+use Rattle.layout.specs.Growth.{minusMod, addedIndex, spotBefore}
+use Rattle.layout.specs.History.{diskCount, earlier, oldCount, addedCount, rising, Within, spotOf, blockAt}
 use Rattle.layout.specs.Windows.{windows, rowExists, oldSpot, moving, windowOf, markOf, blockOfMark, markedBlocks, movesOfWindow, uncopied, callsLeft, cutMoves, laterMoves, callsLeftByMarks}
 use Rattle.layout.specs.Live.{liveSpot, liveBlock}
 use Rattle.layout.specs.Reasons.{reasonOf, growthTold, firstGrowths}
@@ -87,6 +87,30 @@ pub record LookUps (t : Tally) : Type 0 where
   -- the live spot is the one that the growths told of give it
   pub live-growths : (x : ℕ) → liveSpotOf t x ≡ spotOf (t .rows) (growthsOf t x) x
 
+-- x is an added block, "m·s ≤ x < (m+n)·s", and lives at p
+pub record AddedThere (t : Tally) (p : Spot) (m n x : ℕ) : Type 0 where
+  pub not-old : m * t .rows ≤ x
+  pub is-open : x < (m + n) * t .rows
+  pub lives : liveSpotOf t x ≡ p
+
+-- Document 02, W3: the added blocks of the newest growth, from m disks by n, no growth running; p is the spot (d, b).
+pub record AddedBlocks (t : Tally) (p : Spot) (m n q : ℕ) : Type 0 where
+  -- q is (d-(b-(n-1))) mod (m+n), never negative: d-(b-(n-1)) is d+(n-1) less b
+  pub remainder : RemainderOf (p .disk + (n - 1)) (p .row .0) (m + n) q
+  -- "spot (d, b) has an added block exactly when q < n, and that block is m·s + b·n + q"
+  pub has-added : q < n → AddedThere t p m n (m * t .rows + p .row .0 * n + q)
+  pub added-only : (x : ℕ) → AddedThere t p m n x → (q < n) × (x ≡ m * t .rows + p .row .0 * n + q)
+  -- so the block told at p is that one or, going back, the one that was at the spot before this growth
+  pub added-told : q < n → liveBlockOf t p ≡ some (m * t .rows + p .row .0 * n + q)
+  pub older-told : n ≤ q → liveBlockOf t p ≡ some (blockAt (t .rows) (earlier (t .counts)) (spotBefore m n p))
+
+-- "the newest growth's m and n: with q = (d-(b-(n-1))) mod (m+n)"
+abbrev pub AddedAt : (t : Tally) (p : Spot) → Type 0
+AddedAt t p =
+    let m = oldCount (t .counts) in
+    let n = addedCount (t .counts) in
+    AddedBlocks t p m n (addedIndex m n (p .disk) (p .row .0))
+
 -- the reason that is told: the block is where the growth told put it, and no later one has changed that
 pub record ReasonTrue (s : ℕ) (h : List ℕ) (x : ℕ) : Type 0 where
   pub growth-made : growthTold (reasonOf s h x) < length h
@@ -104,6 +128,8 @@ pub record LayoutLaws : Type 0 where
   pub marks-fit : (s : ℕ) (h : List ℕ) → Limits s h → 0 < oldCount h → MarksFit h
   pub move-counts : (s : ℕ) (h : List ℕ) → rising h ≡ true → 0 < oldCount h → Counts s h
   pub look-ups : (t : Tally) → rising (t .counts) ≡ true → (t .mode ≡ growing → 0 < oldCount (t .counts)) → LookUps t
+  pub added-blocks : (t : Tally) → rising (t .counts) ≡ true → 0 < oldCount (t .counts) → t .mode ≡ notGrowing
+      → (p : Spot) → Within (t .rows) (t .counts) p → AddedAt t p
   pub reason-true : (s : ℕ) (h : List ℕ) (x : ℕ) → rising h ≡ true → ReasonTrue s h x
   -- L1 to L12
   pub layout-cases : TableHolds
