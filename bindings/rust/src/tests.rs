@@ -1,4 +1,4 @@
-//! Each call accepted and refused, on document 01's cases; load on volumes of the same kind.
+//! Each call accepted and refused, on document 01's cases; load on volumes of the same kind; holder at the spots of added blocks.
 
 use crate::raw;
 use crate::{Address, Advanced, Block, Part, Reason, Row, Scene, Spot, State, Step};
@@ -412,6 +412,40 @@ fn holder_is_the_way_back() {
             assert_eq!(volume.address(block).unwrap().spot, Spot { disk, row });
         }
     }
+}
+
+/// A volume of 40 rows after these growths.
+fn grown(counts: &[u64]) -> State {
+    let mut words = [0; raw::STATE_WORDS];
+    words[..3].copy_from_slice(&[512, 40, counts.len() as u64 - 1]);
+    words[3..3 + counts.len()].copy_from_slice(counts);
+    State::from_words(words)
+}
+
+/// Document 02's W3, with the remainder that is never negative, at every spot.
+fn added_blocks_are_where_q_tells(counts: &[u64]) {
+    let volume = grown(counts);
+    let (m, s) = (counts[counts.len() - 2] as i64, 40);
+    let n = volume.disks() as i64 - m;
+    for (d, b) in (0..m + n).flat_map(|d| (0..s).map(move |b| (d, b))) {
+        let q = (d - (b - (n - 1))).rem_euclid(m + n);
+        let block = volume.holder(d as u64, Row(b as u64)).unwrap().0 as i64;
+        match q < n {
+            true => assert_eq!(block, m * s + b * n + q),
+            false => assert!(block < m * s),
+        }
+    }
+}
+
+#[test]
+fn holder_of_added_blocks() {
+    for disks in 2..=16 {
+        for old in 1..disks {
+            added_blocks_are_where_q_tells(&[old, disks]);
+        }
+    }
+    added_blocks_are_where_q_tells(&[2, 4, 6, 8, 10, 12, 14, 16]);
+    added_blocks_are_where_q_tells(&[1, 2, 3, 4, 5, 6, 7, 16]);
 }
 
 #[test]
