@@ -430,9 +430,10 @@ fn added_blocks_are_where_q_tells(counts: &[u64]) {
     for (d, b) in (0..m + n).flat_map(|d| (0..s).map(move |b| (d, b))) {
         let q = (d - (b - (n - 1))).rem_euclid(m + n);
         let block = volume.holder(d as u64, Row(b as u64)).unwrap().0 as i64;
-        match q < n {
-            true => assert_eq!(block, m * s + b * n + q),
-            false => assert!(block < m * s),
+        if q < n {
+            assert_eq!(block, m * s + b * n + q);
+        } else {
+            assert!(block < m * s);
         }
     }
 }

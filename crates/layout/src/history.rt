@@ -52,7 +52,7 @@ pub fn block_at(counts: [usize; 8], t: usize, s: usize, p: Spot) -> Block
     let b = row.0;
     let mut q = p;
     let mut k = t;
-    // Newest growth first: where the spot has one of its added blocks there is no way back to go.
+    // Newest growth first: its added blocks are tested before the spot is taken back to an older one.
     while 0 < k {
         let m = counts[k - 1];
         let n = counts[k] - m;
