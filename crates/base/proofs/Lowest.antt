@@ -1,13 +1,12 @@
 -- Laws of `first` and `lowest`. Assumes nothing.
-use Prim.Native.Nat.{ℕ, zero, suc, _+_, _≤_, _<_}
+use Prim.Native.Nat.{ℕ, zero, suc, _≤_, _<_}
 use mathlib.Core.Path.{_≡_, refl, ap, _∙_, subst}
 use mathlib.Core.Bool.{Bool, true, false, cond}
 use mathlib.Core.Option.{Option, none, some}
 use native.Mathlib.Decide.{decLt, ℕ-discrete}
-use native.Mathlib.Numerals.{add-one}
 use native.Mathlib.Omega.{arith}
 use lib.Dec.{ltb}
-use borrow.Author.Tests.{ltb-true, ltb-false, le-ltb}
+use borrow.Author.Tests.{ltb-true, ltb-false}
 use Rattle.base.specs.Below.{first, lower, lowest}
 use Rattle.base.proofs.Booleans.{cond-cases, clash}
 
@@ -58,11 +57,6 @@ module _ (p : ℕ → Bool) (n : ℕ) where
   pub first-none : ((i : ℕ) → i < n → p i ≡ false) → first p n ≡ n
   first-none f =
       elim (decLt (first p n) n) [ yes k ↦ clash (first-passes k) (f (first p n) k) | no k ↦ omega (arith, k, first-most) ]
-
-  -- none of one number more, as a loop counts
-  pub first-next : first p n ≡ n → p n ≡ false → first p (n + 1) ≡ n + 1
-  unfolding first
-  first-next h e = rw (add-one, h, le-ltb n n (omega arith), e)
 
 -- ---- the one of lowest rank that passes
 

@@ -1,6 +1,6 @@
 -- What the exported functions leave: no call has the number of a wrong length, and a refused call leaves the words as they were, zeros as
 -- figures and nothing stored. Assumes nothing.
-use Prim.Native.Nat.{ℕ, zero, suc, _<_}
+use Prim.Native.Nat.{ℕ, _<_}
 use mathlib.Core.Path.{_≡_, refl, ap, _∙_}
 use mathlib.Core.Bool.{Bool, true, false, cond, _&&_, false≢true}
 use mathlib.Core.List.{List, [], _∷_}
@@ -13,7 +13,6 @@ use Rattle.base.specs.Refusals.{refusal}
 use Rattle.base.proofs.Booleans.{cond-cases, and-left, and-right}
 use Rattle.layout.specs.declared.Spot.{Spot}
 use Rattle.layout.specs.Limits.{mostDisks}
-use Rattle.marks.specs.Marks.{noMarks}
 use Rattle.medium.specs.Medium.{Observations}
 use Rattle.volume.specs.declared.Volume.{Volume}
 use Rattle.volume.specs.declared.Answer.{Answer}
@@ -35,7 +34,7 @@ use Rattle.scene_load.proofs.Theorems.{load-laws}
 use Rattle.capi.specs.Exported.{Left, wrongLength, lengthsFit, untouched, handedBack, lookedUp, formatLeft, restartLeft, growLeft, copyLeft, checkpointLeft, advanceLeft, writeLeft, readLeft, addressLeft, holderLeft, loadLeft}
 use Rattle.capi.specs.Figures.{toldFigures, noFigures, callsFigures, advanceFigures, addressFigures, holderFigures}
 use Rattle.capi.specs.Laws.{Words, RefusedLeft}
-use Rattle.capi.specs.Words.{stateWords, wordOf, wordsOf, stateFrom}
+use Rattle.capi.specs.Words.{stateWords, wordsOf, stateFrom}
 use Rattle.capi.proofs.WordLaws.{words-back}
 
 -- ---- numbers
@@ -210,14 +209,9 @@ module _ (words : List ℕ) where
 
 -- ---- restart, which hands back a state of zeros
 
-no-marks-word : (k : ℕ) → wordOf (replicate k false) ≡ 0
-unfolding wordOf
-no-marks-word zero = refl
-no-marks-word (suc k) = rw (no-marks-word k)
-
 zero-words : wordsOf zeros ≡ replicate stateWords 0
-unfolding wordsOf numbersOf zeros newState noMarks
-zero-words = rw (no-marks-word 64)
+unfolding wordsOf numbersOf zeros newState
+zero-words = refl
 
 pub format-refused : (words : List ℕ) (z s n : ℕ) (o : Observations)
     → lengthsFit words 0 [] ≡ true → formatLeft words z s n o .number ≢ 0 → RefusedLeft (replicate stateWords 0) 0 (formatLeft words z s n o)

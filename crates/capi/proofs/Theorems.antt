@@ -1,13 +1,12 @@
 -- The laws of words and of the exported functions: `capi-laws` proves all of `CapiLaws` in `specs/Laws.antt`. Assumes nothing.
 use Rattle.capi.specs.Laws.{CapiLaws}
 use Rattle.capi.proofs.RefusedLaws.{format-number, restart-number, grow-number, copy-number, checkpoint-number, advance-number, write-number, read-number, address-number, holder-number, load-number, grow-refused, copy-refused, checkpoint-refused, advance-refused, format-refused, restart-refused, address-refused, holder-refused, load-refused, write-keeps, read-keeps}
-use Rattle.capi.proofs.WordLaws.{words-count, marks-fit, state-back, state-arrays, words-back}
+use Rattle.capi.proofs.WordLaws.{words-count, state-back, state-arrays, words-back}
 
 pub capi-laws : CapiLaws
 capi-laws =
     record {
       words-count = words-count;
-      marks-fit = marks-fit;
       state-back = state-back;
       state-arrays = state-arrays;
       words-back = words-back;

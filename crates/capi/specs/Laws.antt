@@ -1,13 +1,12 @@
 -- What is proved of the words of a state and of the exported functions: `CapiLaws`. `proofs/Theorems.antt` has the proof. Assumes nothing.
 use Prim.Native.Nat.{ℕ, _^_, _<_}
 use mathlib.Core.Path.{_≡_}
-use mathlib.Core.Bool.{Bool, true}
+use mathlib.Core.Bool.{true}
 use mathlib.Core.List.{List, [], _∷_}
 use mathlib.Core.Logic.{_≢_}
 use lib.ListN.{length, getD, replicate}
 use Rattle.layout.specs.declared.Spot.{Spot}
 use Rattle.layout.specs.Limits.{mostDisks}
-use Rattle.marks.specs.Marks.{markCount}
 use Rattle.medium.specs.Medium.{Observations, noStore}
 use Rattle.volume.specs.declared.Volume.{Volume}
 use Rattle.volume.specs.Answers.{number, addressNumber, holderNumber}
@@ -15,13 +14,11 @@ use Rattle.volume.specs.Calls.{formatOutcome, restartOutcome, growOutcome, copy
 use Rattle.scene_load.specs.declared.Scene.{Scene}
 use Rattle.scene_load.specs.Loads.{placeTold, loadOf, loadNumber}
 use Rattle.capi.specs.Exported.{Left, wrongLength, lengthsFit, formatLeft, restartLeft, growLeft, copyLeft, checkpointLeft, advanceLeft, writeLeft, readLeft, addressLeft, holderLeft, loadLeft}
-use Rattle.capi.specs.Words.{stateWords, wordOf, wordsOf, stateFrom}
+use Rattle.capi.specs.Words.{stateWords, wordsOf, stateFrom}
 
 -- the lengths that the types of the code give the arrays of a state
 pub record Arrays (v : Volume) : Type 0 where
   pub counts-length : length (v .counts) ≡ 8
-  pub recorded-length : length (v .recorded) ≡ markCount
-  pub copied-length : length (v .copied) ≡ markCount
 
 -- fifteen numbers of 64 bits
 pub record Words (words : List ℕ) : Type 0 where
@@ -37,7 +34,6 @@ pub record RefusedLeft (words : List ℕ) (figureCount : ℕ) (left : Left) : Ty
 pub record CapiLaws : Type 0 where
   -- the two conversions are inverse: every state is fifteen words, and all fifteen words are a state
   pub words-count : (v : Volume) → Arrays v → length (wordsOf v) ≡ stateWords
-  pub marks-fit : (marks : List Bool) → length marks ≡ markCount → wordOf marks < 2 ^ 64
   pub state-back : (v : Volume) → Arrays v → stateFrom (wordsOf v) ≡ v
   pub state-arrays : (words : List ℕ) → length words ≡ stateWords → Arrays (stateFrom words)
   pub words-back : (words : List ℕ) → Words words → wordsOf (stateFrom words) ≡ words

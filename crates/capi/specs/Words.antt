@@ -1,30 +1,17 @@
 -- The state in fifteen words, as it crosses to programs in other languages: Z, s, t, N[0] to N[7], growing, w, the recorded marks and the
 -- copied marks. A word of marks has mark j as its bit j. Assumes nothing.
-use Prim.Native.Nat.{ℕ, zero, suc, _+_, _*_, _/_, _%_}
-use mathlib.Core.Bool.{Bool, cond}
+use Prim.Native.Nat.{ℕ}
 use mathlib.Core.List.{List, [], _∷_, _++_}
-use lib.Dec.{eqb}
 use lib.ListN.{take, drop, getD}
-use Rattle.marks.specs.Marks.{markCount}
 use Rattle.volume.specs.declared.Volume.{Volume}
 use Rattle.volume.specs.Records.{numbersOf}
 
 abbrev pub stateWords : ℕ
 stateWords = 15
 
--- the lowest so many bits of a word, bit 0 first
-unfoldable pub bits : (count word : ℕ) → List Bool
-bits zero word = []
-bits (suc count) word = eqb (word % 2) 1 ∷ bits count (word / 2)
-
--- the word with these bits
-unfoldable pub wordOf : (marks : List Bool) → ℕ
-wordOf [] = 0
-wordOf (mark ∷ marks) = cond mark 1 0 + 2 * wordOf marks
-
 -- the words of a state: the numbers of its record, and the two words of marks
 unfoldable pub wordsOf : (v : Volume) → List ℕ
-wordsOf v = numbersOf v ++ (wordOf (v .recorded) ∷ wordOf (v .copied) ∷ [])
+wordsOf v = numbersOf v ++ (v .recorded ∷ v .copied ∷ [])
 
 -- the state of words
 unfoldable pub stateFrom : (words : List ℕ) → Volume
@@ -36,6 +23,6 @@ stateFrom words =
       counts = take 8 (drop 3 words);
       growing = getD words 11 0;
       window = getD words 12 0;
-      recorded = bits markCount (getD words 13 0);
-      copied = bits markCount (getD words 14 0);
+      recorded = getD words 13 0;
+      copied = getD words 14 0;
     }

@@ -1,42 +1,8 @@
 // The state in fifteen words.
 ghost use mathlib.Core.Path.{_≡_};
 ghost use lib.ListN.{length};
-ghost use Rattle.marks.specs.Marks.{markCount};
-ghost use Rattle.capi.specs.Words.{stateWords, bits, wordOf, wordsOf, stateFrom};
+ghost use Rattle.capi.specs.Words.{stateWords, wordsOf, stateFrom};
 use volume::Volume;
-
-// The marks of a word.
-pub fn marks_of(word: usize) -> [bool; 64]
-    ensures { λ r. ⌜ r ≡ bits markCount word ⌝ }
-{
-    let mut marks = [false; 64];
-    let mut rest = word;
-    let mut j = 0;
-    while j < 64 {
-        // No further marks: none at all while no growth runs.
-        if rest == 0 {
-            return marks;
-        }
-        marks[j] = rest % 2 == 1;
-        rest = rest / 2;
-        j += 1;
-    }
-    marks
-}
-
-// The word of marks.
-pub fn word_of(marks: [bool; 64]) -> usize
-    ensures { λ r. ⌜ r ≡ wordOf marks ⌝ }
-{
-    let mut word = 0;
-    let mut j = 64;
-    while 0 < j {
-        j -= 1;
-        let bit = if marks[j] { 1 } else { 0 };
-        word = word * 2 + bit;
-    }
-    word
-}
 
 // The state of words.
 pub fn state_of(words: &[usize]) -> Volume
@@ -53,8 +19,8 @@ pub fn state_of(words: &[usize]) -> Volume
         words[9],
         words[10],
     ];
-    let recorded = marks_of(words[13]);
-    let copied = marks_of(words[14]);
+    let recorded = words[13];
+    let copied = words[14];
     Volume {
         size: words[0],
         rows: words[1],
@@ -88,7 +54,7 @@ pub fn words_of(v: Volume) -> [usize; 15]
         c[7],
         v.growing,
         v.window,
-        word_of(recorded),
-        word_of(copied),
+        recorded,
+        copied,
     ]
 }

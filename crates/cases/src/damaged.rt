@@ -38,7 +38,7 @@ fn write_state(page: &mut [u8], v: Volume) {
         return;
     }
     let numbers = numbers_of(v);
-    let recorded = v.recorded;
+    let recorded = marks::marks_of(v.recorded);
     record::write_record(page, numbers, recorded);
 }
 

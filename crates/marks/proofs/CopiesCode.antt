@@ -1,7 +1,7 @@
 -- What the code that looks for what is left to copy meets. Assumes nothing.
 use Prim.Native.Nat.{ℕ, _+_, _-_, _*_, _%_, _≤_, _<_}
 use mathlib.Core.Path.{_≡_, sym, _∙_, ap}
-use mathlib.Core.Bool.{Bool, true, false, not, _&&_, and-false}
+use mathlib.Core.Bool.{Bool, true, false, not}
 use mathlib.Core.List.{List}
 use mathlib.Core.Option.{none, some}
 use native.Mathlib.Decide.{decLt}
@@ -9,9 +9,8 @@ use native.Mathlib.Omega.{arith}
 use lib.Dec.{eqb}
 use lib.ListN.{getD}
 use borrow.Author.Tests.{ltb-true, eqb-true, eq-eqb, not-true}
-use Rattle.base.specs.Below.{first}
 use Rattle.base.proofs.Booleans.{and-left, and-right, and-both, clash, by-test}
-use Rattle.base.proofs.Lowest.{first-most, first-before, first-passes, first-found, first-next, lowest-empty, lowest-is}
+use Rattle.base.proofs.Lowest.{first-most, first-before, first-passes, lowest-empty, lowest-is}
 use Rattle.layout.specs.declared.Block.{Block}
 use Rattle.layout.specs.declared.GrowthDisks.{GrowthDisks}
 use Rattle.layout.specs.declared.Part.{Part}
@@ -28,6 +27,7 @@ use Rattle.marks.specs.declared.NextCopy.the-variants.{CopyOf, AllCopied
 use Rattle.marks.specs.Marks.{markCount, within, movingMarks, firstUnmarked, asNextCopy}
 use Rattle.marks.proofs.BlocksCode.{ReadGrowth, MovingSpot, history-before, disks-before, limits-before, some-old, old-read, added-read, grows-read, spot-found}
 use Rattle.marks.proofs.MarkSets.{marks-law, all-by-marks}
+use Rattle.marks.proofs.MarkWords.{unmarkedAt}
 
 -- ---- a moving block of window w
 
@@ -39,31 +39,6 @@ module _ (s : ℕ) (h : List ℕ) (w x : ℕ) where
   pub moving-now : (k : ℕ) → moving s h x ≡ true → k ≡ windowOf s h x → eqb k w ≡ movingIn s h w x
   unfolding movingIn
   moving-now k e f = rw (e, f)
-
--- ---- the lowest mark of window w that is not set
-
--- mark j is not set, and its row exists
-abbrev pub unmarkedAt : (m n s w : ℕ) (marks : List Bool) (j : ℕ) → Bool
-unmarkedAt m n s w marks j = rowExists m n s w j && not (getD marks j false)
-
--- the loop has passed j marks
-module _ (m n s w : ℕ) (marks : List Bool) (j : ℕ) (f : first (unmarkedAt m n s w marks) j ≡ j) where
-  pub lowest-here : (r : Bool) → j < m * n → r ≡ rowExists m n s w j → r ≡ true → not (getD marks j false) ≡ true
-      → j ≡ firstUnmarked m n s w marks
-  unfolding firstUnmarked
-  lowest-here r h e k u =
-      sym (first-found (unmarkedAt m n s w marks) (m * n) j h (λ i l. first-before (unmarkedAt m n s w marks) j i (rw f l))
-      (and-both (sym e ∙ k) u))
-
-  pub row-missing : (r : Bool) → r ≡ rowExists m n s w j → r ≡ false → first (unmarkedAt m n s w marks) (j + 1) ≡ j + 1
-  row-missing r e k = first-next (unmarkedAt m n s w marks) j f (rw (← e, k))
-
-  pub mark-set : not (getD marks j false) ≡ false → first (unmarkedAt m n s w marks) (j + 1) ≡ j + 1
-  mark-set u = first-next (unmarkedAt m n s w marks) j f (rw (u, and-false (rowExists m n s w j)))
-
-  pub all-passed : j ≡ m * n → m * n ≡ firstUnmarked m n s w marks
-  unfolding firstUnmarked
-  all-passed e = sym (rw e at f)
 
 -- ---- marks and blocks that are left to copy
 

@@ -1,4 +1,8 @@
+pub mod Bits
 pub mod BlocksCode
 pub mod CopiesCode
+pub mod CountsCode
 pub mod MarkSets
-pub mod SetsCode
+pub mod MarkWords
+pub mod Searches
+pub mod WordsCode

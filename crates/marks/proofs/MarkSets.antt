@@ -6,7 +6,7 @@ use mathlib.Core.List.{List}
 use native.Mathlib.Decide.{ℕ-discrete}
 use native.Mathlib.Omega.{arith}
 use lib.Dec.{eqb, ltb}
-use lib.ListN.{length, getD, set, getD-replicate, length-replicate}
+use lib.ListN.{length, getD, set, getD-replicate}
 use lib.Seq.{getD-set-same, getD-set-other, ext-getD}
 use borrow.Author.Tests.{ltb-true, lt-ltb, eqb-true, eq-eqb}
 use Rattle.base.specs.Below.{every}
@@ -24,7 +24,7 @@ use Rattle.marks.specs.Marks.{markCount, noMarks, within, movingMarks}
 -- ---- sets within one another
 
 -- a mark of a is one of b
-abbrev pub keptAt : (a b : List Bool) (j : ℕ) → Bool
+abbrev keptAt : (a b : List Bool) (j : ℕ) → Bool
 keptAt a b j = not (getD a j false) || getD b j false
 
 implies : (a b : Bool) → (a ≡ true → b ≡ true) → (not a || b) ≡ true
@@ -77,13 +77,6 @@ within-both a b k l e f =
     (λ j h.
     let i : j < markCount = rw k at h in
     same-test (getD a j false) (getD b j false) (within-use a b e j i) (within-use b a f j i))
-
-pub none-length : length noMarks ≡ markCount
-unfolding noMarks
-none-length = length-replicate markCount false
-
-pub within-none : (a : List Bool) → length a ≡ markCount → within a noMarks ≡ true → a ≡ noMarks
-within-none a l e = within-both a noMarks l none-length e (none-within a)
 
 -- one mark more, in the set that is within and in the other
 pub set-within : (a b : List Bool) (i : ℕ) → within a b ≡ true → getD b i false ≡ true → within (set a i true) b ≡ true

@@ -30,6 +30,10 @@ within a b = every (λ j. not (getD a j false) || getD b j false) markCount
 unfoldable pub movingMarks : (m n s w : ℕ) → List Bool
 movingMarks m n s w = table (λ j. ltb j (m * n) && rowExists m n s w j) markCount
 
+-- the marks of one set that are not in another
+unfoldable pub difference : (a b : List Bool) → List Bool
+difference a b = table (λ j. getD a j false && not (getD b j false)) markCount
+
 -- "counts after N[t] are 0"
 unfoldable pub zerosAfter : (counts : List ℕ) (t : ℕ) → Bool
 zerosAfter counts t = every (λ i. leb i t || eqb (getD counts i 0) 0) 8

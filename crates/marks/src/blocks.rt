@@ -11,8 +11,10 @@ ghost use Rattle.layout.specs.Live.{atNewSpot, liveSpot, liveBlock};
 ghost use Rattle.layout.specs.Tally.{recordedBy};
 ghost use Rattle.layout.specs.Windows.{markOfSpot, markedBlocks};
 ghost use Rattle.marks.specs.Marks.{movingFrom, asLiveBlock};
+ghost use Rattle.marks.specs.Words.{marksOf};
 use super::LiveBlock;
 use super::OldSpot;
+use super::words::has_mark;
 use layout::Block;
 use layout::Spot;
 
@@ -34,31 +36,24 @@ pub(crate) fn moving_from(counts: [usize; 8], t: usize, s: usize, x: Block) -> O
 }
 
 // Is the moving block at the old spot p one of window w with its mark set?
-fn is_marked_at(m: usize, n: usize, w: usize, marks: [bool; 64], p: Spot) -> bool
+fn is_marked_at(m: usize, n: usize, w: usize, marks: usize, p: Spot) -> bool
     requires { ⌜ Grows m n ⌝ }
     requires { ⌜ (p .disk < m) × (movesFrom m n p ≡ true) ⌝ }
-    ensures { λ r. ⌜ r ≡ (eqb (p .row .0 / (m + n)) w && getD marks (markOfSpot m n p) false) ⌝ }
+    ensures { λ r. ⌜ r ≡ (eqb (p .row .0 / (m + n)) w && getD (marksOf marks) (markOfSpot m n p) false) ⌝ }
 {
     let row = p.row;
     if row.0 / (m + n) != w {
         return false;
     }
     let j = window::mark_of_spot(m, n, p);
-    marks[j]
+    has_mark(marks, j)
 }
 
 // Is x a moving block of window w with its mark set?
-pub fn is_marked(
-    counts: [usize; 8],
-    t: usize,
-    s: usize,
-    w: usize,
-    marks: [bool; 64],
-    x: Block,
-) -> bool
+pub fn is_marked(counts: [usize; 8], t: usize, s: usize, w: usize, marks: usize, x: Block) -> bool
     requires { ⌜ Limits s (history t counts) ⌝ }
     requires { ⌜ 0 < t ⌝ }
-    ensures { λ r. ⌜ r ≡ markedBlocks s (history t counts) w marks (x .0) ⌝ }
+    ensures { λ r. ⌜ r ≡ markedBlocks s (history t counts) w (marksOf marks) (x .0) ⌝ }
 {
     let OldSpot::Moving(p) = moving_from(counts, t, s, x) else {
         return false;
@@ -73,12 +68,12 @@ pub fn at_new_spot(
     t: usize,
     s: usize,
     w: usize,
-    recorded: [bool; 64],
+    recorded: usize,
     x: Block,
 ) -> bool
     requires { ⌜ Limits s (history t counts) ⌝ }
     requires { ⌜ 0 < t ⌝ }
-    ensures { λ r. ⌜ r ≡ atNewSpot s (history t counts) (recordedBy s (history t counts) w (markedBlocks s (history t counts) w recorded)) (x .0) ⌝ }
+    ensures { λ r. ⌜ r ≡ atNewSpot s (history t counts) (recordedBy s (history t counts) w (markedBlocks s (history t counts) w (marksOf recorded))) (x .0) ⌝ }
 {
     let OldSpot::Moving(p) = moving_from(counts, t, s, x) else {
         return false;
@@ -97,12 +92,12 @@ pub fn live_spot(
     t: usize,
     s: usize,
     w: usize,
-    recorded: [bool; 64],
+    recorded: usize,
     x: Block,
 ) -> Spot
     requires { ⌜ Limits s (history t counts) ⌝ }
     requires { ⌜ (0 < t) × (x .0 < oldCount (history t counts) * s) ⌝ }
-    ensures { λ r. ⌜ r ≡ liveSpot s (history t counts) (recordedBy s (history t counts) w (markedBlocks s (history t counts) w recorded)) (x .0) ⌝ }
+    ensures { λ r. ⌜ r ≡ liveSpot s (history t counts) (recordedBy s (history t counts) w (markedBlocks s (history t counts) w (marksOf recorded))) (x .0) ⌝ }
 {
     if at_new_spot(counts, t, s, w, recorded, x) {
         return layout::spot_of(counts, t, s, x);
@@ -116,12 +111,12 @@ pub fn live_block(
     t: usize,
     s: usize,
     w: usize,
-    recorded: [bool; 64],
+    recorded: usize,
     p: Spot,
 ) -> LiveBlock
     requires { ⌜ Limits s (history t counts) ⌝ }
     requires { ⌜ (0 < t) × Within s (history t counts) p ⌝ }
-    ensures { λ r. ⌜ r ≡ asLiveBlock (liveBlock s (history t counts) (recordedBy s (history t counts) w (markedBlocks s (history t counts) w recorded)) p) ⌝ }
+    ensures { λ r. ⌜ r ≡ asLiveBlock (liveBlock s (history t counts) (recordedBy s (history t counts) w (markedBlocks s (history t counts) w (marksOf recorded))) p) ⌝ }
 {
     let g = layout::newest_growth(counts, t);
     let m = g.old;

@@ -1,17 +1,21 @@
 // What is left to copy in window w of a growth under way.
 ghost use mathlib.Core.Path.{_≡_};
-ghost use mathlib.Core.Bool.{true};
-ghost use Prim.Native.Nat.{_<_, _≤_};
-ghost use lib.ListN.{set};
+ghost use mathlib.Core.Bool.{true, false, not, _&&_};
+ghost use Prim.Native.Nat.{_<_, _≤_, _*_};
+ghost use lib.ListN.{getD, set};
+ghost use Rattle.base.specs.Below.{count};
 ghost use Rattle.layout.specs.History.{history, oldCount, addedCount};
 ghost use Rattle.layout.specs.Limits.{Limits, Grows, mostRows};
-ghost use Rattle.layout.specs.Windows.{windows, moving, movingIn, markOf, markedBlocks, nextOfWindow, allCopied};
+ghost use Rattle.layout.specs.Windows.{windows, rowExists, moving, movingIn, markOf, markedBlocks, nextOfWindow, allCopied, callsLeft, callsLeftByMarks};
 ghost use Rattle.marks.specs.Marks.{firstUnmarked, asNextCopy};
+ghost use Rattle.marks.specs.Words.{marksOf, wordOf};
 use super::NextCopy;
 use super::OldSpot;
 use super::blocks::moving_from;
-use super::sets::is_within;
-use super::sets::moving_marks;
+use super::words::is_within;
+use super::words::moving_marks;
+use super::words::with_bit;
+use super::words::without;
 use layout::Block;
 
 // Is x a moving block of window w?
@@ -29,24 +33,22 @@ pub fn moves_now(counts: [usize; 8], t: usize, s: usize, w: usize, x: Block) -> 
 }
 
 // The marks with that of the moving block x set.
-pub fn with_mark(counts: [usize; 8], t: usize, s: usize, marks: [bool; 64], x: Block) -> [bool; 64]
+pub fn with_mark(counts: [usize; 8], t: usize, s: usize, marks: usize, x: Block) -> usize
     requires { ⌜ Limits s (history t counts) ⌝ }
     requires { ⌜ (0 < t) × (moving s (history t counts) (x .0) ≡ true) ⌝ }
-    ensures { λ r. ⌜ r ≡ set marks (markOf s (history t counts) (x .0)) true ⌝ }
+    ensures { λ r. ⌜ r ≡ wordOf (set (marksOf marks) (markOf s (history t counts) (x .0)) true) ⌝ }
 {
     let g = layout::newest_growth(counts, t);
     let p = layout::spot_of(counts, t - 1, s, x);
     let j = window::mark_of_spot(g.old, g.added, p);
-    let mut with = marks;
-    with[j] = true;
-    with
+    with_bit(marks, j)
 }
 
 // Are all moving blocks of window w copied?
-pub fn all_copied(counts: [usize; 8], t: usize, s: usize, w: usize, copied: [bool; 64]) -> bool
+pub fn all_copied(counts: [usize; 8], t: usize, s: usize, w: usize, copied: usize) -> bool
     requires { ⌜ Limits s (history t counts) ⌝ }
     requires { ⌜ (0 < t) × (w < windows (oldCount (history t counts)) (addedCount (history t counts)) s) ⌝ }
-    ensures { λ r. ⌜ r ≡ allCopied s (history t counts) w (markedBlocks s (history t counts) w copied) ⌝ }
+    ensures { λ r. ⌜ r ≡ allCopied s (history t counts) w (markedBlocks s (history t counts) w (marksOf copied)) ⌝ }
 {
     let g = layout::newest_growth(counts, t);
     let moving = moving_marks(g.old, g.added, s, w);
@@ -54,29 +56,24 @@ pub fn all_copied(counts: [usize; 8], t: usize, s: usize, w: usize, copied: [boo
 }
 
 // The lowest mark of window w that is not set and whose row exists, or m·n.
-fn first_unmarked(m: usize, n: usize, s: usize, w: usize, marks: [bool; 64]) -> usize
+fn first_unmarked(m: usize, n: usize, s: usize, w: usize, marks: usize) -> usize
     requires { ⌜ Grows m n ⌝ }
     requires { ⌜ w ≤ mostRows ⌝ }
-    ensures { λ r. ⌜ r ≡ firstUnmarked m n s w marks ⌝ }
+    ensures { λ r. ⌜ r ≡ firstUnmarked m n s w (marksOf marks) ⌝ }
 {
-    let end = m * n;
-    let mut j = 0;
-    while j < end {
-        if window::row_exists(m, n, s, w, j) {
-            if !marks[j] {
-                return j;
-            }
-        }
-        j += 1;
+    let moving = moving_marks(m, n, s, w);
+    let left = without(moving, marks);
+    if left == 0 {
+        return m * n;
     }
-    end
+    usize::trailing_zeros(left) as usize
 }
 
 // The block of window w with the lowest mark that is not set.
-pub fn next_copy(counts: [usize; 8], t: usize, s: usize, w: usize, copied: [bool; 64]) -> NextCopy
+pub fn next_copy(counts: [usize; 8], t: usize, s: usize, w: usize, copied: usize) -> NextCopy
     requires { ⌜ Limits s (history t counts) ⌝ }
     requires { ⌜ (0 < t) × (w < windows (oldCount (history t counts)) (addedCount (history t counts)) s) ⌝ }
-    ensures { λ r. ⌜ r ≡ asNextCopy s (history t counts) (nextOfWindow s (history t counts) w (markedBlocks s (history t counts) w copied)) ⌝ }
+    ensures { λ r. ⌜ r ≡ asNextCopy s (history t counts) (nextOfWindow s (history t counts) w (markedBlocks s (history t counts) w (marksOf copied))) ⌝ }
 {
     let g = layout::newest_growth(counts, t);
     let m = g.old;
@@ -90,4 +87,37 @@ pub fn next_copy(counts: [usize; 8], t: usize, s: usize, w: usize, copied: [bool
     let part = layout::part_of(m, n, row.0 % (m + n));
     let x = layout::block_at(counts, t - 1, s, p);
     NextCopy::CopyOf(x, part)
+}
+
+// The moving blocks of window w without a mark.
+fn unmarked(m: usize, n: usize, s: usize, w: usize, marks: usize) -> usize
+    requires { ⌜ Grows m n ⌝ }
+    requires { ⌜ w ≤ mostRows ⌝ }
+    ensures { λ r. ⌜ r ≡ count (λ j. rowExists m n s w j && not (getD (marksOf marks) j false)) (m * n) ⌝ }
+{
+    let moving = moving_marks(m, n, s, w);
+    let left = without(moving, marks);
+    usize::count_ones(left) as usize
+}
+
+// U + R - w of the growth from m disks by n, from the marks of the copied blocks of window w.
+fn calls_left_by_marks(m: usize, n: usize, s: usize, w: usize, marks: usize) -> usize
+    requires { ⌜ Grows m n ⌝ }
+    requires { ⌜ (s ≤ mostRows) × (w < windows m n s) ⌝ }
+    ensures { λ r. ⌜ r ≡ callsLeftByMarks m n s w (marksOf marks) ⌝ }
+{
+    let all = window::window_count(m, n, s);
+    let here = unmarked(m, n, s, w, marks);
+    let later = window::later_moves(m, n, s, w);
+    here + later + all - w
+}
+
+// U + R - w of the newest growth, where window w's copied blocks are those with a mark.
+pub fn calls_left(counts: [usize; 8], t: usize, s: usize, w: usize, copied: usize) -> usize
+    requires { ⌜ Limits s (history t counts) ⌝ }
+    requires { ⌜ (0 < t) × (w < windows (oldCount (history t counts)) (addedCount (history t counts)) s) ⌝ }
+    ensures { λ r. ⌜ r ≡ callsLeft s (history t counts) w (markedBlocks s (history t counts) w (marksOf copied)) ⌝ }
+{
+    let g = layout::newest_growth(counts, t);
+    calls_left_by_marks(g.old, g.added, s, w, copied)
 }

@@ -1,29 +1,33 @@
-// The marks of a growth and what they say of its blocks, and tests of counts and of stages: loops over
-// 64 marks and 8 counts on plain arrays.
+// The marks of a growth and what they say of its blocks, what is left to copy, and tests of counts and
+// of stages: a set of 64 marks is a word, mark j its bit j.
 //
 // The functions here serve the crates above and are not offered to others: their `requires` are the
 // limits of a sound volume.
 mod blocks;
 mod copies;
-mod sets;
+mod counts;
 mod stages;
+mod words;
 
 pub use blocks::at_new_spot;
 pub use blocks::is_marked;
 pub use blocks::live_block;
 pub use blocks::live_spot;
 pub use copies::all_copied;
+pub use copies::calls_left;
 pub use copies::moves_now;
 pub use copies::next_copy;
 pub use copies::with_mark;
+pub use counts::counts_rise;
+pub use counts::zeros_after;
 use layout::Block;
 use layout::Part;
 use layout::Spot;
-pub use sets::counts_rise;
-pub use sets::is_within;
-pub use sets::zeros_after;
 pub use stages::at_rest;
 pub use stages::in_growth;
+pub use words::is_within;
+pub use words::marks_of;
+pub use words::word_of;
 
 // The old spot of a block that moves in the newest growth, or that the block does not move.
 enum OldSpot {

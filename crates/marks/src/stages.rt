@@ -3,20 +3,21 @@ ghost use mathlib.Core.Path.{_≡_};
 ghost use Rattle.layout.specs.History.{history};
 ghost use Rattle.layout.specs.Limits.{Limits};
 ghost use Rattle.marks.specs.Marks.{atRest, inGrowth};
-use super::sets::is_within;
-use super::sets::moving_marks;
+ghost use Rattle.marks.specs.Words.{marksOf};
+use super::words::is_within;
+use super::words::moving_marks;
 
 // Not growing: no window and no marks.
-pub fn at_rest(w: usize, recorded: [bool; 64], copied: [bool; 64]) -> bool
-    ensures { λ r. ⌜ r ≡ atRest w recorded copied ⌝ }
+pub fn at_rest(w: usize, recorded: usize, copied: usize) -> bool
+    ensures { λ r. ⌜ r ≡ atRest w (marksOf recorded) (marksOf copied) ⌝ }
 {
     if w != 0 {
         return false;
     }
-    if !is_within(recorded, [false; 64]) {
+    if !is_within(recorded, 0) {
         return false;
     }
-    is_within(copied, [false; 64])
+    is_within(copied, 0)
 }
 
 // Growing: a window, and marks that fit it.
@@ -25,11 +26,11 @@ pub fn in_growth(
     t: usize,
     s: usize,
     w: usize,
-    recorded: [bool; 64],
-    copied: [bool; 64],
+    recorded: usize,
+    copied: usize,
 ) -> bool
     requires { ⌜ Limits s (history t counts) ⌝ }
-    ensures { λ r. ⌜ r ≡ inGrowth t s (history t counts) w recorded copied ⌝ }
+    ensures { λ r. ⌜ r ≡ inGrowth t s (history t counts) w (marksOf recorded) (marksOf copied) ⌝ }
 {
     if t == 0 {
         return false;

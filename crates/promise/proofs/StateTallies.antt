@@ -7,7 +7,7 @@ use mathlib.Core.Logic.{_≢_}
 use native.Mathlib.Decide.{ℕ-discrete}
 use native.Mathlib.Omega.{arith}
 use lib.Dec.{eqb}
-use lib.ListN.{length, getD, set, replicate, length-replicate}
+use lib.ListN.{length, getD, set, replicate, length-replicate, length-set}
 use lib.Seq.{getD-set-same, getD-set-other}
 use borrow.Author.Tests.{eqb-true, eq-eqb, ne-eqb}
 use Rattle.base.proofs.Booleans.{and-left, and-right, by-test, clash}
@@ -26,6 +26,9 @@ use Rattle.volume.proofs.StatesSound.{history-same}
 use Rattle.volume.proofs.Theorems.{volume-laws}
 use Rattle.promise.specs.Model.{noBlock, startTally, grownTally, withBlocks, copiedTally, nextWindowTally, finishedTally, recordedTally, restartedTally}
 use Rattle.promise.proofs.Tallies.{Running, Resting, Stage, running, resting}
+use Rattle.marks.specs.Words.{marksOf}
+use Rattle.marks.proofs.Bits.{bits-length}
+use Rattle.marks.proofs.MarkWords.{no-marks, marks-of-word}
 
 -- ---- marks, read as blocks
 
@@ -78,7 +81,7 @@ running-of v s on =
       rise = f .limits .rise;
       some-old = old;
       window-below = g .window-below;
-      recorded-copied = marked-within (v .rows) (historyOf v) (f .limits) old (v .window) (v .recorded) (v .copied) (g .recorded-copied);
+      recorded-copied = marked-within (v .rows) (historyOf v) (f .limits) old (v .window) (marksOf (v .recorded)) (marksOf (v .copied)) (g .recorded-copied);
       copied-moving = λ x e. and-left (movingIn (v .rows) (historyOf v) (v .window) x) _ e;
     }
 
@@ -96,9 +99,9 @@ unmarkedTally : (s : ℕ) (h : List ℕ) (mode : Mode) (w : ℕ) → Tally
 unmarkedTally s h mode w = record { rows = s; counts = h; mode = mode; window = w; copied = noBlock; recorded = noBlock }
 
 tally-unmarked : (v : Volume) (t : ℕ) (counts : List ℕ) (stage w : ℕ)
-    → tallyOf (withGrowth v t counts stage w noMarks noMarks) ≡ unmarkedTally (v .rows) (history t counts) (modeOf stage) w
+    → tallyOf (withGrowth v t counts stage w 0 0) ≡ unmarkedTally (v .rows) (history t counts) (modeOf stage) w
 unfolding withGrowth tallyOf historyOf unmarkedTally
-tally-unmarked v t counts stage w = rw (none-marked (v .rows) (history t counts) w)
+tally-unmarked v t counts stage w = rw (no-marks, none-marked (v .rows) (history t counts) w)
 
 pub tally-new : (z s n : ℕ) → tallyOf (newState z s n) ≡ startTally s n
 unfolding newState withGrowth history modeOf unmarkedTally startTally
@@ -130,8 +133,12 @@ pub tally-copied : (v : Volume) (x : ℕ) → sound v ≡ true → v .growing �
 unfolding tallyOf withCopy withGrowth historyOf copiedTally withBlocks movesNow
 tally-copied v x s on moves =
     let f = volume-laws .sound-facts v s in
+    let more : List Bool = set (marksOf (v .copied)) (markOf (v .rows) (historyOf v) x) true in
+    let l : length more ≡ markCount = length-set (marksOf (v .copied)) (markOf (v .rows) (historyOf v) x) true ∙ bits-length 64 (v .copied) in
     ap (λ (copied : ℕ → Bool). withBlocks (tallyOf v) copied (tallyOf v .recorded))
-    (fun-ext (marked-one (v .rows) (historyOf v) (f .limits) (some-old v s on) (v .window) x moves (v .copied) (f .copied-length)))
+    (ap (markedBlocks (v .rows) (historyOf v) (v .window)) (marks-of-word more l)
+    ∙ fun-ext
+    (marked-one (v .rows) (historyOf v) (f .limits) (some-old v s on) (v .window) x moves (marksOf (v .copied)) (bits-length 64 (v .copied))))
 
 -- ---- checkpoint, in its three cases
 

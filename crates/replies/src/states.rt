@@ -23,8 +23,8 @@ pub fn zeros() -> Volume {
         counts: [0; 8],
         growing: 0,
         window: 0,
-        recorded: [false; 64],
-        copied: [false; 64],
+        recorded: 0,
+        copied: 0,
     }
 }
 
@@ -37,15 +37,15 @@ pub fn resting(counts: [usize; 8], t: usize) -> Volume {
         counts,
         growing: 0,
         window: 0,
-        recorded: [false; 64],
-        copied: [false; 64],
+        recorded: 0,
+        copied: 0,
     }
 }
 
 // In window 0 of growth t, with 5 rows, so many first marks recorded and so many copied.
 pub fn in_growth(counts: [usize; 8], t: usize, recorded: usize, copied: usize) -> Volume {
-    let first_recorded = marks_from(0, recorded);
-    let first_copied = marks_from(0, copied);
+    let first_recorded = marks::word_of(marks_from(0, recorded));
+    let first_copied = marks::word_of(marks_from(0, copied));
     Volume {
         size: 512,
         rows: 5,
@@ -60,8 +60,8 @@ pub fn in_growth(counts: [usize; 8], t: usize, recorded: usize, copied: usize) -
 
 // In window w of the growth from 3 disks to 5, with the marks from `from` up to, not including, `end` recorded.
 pub fn in_window(rows: usize, w: usize, from: usize, end: usize) -> Volume {
-    let recorded = marks_from(from, end);
-    let copied = marks_from(from, end);
+    let recorded = marks::word_of(marks_from(from, end));
+    let copied = marks::word_of(marks_from(from, end));
     Volume {
         size: 512,
         rows,
@@ -102,17 +102,6 @@ fn same_counts(a: [usize; 8], b: [usize; 8]) -> bool {
     true
 }
 
-pub(crate) fn same_marks(a: [bool; 64], b: [bool; 64]) -> bool {
-    let mut j = 0;
-    while j < 64 {
-        if a[j] != b[j] {
-            return false;
-        }
-        j += 1;
-    }
-    true
-}
-
 // Are the numbers of both the same?
 fn same_numbers(a: Volume, b: Volume) -> bool {
     if a.size != b.size {
@@ -140,12 +129,8 @@ pub(crate) fn same_state(a: Volume, b: Volume) -> bool {
     if !same_counts(counts, other_counts) {
         return false;
     }
-    let recorded = a.recorded;
-    let other_recorded = b.recorded;
-    if !same_marks(recorded, other_recorded) {
+    if a.recorded != b.recorded {
         return false;
     }
-    let copied = a.copied;
-    let other_copied = b.copied;
-    same_marks(copied, other_copied)
+    a.copied == b.copied
 }

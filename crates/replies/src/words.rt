@@ -1,5 +1,4 @@
 // Words for states, and for what a call hands back and leaves as it was.
-use super::states::same_marks;
 use super::states::same_state;
 use layout::Part;
 use printing::first_changed;
@@ -14,12 +13,12 @@ use volume::Reply;
 use volume::Volume;
 
 // The marks that are set, after a word.
-fn show_marks(word: &[u8], marks: [bool; 64]) {
+fn show_marks(word: &[u8], marks: usize) {
     text(word);
-    if same_marks(marks, [false; 64]) {
+    if marks == 0 {
         text(b" none");
     }
-    show_set(marks);
+    show_set(marks::marks_of(marks));
 }
 
 // w if it is not 0, the recorded marks if there are any, and the copied ones if they differ.
@@ -29,10 +28,10 @@ fn show_stage(v: Volume) {
     if v.window != 0 {
         labelled(b", w", v.window);
     }
-    if !same_marks(recorded, [false; 64]) {
+    if recorded != 0 {
         show_marks(b", recorded marks", recorded);
     }
-    if !same_marks(recorded, copied) {
+    if recorded != copied {
         show_marks(b", copied marks", copied);
     }
 }

@@ -24,6 +24,7 @@ use Rattle.volume.specs.Records.{stateRead, isSoundRecord}
 use Rattle.volume.specs.Sound.{sizeHolds, rowsHold, disksHold, sound}
 use Rattle.volume.specs.States.{geometry, historyOf, disks, tallyOf}
 use Rattle.volume.proofs.SoundLaws.{sound-limits, growths-of-limits}
+use Rattle.marks.specs.Words.{marksOf}
 
 long-enough : (g : Geometry) (n len : ℕ) → tooShort g n len ≡ false → bytesNeeded g n ≤ len
 unfolding tooShort
@@ -170,11 +171,11 @@ unfolding advanceTable
 advance-accepted v len e = advance-tests v len [] e .0
 
 pub checkpoint-accepted : (v : Volume) (len : ℕ) → refusal (checkpointTable v len) ≡ 0
-    → AdvanceFacts v len × (within (v .copied) (v .recorded) ≡ false)
+    → AdvanceFacts v len × (within (marksOf (v .copied)) (marksOf (v .recorded)) ≡ false)
 unfolding checkpointTable
 checkpoint-accepted v len e =
-    let a = advance-tests v len ((12, within (v .copied) (v .recorded)) ∷ []) e in
-    (a .0, passed 12 (within (v .copied) (v .recorded)) [] (omega arith) (a .1) .0)
+    let a = advance-tests v len ((12, within (marksOf (v .copied)) (marksOf (v .recorded))) ∷ []) e in
+    (a .0, passed 12 (within (marksOf (v .copied)) (marksOf (v .recorded))) [] (omega arith) (a .1) .0)
 
 pub copy-accepted : (v : Volume) (x len : ℕ) → refusal (copyTable v x len) ≡ 0 → CopyFacts v x len
 unfolding copyTable

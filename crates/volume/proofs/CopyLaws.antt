@@ -14,13 +14,15 @@ use Rattle.layout.specs.Tally.{openBlocks, recordedBy, movedBlocks, liveSpotOf,
 use Rattle.layout.specs.Windows.{oldSpot, moving, windowOf, movingIn}
 use Rattle.layout.proofs.NextBlocks.{moving-in-old, next-some}
 use Rattle.marks.specs.Marks.{within}
-use Rattle.marks.proofs.MarkSets.{within-both, marked-within}
+use Rattle.marks.proofs.MarkSets.{marked-within}
+use Rattle.marks.proofs.MarkWords.{words-both}
 use Rattle.volume.specs.declared.Volume.{Volume}
 use Rattle.volume.specs.Calls.{copyTable}
 use Rattle.volume.specs.Sound.{sound}
 use Rattle.volume.specs.States.{historyOf, modeOf, tallyOf}
 use Rattle.volume.proofs.Accepted.{AdvanceFacts, CopyFacts, copy-accepted}
 use Rattle.volume.proofs.SoundLaws.{sound-facts, some-old}
+use Rattle.marks.specs.Words.{marksOf}
 
 -- ---- a moving block of window w
 
@@ -45,7 +47,7 @@ pub recorded-copied : (v : Volume) → sound v ≡ true → v .growing ≢ 0 →
 unfolding tallyOf
 recorded-copied v e runs =
     let f = sound-facts v e in
-    marked-within (v .rows) (historyOf v) (f .limits) (some-old v e runs) (v .window) (v .recorded) (v .copied)
+    marked-within (v .rows) (historyOf v) (f .limits) (some-old v e runs) (v .window) (marksOf (v .recorded)) (marksOf (v .copied))
     (f .while-growing runs .recorded-copied)
 
 -- ---- the block that is copied
@@ -68,11 +70,11 @@ copy-source v x byteCount e = source-spot v x byteCount (copy-accepted v x byteC
 
 -- ---- no copy waits to be recorded
 
-pub no-copy-waiting : (v : Volume) → sound v ≡ true → within (v .copied) (v .recorded) ≡ true → v .copied ≡ v .recorded
+pub no-copy-waiting : (v : Volume) → sound v ≡ true → within (marksOf (v .copied)) (marksOf (v .recorded)) ≡ true → v .copied ≡ v .recorded
 no-copy-waiting v e w =
     let f = sound-facts v e in
     by-test (eqb (v .growing) 0)
     (λ t. let r = f .at-rest (eqb-true (v .growing) 0 t) in r .none-copied ∙ sym (r .none-recorded))
     (λ t.
-    within-both (v .copied) (v .recorded) (f .copied-length) (f .recorded-length) w
+    words-both (v .copied) (v .recorded) (f .copied-fits) (f .recorded-fits) w
     (f .while-growing (eqb-false (v .growing) 0 t) .recorded-copied))

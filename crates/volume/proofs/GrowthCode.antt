@@ -23,7 +23,7 @@ use Rattle.layout.proofs.Theorems.{some-added}
 use Rattle.layout.proofs.WindowsCode.{windows-most}
 use Rattle.marks.specs.declared.NextCopy.{NextCopy}
 use Rattle.marks.specs.declared.NextCopy.the-variants.{CopyOf, AllCopied}
-use Rattle.marks.specs.Marks.{noMarks, within, asNextCopy}
+use Rattle.marks.specs.Marks.{within, asNextCopy}
 use Rattle.marks.proofs.BlocksCode.{history-before}
 use Rattle.medium.specs.declared.Geometry.{Geometry}
 use Rattle.medium.specs.Medium.{mostCopied, bytesNeeded, Observations, observe, recordStore, blockStore, apply, Inside}
@@ -44,10 +44,11 @@ use Rattle.volume.proofs.LiveCode.{countsNow, has-growth}
 use Rattle.volume.proofs.LookUpLaws.{live-inside}
 use Rattle.volume.proofs.SoundLaws.{sound-facts, some-old}
 use Rattle.volume.proofs.StoresFit.{copy-inside}
+use Rattle.marks.specs.Words.{marksOf}
 
 -- the copied blocks, as the code tests them
 abbrev markedNow : (v : Volume) (x : ℕ) → Bool
-markedNow v = markedBlocks (v .rows) (countsNow v) (v .window) (v .copied)
+markedNow v = markedBlocks (v .rows) (countsNow v) (v .window) (marksOf (v .copied))
 
 -- whether x is a moving block of window w
 moves-told : (v : Volume) (x : ℕ) → movingIn (v .rows) (countsNow v) (v .window) x ≡ movesNow (tallyOf v) x
@@ -83,7 +84,7 @@ module _ (v : Volume) (len : ℕ) where
 
   -- what is left to test
   module _ (k : ℕ) (e : k ≡ refusal (advanceTable v len)) (h : k ≡ 0) where
-    pub checkpoint-left : (kept : Bool) → kept ≡ within (v .copied) (v .recorded) → cond kept 12 0 ≡ refusal (checkpointTable v len)
+    pub checkpoint-left : (kept : Bool) → kept ≡ within (marksOf (v .copied)) (marksOf (v .recorded)) → cond kept 12 0 ≡ refusal (checkpointTable v len)
     unfolding checkpointTable refusal
     checkpoint-left kept f = rw f (sym (more-tests _ ∙ accepted-when (advanceTable v len) (λ n. n) _ k e h))
 
@@ -171,12 +172,12 @@ module _ (v : Volume) where
     marks-recorded f = rw (← full-told, ← a, f)
 
     module _ (f : full ≡ true) (g : GrowthDisks) (b : g ≡ newestGrowth (countsNow v)) (r : ℕ) (d : r ≡ windows (g .old) (g .added) (v .rows)) where
-      pub growth-finished : v .window + 1 ≡ r → withGrowth v (v .growths) (v .counts) 0 0 noMarks noMarks ≡ checkpointed v
+      pub growth-finished : v .window + 1 ≡ r → withGrowth v (v .growths) (v .counts) 0 0 0 0 ≡ checkpointed v
       unfolding checkpointed
       growth-finished l = rw (← full-told, ← a, f, last-told g b r d, eq-eqb (v .window + 1) r l)
 
       pub window-finished : v .window + 1 ≢ r
-          → withGrowth v (v .growths) (v .counts) (v .growing) (v .window + 1) noMarks noMarks ≡ checkpointed v
+          → withGrowth v (v .growths) (v .counts) (v .growing) (v .window + 1) 0 0 ≡ checkpointed v
       unfolding checkpointed
       window-finished l = rw (← full-told, ← a, f, last-told g b r d, ne-eqb (v .window + 1) r l, add-one)
 

@@ -30,6 +30,7 @@ use Rattle.volume.specs.Sound.{sound}
 use Rattle.volume.specs.States.{geometry, historyOf, disks, modeOf, tallyOf}
 use Rattle.volume.proofs.ByteBounds.{bytes-bound}
 use Rattle.volume.proofs.SoundLaws.{sound-facts}
+use Rattle.marks.specs.Words.{marksOf}
 
 -- the history as the lower crates have it, and before the newest growth
 abbrev pub countsNow : (v : Volume) → List ℕ
@@ -116,7 +117,7 @@ module _ (v : Volume) (g : v .growing ≢ 0) where
   marked marks = markedBlocks (v .rows) (countsNow v) (v .window) marks
 
   abbrev moved : ℕ → Bool
-  moved = recordedBy (v .rows) (countsNow v) (v .window) (marked (v .recorded))
+  moved = recordedBy (v .rows) (countsNow v) (v .window) (marked (marksOf (v .recorded)))
 
   growing-mode : modeOf (v .growing) ≡ growing
   unfolding modeOf
@@ -142,16 +143,16 @@ module _ (v : Volume) (g : v .growing ≢ 0) where
   new-address x e = rw (growing-mode, e)
 
   -- waiting, by what the code found of the marks of x
-  pub not-copied : (x : ℕ) (copied : Bool) → copied ≡ marked (v .copied) x → copied ≡ false → false ≡ waiting (tallyOf v) x
+  pub not-copied : (x : ℕ) (copied : Bool) → copied ≡ marked (marksOf (v .copied)) x → copied ≡ false → false ≡ waiting (tallyOf v) x
   unfolding waiting tallyOf historyOf
   not-copied x copied a f = rw (growing-mode, ← a, f)
 
-  pub copied-waits : (x : ℕ) (copied recorded : Bool) → copied ≡ marked (v .copied) x → copied ≡ true → recorded ≡ marked (v .recorded) x
+  pub copied-waits : (x : ℕ) (copied recorded : Bool) → copied ≡ marked (marksOf (v .copied)) x → copied ≡ true → recorded ≡ marked (marksOf (v .recorded)) x
       → not recorded ≡ waiting (tallyOf v) x
   unfolding waiting tallyOf historyOf
   copied-waits x copied recorded a f b = rw (growing-mode, ← a, f, b)
 
-  pub growing-calls : callsLeft (v .rows) (countsNow v) (v .window) (marked (v .copied)) ≡ callsLeftOf (tallyOf v)
+  pub growing-calls : callsLeft (v .rows) (countsNow v) (v .window) (marked (marksOf (v .copied))) ≡ callsLeftOf (tallyOf v)
   unfolding callsLeftOf tallyOf historyOf
   growing-calls = rw growing-mode
 

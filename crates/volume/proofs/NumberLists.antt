@@ -14,6 +14,7 @@ use Rattle.volume.specs.declared.Volume.{Volume}
 use Rattle.volume.specs.Records.{numbersOf, stateOf}
 use Rattle.volume.specs.States.{newState, withGrowth}
 use Rattle.volume.proofs.RecordCode.{thirteen-listed, counts-listed}
+use Rattle.marks.specs.Words.{wordOf}
 
 module _ (counts : List ℕ) (g w : ℕ) (e : length counts ≡ 8) where
   count-at : (k : ℕ) → k < 8 → getD (counts ++ (g ∷ w ∷ [])) k 0 ≡ getD counts k 0
@@ -52,7 +53,7 @@ module _ (v : Volume) (e : length (v .counts) ≡ 8) where
       after-growths (v .counts) (v .growing) (v .window) e (λ j n. P (suc (suc (suc j))) n) c g w k (omega arith)
 
   -- the state with a state's numbers
-  pub state-back : (marks : List Bool) → stateOf (numbersOf v) marks ≡ withGrowth v (v .growths) (v .counts) (v .growing) (v .window) marks marks
+  pub state-back : (marks : List Bool) → stateOf (numbersOf v) marks ≡ withGrowth v (v .growths) (v .counts) (v .growing) (v .window) (wordOf marks) (wordOf marks)
   unfolding numbersOf stateOf withGrowth newState
   state-back marks =
       rw (

@@ -30,6 +30,9 @@ use Rattle.volume.specs.States.{historyOf, tallyOf, withGrowth, recorded
 use Rattle.volume.proofs.NumberLists.{numbers-each, state-back, numbers-back}
 use Rattle.volume.proofs.RecordCode.{numbers-listed}
 use Rattle.volume.proofs.SoundLaws.{sound-facts, facts-sound}
+use Rattle.marks.specs.Words.{marksOf}
+use Rattle.marks.proofs.Bits.{bits-length}
+use Rattle.marks.proofs.MarkWords.{word-of-marks, marks-of-word}
 
 -- ---- a record can hold a sound state
 
@@ -82,11 +85,11 @@ module _ (v : Volume) (f : SoundFacts v) where
       (λ e. omega (arith, blank-between _ _ e .1))
       i h
 
-  writable : Writable (numbersOf v) (v .recorded)
+  writable : Writable (numbersOf v) (marksOf (v .recorded))
   writable =
       record {
         numbers-length = ap length (numbers-listed v (f .counts-length));
-        marks-length = f .recorded-length;
+        marks-length = bits-length 64 (v .recorded);
         small = numbers-each v (f .counts-length) (λ i n. fits n) (omega (arith, f .size-most)) (omega (arith, f .limits .rows-most))
             (omega (arith, growths-small)) count-small growing-small window-small;
         blank-zero = blank-is-zero;
@@ -108,8 +111,8 @@ recorded-growth v g =
       growing-one = g .growing-one;
       has-growth = g .has-growth;
       window-below = g .window-below;
-      recorded-copied = within-self (v .recorded);
-      copied-moving = within-within (v .recorded) (v .copied) _ (g .recorded-copied) (g .copied-moving);
+      recorded-copied = within-self (marksOf (v .recorded));
+      copied-moving = within-within (marksOf (v .recorded)) (marksOf (v .copied)) _ (g .recorded-copied) (g .copied-moving);
       one-unrecorded = g .one-unrecorded;
     }
 
@@ -118,8 +121,8 @@ unfolding recordedOnly withGrowth historyOf
 recorded-facts v f =
     record {
       counts-length = f .counts-length;
-      recorded-length = f .recorded-length;
-      copied-length = f .recorded-length;
+      recorded-fits = f .recorded-fits;
+      copied-fits = f .recorded-fits;
       size-least = f .size-least;
       size-most = f .size-most;
       size-steps = f .size-steps;
@@ -136,15 +139,15 @@ recorded-sound v e = facts-sound (recordedOnly v) (recorded-facts v (sound-facts
 
 pub record-length : (v : Volume) → length (recordOf v) ≡ recordBytes
 unfolding recordOf
-record-length v = record-laws .sector-length (numbersOf v) (v .recorded)
+record-length v = record-laws .sector-length (numbersOf v) (marksOf (v .recorded))
 
 state-read : (v : Volume) → sound v ≡ true
     → (readRecord (recordOf v) .refusal ≡ 0) × (stateRead (recordOf v) ≡ recordedOnly v)
 unfolding recordOf stateRead recordedOnly
 state-read v e =
     let f = sound-facts v e in
-    let r = record-laws .written-is-read (numbersOf v) (v .recorded) (writable v f) in
-    (rw r, rw r (state-back v (f .counts-length) (v .recorded)))
+    let r = record-laws .written-is-read (numbersOf v) (marksOf (v .recorded)) (writable v f) in
+    (rw r, rw r (rw (word-of-marks (v .recorded) (f .recorded-fits)) at (state-back v (f .counts-length) (marksOf (v .recorded)))))
 
 pub record-read : (v : Volume) → sound v ≡ true → (isSoundRecord (recordOf v) ≡ true) × (stateRead (recordOf v) ≡ recordedOnly v)
 unfolding isSoundRecord
@@ -159,7 +162,8 @@ unfolding isSoundRecord recordOf stateRead stateOf withGrowth
 read-recorded bytes e =
     let r = record-laws .read-is-written bytes (eqb-true _ 0 (and-left (eqb (readRecord bytes .refusal) 0) (sound (stateRead bytes)) e)) in
     let marks = readRecord bytes .marks in
-    ap (λ (l : List ℕ). sector l marks) (numbers-back (readRecord bytes .numbers) marks (r .0 .numbers-length)) ∙ sym (r .1)
+    ap (λ (l : List Bool). sector (numbersOf (stateOf (readRecord bytes .numbers) marks)) l) (marks-of-word marks (r .0 .marks-length))
+    ∙ ap (λ (l : List ℕ). sector l marks) (numbers-back (readRecord bytes .numbers) marks (r .0 .numbers-length)) ∙ sym (r .1)
 
 pub read-no-copies : (bytes : List ℕ) → recordedOnly (stateRead bytes) ≡ stateRead bytes
 unfolding recordedOnly stateRead stateOf withGrowth

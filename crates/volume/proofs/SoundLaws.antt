@@ -1,5 +1,5 @@
 -- What the test of soundness says: the facts of a sound state, and that they are enough. Assumes nothing.
-use Prim.Native.Nat.{ℕ, _%_, _≤_, _<_}
+use Prim.Native.Nat.{ℕ, _%_, _≤_, _<_, _^_}
 use mathlib.Core.Path.{_≡_, refl, ap}
 use mathlib.Core.Bool.{Bool, true, false, not, _&&_, _||_}
 use mathlib.Core.List.{List}
@@ -15,11 +15,13 @@ use Rattle.layout.specs.Limits.{Limits, mostDisks, mostGrowths, mostRows}
 use Rattle.layout.specs.Windows.{windows}
 use Rattle.layout.proofs.HistoryCode.{history-length, growths-most, newest-old}
 use Rattle.marks.specs.Marks.{markCount, noMarks, within, zerosAfter, atRest, inGrowth}
-use Rattle.marks.proofs.MarkSets.{within-self, within-none, all-marked, one-unmarked}
+use Rattle.marks.proofs.MarkSets.{within-self, all-marked, one-unmarked}
+use Rattle.marks.proofs.MarkWords.{no-marks, none-word}
 use Rattle.volume.specs.declared.Volume.{Volume}
 use Rattle.volume.specs.Laws.{RestFacts, GrowthFacts, SoundFacts}
 use Rattle.volume.specs.Sound.{sizeStep, mostSize, sizeHolds, rowsHold, limitsHold, restHolds, movingOf, growthHolds, stageHolds, lengthsHold, sound}
 use Rattle.volume.specs.States.{historyOf, tallyOf}
+use Rattle.marks.specs.Words.{marksOf}
 
 -- ---- the limits
 
@@ -120,44 +122,44 @@ zeros-make l t f =
 
 -- ---- the stages
 
-rest-use : (v : Volume) → length (v .recorded) ≡ markCount → length (v .copied) ≡ markCount → restHolds v ≡ true → RestFacts v
+rest-use : (v : Volume) → v .recorded < 2 ^ markCount → v .copied < 2 ^ markCount → restHolds v ≡ true → RestFacts v
 unfolding atRest
 rest-use v a b e =
-    let f = and-right (eqb (v .window) 0) (within (v .recorded) noMarks && within (v .copied) noMarks) e in
+    let f = and-right (eqb (v .window) 0) (within (marksOf (v .recorded)) noMarks && within (marksOf (v .copied)) noMarks) e in
     record {
-      window-zero = eqb-true (v .window) 0 (and-left (eqb (v .window) 0) (within (v .recorded) noMarks && within (v .copied) noMarks) e);
-      none-recorded = within-none (v .recorded) a (and-left (within (v .recorded) noMarks) (within (v .copied) noMarks) f);
-      none-copied = within-none (v .copied) b (and-right (within (v .recorded) noMarks) (within (v .copied) noMarks) f);
+      window-zero = eqb-true (v .window) 0 (and-left (eqb (v .window) 0) (within (marksOf (v .recorded)) noMarks && within (marksOf (v .copied)) noMarks) e);
+      none-recorded = none-word (v .recorded) a (and-left (within (marksOf (v .recorded)) noMarks) (within (marksOf (v .copied)) noMarks) f);
+      none-copied = none-word (v .copied) b (and-right (within (marksOf (v .recorded)) noMarks) (within (marksOf (v .copied)) noMarks) f);
     }
 
 rest-make : (v : Volume) → RestFacts v → restHolds v ≡ true
 unfolding atRest
 rest-make v f =
-    let recorded : within (v .recorded) noMarks ≡ true = rw (f .none-recorded) (within-self noMarks) in
-    let copied : within (v .copied) noMarks ≡ true = rw (f .none-copied) (within-self noMarks) in
+    let recorded : within (marksOf (v .recorded)) noMarks ≡ true = rw (f .none-recorded, no-marks) (within-self noMarks) in
+    let copied : within (marksOf (v .copied)) noMarks ≡ true = rw (f .none-copied, no-marks) (within-self noMarks) in
     and-both (eq-eqb (v .window) 0 (f .window-zero)) (and-both recorded copied)
 
 growth-use : (v : Volume) → Limits (v .rows) (historyOf v) → v .growing ≡ 1 → growthHolds v ≡ true → GrowthFacts v
 unfolding inGrowth movingOf tallyOf historyOf
 growth-use v l g e =
     let last = windows (oldCount (historyOf v)) (addedCount (historyOf v)) (v .rows) in
-    let someLeft : Bool = not (within (movingOf v) (v .recorded)) in
-    let fromCopied : Bool = within (v .copied) (movingOf v) && someLeft in
-    let fromRecorded : Bool = within (v .recorded) (v .copied) && fromCopied in
+    let someLeft : Bool = not (within (movingOf v) (marksOf (v .recorded))) in
+    let fromCopied : Bool = within (marksOf (v .copied)) (movingOf v) && someLeft in
+    let fromRecorded : Bool = within (marksOf (v .recorded)) (marksOf (v .copied)) && fromCopied in
     let fromWindow : Bool = ltb (v .window) last && fromRecorded in
     let some = ltb-true 0 (v .growths) (and-left (ltb 0 (v .growths)) fromWindow e) in
     let from-window = and-right (ltb 0 (v .growths)) fromWindow e in
     let from-recorded = and-right (ltb (v .window) last) fromRecorded from-window in
-    let from-copied = and-right (within (v .recorded) (v .copied)) fromCopied from-recorded in
+    let from-copied = and-right (within (marksOf (v .recorded)) (marksOf (v .copied))) fromCopied from-recorded in
     record {
       growing-one = g;
       has-growth = some;
       window-below = ltb-true (v .window) last (and-left (ltb (v .window) last) fromRecorded from-window);
-      recorded-copied = and-left (within (v .recorded) (v .copied)) fromCopied from-recorded;
-      copied-moving = and-left (within (v .copied) (movingOf v)) someLeft from-copied;
+      recorded-copied = and-left (within (marksOf (v .recorded)) (marksOf (v .copied))) fromCopied from-recorded;
+      copied-moving = and-left (within (marksOf (v .copied)) (movingOf v)) someLeft from-copied;
       one-unrecorded =
-          one-unmarked (v .rows) (historyOf v) l (newest-old (v .rows) (v .growths) (v .counts) some l) (v .window) (v .recorded)
-          (not-true (within (movingOf v) (v .recorded)) (and-right (within (v .copied) (movingOf v)) someLeft from-copied));
+          one-unmarked (v .rows) (historyOf v) l (newest-old (v .rows) (v .growths) (v .counts) some l) (v .window) (marksOf (v .recorded))
+          (not-true (within (movingOf v) (marksOf (v .recorded))) (and-right (within (marksOf (v .copied)) (movingOf v)) someLeft from-copied));
     }
 
 growth-make : (v : Volume) → Limits (v .rows) (historyOf v) → GrowthFacts v → growthHolds v ≡ true
@@ -165,9 +167,9 @@ unfolding inGrowth movingOf tallyOf historyOf
 growth-make v l f =
     let o = newest-old (v .rows) (v .growths) (v .counts) (f .has-growth) l in
     let x = f .one-unrecorded in
-    let left : within (movingOf v) (v .recorded) ≡ false =
-    by-test (within (movingOf v) (v .recorded))
-    (λ t. clash (all-marked (v .rows) (historyOf v) l o (v .window) (v .recorded) t (x .0) (x .1)) (x .2)) (λ t. t) in
+    let left : within (movingOf v) (marksOf (v .recorded)) ≡ false =
+    by-test (within (movingOf v) (marksOf (v .recorded)))
+    (λ t. clash (all-marked (v .rows) (historyOf v) l o (v .window) (marksOf (v .recorded)) t (x .0) (x .1)) (x .2)) (λ t. t) in
     and-both (lt-ltb 0 (v .growths) (f .has-growth))
     (and-both (lt-ltb (v .window) (windows (oldCount (historyOf v)) (addedCount (historyOf v)) (v .rows)) (f .window-below))
     (and-both (f .recorded-copied)
@@ -202,16 +204,16 @@ module _ (v : Volume) (e : sound v ≡ true) where
   pub sound-facts : SoundFacts v
   unfolding lengthsHold stageHolds
   sound-facts =
-      let marks : Bool = eqb (length (v .recorded)) markCount && eqb (length (v .copied)) markCount in
+      let marks : Bool = ltb (v .recorded) (2 ^ markCount) && ltb (v .copied) (2 ^ markCount) in
       let em = and-right (eqb (length (v .counts)) 8) marks lengths in
-      let recorded = eqb-true (length (v .recorded)) markCount (and-left (eqb (length (v .recorded)) markCount) (eqb (length (v .copied)) markCount) em) in
-      let copied = eqb-true (length (v .copied)) markCount (and-right (eqb (length (v .recorded)) markCount) (eqb (length (v .copied)) markCount) em) in
+      let recorded = ltb-true (v .recorded) (2 ^ markCount) (and-left (ltb (v .recorded) (2 ^ markCount)) (ltb (v .copied) (2 ^ markCount)) em) in
+      let copied = ltb-true (v .copied) (2 ^ markCount) (and-right (ltb (v .recorded) (2 ^ markCount)) (ltb (v .copied) (2 ^ markCount)) em) in
       let z = size-of-limits v sound-limits in
       let l = limits-of v sound-limits in
       record {
         counts-length = eqb-true (length (v .counts)) 8 (and-left (eqb (length (v .counts)) 8) marks lengths);
-        recorded-length = recorded;
-        copied-length = copied;
+        recorded-fits = recorded;
+        copied-fits = copied;
         size-least = z .least;
         size-most = z .most;
         size-steps = z .steps;
@@ -241,5 +243,5 @@ facts-sound v f =
     and-both (eq-eqb (v .growing) 1 (g .growing-one)) (growth-make v (f .limits) g)) in
     and-both
     (and-both (eq-eqb (length (v .counts)) 8 (f .counts-length))
-    (and-both (eq-eqb (length (v .recorded)) markCount (f .recorded-length)) (eq-eqb (length (v .copied)) markCount (f .copied-length))))
+    (and-both (lt-ltb (v .recorded) (2 ^ markCount) (f .recorded-fits)) (lt-ltb (v .copied) (2 ^ markCount) (f .copied-fits))))
     (and-both (limits-make v z (f .limits)) (and-both (zeros-make (v .counts) (v .growths) (f .zeros-after)) stage))

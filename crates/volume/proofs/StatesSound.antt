@@ -1,5 +1,5 @@
 -- The states that accepted calls hand back are sound. Assumes nothing.
-use Prim.Native.Nat.{ℕ, zero, suc, _≤_, _<_}
+use Prim.Native.Nat.{ℕ, zero, suc, _≤_, _<_, _^_}
 use mathlib.Core.Path.{_≡_, refl, _∙_}
 use mathlib.Core.Bool.{Bool, true, false}
 use mathlib.Core.List.{List}
@@ -19,8 +19,8 @@ use Rattle.layout.specs.Windows.{windows, movingIn, markOf, markedBlocks}
 use Rattle.layout.proofs.HistoryCode.{history-disks, rising-first, rising-more, limits-made, newest-old}
 use Rattle.layout.proofs.MarkSpots.{row-window}
 use Rattle.layout.proofs.Theorems.{some-added}
-use Rattle.marks.specs.Marks.{markCount, noMarks, within}
-use Rattle.marks.proofs.MarkSets.{within-self, none-within, none-length, set-within, within-set, its-mark, one-unmarked, all-by-marks, some-moving}
+use Rattle.marks.specs.Marks.{markCount, within}
+use Rattle.marks.proofs.MarkSets.{within-self, none-within, set-within, within-set, its-mark, one-unmarked, all-by-marks, some-moving}
 use Rattle.medium.specs.Medium.{Observations}
 use Rattle.volume.specs.declared.Volume.{Volume}
 use Rattle.volume.specs.Calls.{formatTable, restartTable, sectorTable, growTable}
@@ -31,6 +31,9 @@ use Rattle.volume.specs.States.{historyOf, disks, tallyOf, newState, wit
 use Rattle.volume.proofs.Accepted.{GrowFacts, format-accepted, restart-accepted, sector-accepted, grow-accepted}
 use Rattle.volume.proofs.RecordLaws.{read-sound}
 use Rattle.volume.proofs.SoundLaws.{SizeFacts, size-facts, from-one, sound-facts, some-old, facts-sound}
+use Rattle.marks.specs.Words.{marksOf, wordOf}
+use Rattle.marks.proofs.Bits.{bits-length}
+use Rattle.marks.proofs.MarkWords.{no-marks, marks-of-word, word-of-fits}
 
 -- ---- format
 
@@ -43,8 +46,8 @@ new-facts z s n size rows count =
     let first : getD (firstCounts n) 0 0 ≡ n = getD-set-same (replicate 8 0) 0 n 0 (omega (arith, length-replicate {A = ℕ} 8 0)) in
     record {
       counts-length = length-set (replicate 8 0) 0 n ∙ length-replicate {A = ℕ} 8 0;
-      recorded-length = none-length;
-      copied-length = none-length;
+      recorded-fits = omega arith;
+      copied-fits = omega arith;
       size-least = size .least;
       size-most = size .most;
       size-steps = size .steps;
@@ -103,7 +106,7 @@ module _ (s t : ℕ) (l : List ℕ) (count : ℕ) (a : Limits s (history t l)) (
 
 -- a window that nothing has been copied in yet
 window-starts : (v : Volume) (t : ℕ) (l : List ℕ) (stage w : ℕ) → Limits (v .rows) (history t l) → stage ≡ 1 → 0 < t
-    → w < windows (oldCount (history t l)) (addedCount (history t l)) (v .rows) → GrowthFacts (withGrowth v t l stage w noMarks noMarks)
+    → w < windows (oldCount (history t l)) (addedCount (history t l)) (v .rows) → GrowthFacts (withGrowth v t l stage w 0 0)
 unfolding withGrowth historyOf tallyOf
 window-starts v t l stage w a one some below =
     let old = newest-old (v .rows) t l some a in
@@ -111,9 +114,9 @@ window-starts v t l stage w a one some below =
       growing-one = one;
       has-growth = some;
       window-below = below;
-      recorded-copied = none-within noMarks;
-      copied-moving = none-within _;
-      one-unrecorded = one-unmarked (v .rows) (history t l) a old w noMarks (some-moving (v .rows) (history t l) a old w below);
+      recorded-copied = within-self (marksOf 0);
+      copied-moving = rw no-marks (none-within _);
+      one-unrecorded = one-unmarked (v .rows) (history t l) a old w (marksOf 0) (rw no-marks (some-moving (v .rows) (history t l) a old w below));
     }
 
 first-window : (s t : ℕ) (l : List ℕ) → Limits s (history t l) → 0 < t → 0 < windows (oldCount (history t l)) (addedCount (history t l)) s
@@ -133,8 +136,8 @@ grown-facts v count len f =
     let l = more-limits (v .rows) t (v .counts) count (g .limits) (g .counts-length) (f .one-more) up (f .disks-most) in
     record {
       counts-length = length-set (v .counts) (suc t) count ∙ g .counts-length;
-      recorded-length = none-length;
-      copied-length = none-length;
+      recorded-fits = omega arith;
+      copied-fits = omega arith;
       size-least = g .size-least;
       size-most = g .size-most;
       size-steps = g .size-steps;
@@ -150,7 +153,7 @@ grown-sound v count byteCount e = facts-sound (grown v count) (grown-facts v cou
 -- ---- copy and checkpoint
 
 -- the same history, in a stage that is sound
-staged-sound : (v : Volume) (stage w : ℕ) (recorded copied : List Bool) → SoundFacts v → length recorded ≡ markCount → length copied ≡ markCount
+staged-sound : (v : Volume) (stage w : ℕ) (recorded copied : ℕ) → SoundFacts v → recorded < 2 ^ markCount → copied < 2 ^ markCount
     → (stage ≡ 0 → RestFacts (inStage v stage w recorded copied)) → (stage ≢ 0 → GrowthFacts (inStage v stage w recorded copied))
     → sound (inStage v stage w recorded copied) ≡ true
 unfolding withGrowth historyOf
@@ -158,8 +161,8 @@ staged-sound v stage w recorded copied f a b rest growth =
     facts-sound (inStage v stage w recorded copied)
     (record {
       counts-length = f .counts-length;
-      recorded-length = a;
-      copied-length = b;
+      recorded-fits = a;
+      copied-fits = b;
       size-least = f .size-least;
       size-most = f .size-most;
       size-steps = f .size-steps;
@@ -180,9 +183,9 @@ module _ (v : Volume) (e : sound v ≡ true) (runs : v .growing ≢ 0) where
   old = some-old v e runs
 
   -- the same window with other marks
-  with-marks : (recorded copied : List Bool) → length recorded ≡ markCount → length copied ≡ markCount → within recorded copied ≡ true
-      → within copied (movingOf v) ≡ true
-      → (x : ℕ) × (movingIn (v .rows) (historyOf v) (v .window) x ≡ true) × (markedBlocks (v .rows) (historyOf v) (v .window) recorded x ≡ false)
+  with-marks : (recorded copied : ℕ) → recorded < 2 ^ markCount → copied < 2 ^ markCount → within (marksOf recorded) (marksOf copied) ≡ true
+      → within (marksOf copied) (movingOf v) ≡ true
+      → (x : ℕ) × (movingIn (v .rows) (historyOf v) (v .window) x ≡ true) × (markedBlocks (v .rows) (historyOf v) (v .window) (marksOf recorded) x ≡ false)
       → sound (inStage v (v .growing) (v .window) recorded copied) ≡ true
   unfolding withGrowth tallyOf historyOf movingOf
   with-marks recorded copied a b inside moving left =
@@ -202,38 +205,41 @@ module _ (v : Volume) (e : sound v ≡ true) (runs : v .growing ≢ 0) where
   with-copy x m =
       let j = markOf (v .rows) (historyOf v) x in
       let mark = its-mark (v .rows) (historyOf v) (facts .limits) old (v .window) x m in
-      with-marks (v .recorded) (set (v .copied) j true) (facts .recorded-length) (length-set (v .copied) j true ∙ facts .copied-length)
-      (within-set (v .recorded) (v .copied) j (omega (arith, mark .0, facts .copied-length)) (growth .recorded-copied))
-      (set-within (v .copied) (movingOf v) j (growth .copied-moving) (mark .1)) (growth .one-unrecorded)
+      let more : List Bool = set (marksOf (v .copied)) j true in
+      let l : length more ≡ markCount = length-set (marksOf (v .copied)) j true ∙ bits-length 64 (v .copied) in
+      let back = marks-of-word more l in
+      with-marks (v .recorded) (wordOf more) (facts .recorded-fits) (word-of-fits more l)
+      (rw back (within-set (marksOf (v .recorded)) (marksOf (v .copied)) j (omega (arith, mark .0, bits-length 64 (v .copied))) (growth .recorded-copied)))
+      (rw back (set-within (marksOf (v .copied)) (movingOf v) j (growth .copied-moving) (mark .1))) (growth .one-unrecorded)
 
   -- a window that is not full has a block to copy
   one-uncopied : windowFull (tallyOf v) ≡ false
       → (x : ℕ) × (movingIn (v .rows) (historyOf v) (v .window) x ≡ true) × (tallyOf v .copied x ≡ false)
   unfolding tallyOf windowFull
   one-uncopied not-full =
-      let full = all-by-marks (v .rows) (historyOf v) (facts .limits) old (v .window) (v .copied) in
-      one-unmarked (v .rows) (historyOf v) (facts .limits) old (v .window) (v .copied) (full ∙ not-full)
+      let full = all-by-marks (v .rows) (historyOf v) (facts .limits) old (v .window) (marksOf (v .copied)) in
+      one-unmarked (v .rows) (historyOf v) (facts .limits) old (v .window) (marksOf (v .copied)) (full ∙ not-full)
 
   -- the three states that a checkpoint may hand back
   recorded-on : windowFull (tallyOf v) ≡ false → sound (inStage v (v .growing) (v .window) (v .copied) (v .copied)) ≡ true
   unfolding tallyOf
   recorded-on not-full =
-      with-marks (v .copied) (v .copied) (facts .copied-length) (facts .copied-length) (within-self (v .copied)) (growth .copied-moving)
+      with-marks (v .copied) (v .copied) (facts .copied-fits) (facts .copied-fits) (within-self (marksOf (v .copied))) (growth .copied-moving)
       (one-uncopied not-full)
 
-  next-window : lastWindow (tallyOf v) ≡ false → sound (inStage v (v .growing) (suc (v .window)) noMarks noMarks) ≡ true
+  next-window : lastWindow (tallyOf v) ≡ false → sound (inStage v (v .growing) (suc (v .window)) 0 0) ≡ true
   unfolding lastWindow tallyOf historyOf
   next-window not-last =
       let end = windows (oldCount (historyOf v)) (addedCount (historyOf v)) (v .rows) in
-      staged-sound v (v .growing) (suc (v .window)) noMarks noMarks facts none-length none-length (λ z. absurd (runs z))
+      staged-sound v (v .growing) (suc (v .window)) 0 0 facts (omega arith) (omega arith) (λ z. absurd (runs z))
       (λ _.
       window-starts v (v .growths) (v .counts) (v .growing) (suc (v .window)) (facts .limits) (growth .growing-one) (growth .has-growth)
       (omega (arith, growth .window-below, eqb-false (suc (v .window)) end not-last)))
 
-  finished : sound (inStage v 0 0 noMarks noMarks) ≡ true
+  finished : sound (inStage v 0 0 0 0) ≡ true
   unfolding withGrowth
   finished =
-      staged-sound v 0 0 noMarks noMarks facts none-length none-length
+      staged-sound v 0 0 0 0 facts (omega arith) (omega arith)
       (λ _. record { window-zero = refl; none-recorded = refl; none-copied = refl })
       (λ f. absurd (f refl))
 

@@ -12,6 +12,7 @@ use Rattle.layout.specs.Limits.{mostDisks, mostGrowths}
 use Rattle.layout.specs.Tally.{openBlocks, liveSpotOf, liveBlockOf, liveReasonOf, waiting, callsLeftOf, movesNow, targetOf, nextBlock}
 use Rattle.layout.specs.Windows.{partMoved}
 use Rattle.marks.specs.Marks.{within}
+use Rattle.marks.specs.Words.{marksOf}
 use Rattle.medium.specs.declared.Geometry.{Geometry}
 use Rattle.medium.specs.Medium.{recordBytes, bytesNeeded, Observations, Store, noStore, recordStore, blockStore}
 use Rattle.volume.specs.declared.Volume.{Volume}
@@ -165,7 +166,7 @@ checkpointTable v byteCount =
     (1, not (sound v))
     ∷ (2, tooShort (geometry v) (disks v) byteCount)
     ∷ (5, eqb (v .growing) 0)
-    ∷ (12, within (v .copied) (v .recorded))
+    ∷ (12, within (marksOf (v .copied)) (marksOf (v .recorded)))
     ∷ []
 
 unfoldable pub checkpointStore : (v : Volume) → Store

@@ -1,5 +1,5 @@
 -- What is proved of states, records and calls: `VolumeLaws`. `proofs/Theorems.antt` has the proof. Assumes nothing.
-use Prim.Native.Nat.{ℕ, _%_, _≤_, _<_}
+use Prim.Native.Nat.{ℕ, _%_, _≤_, _<_, _^_}
 use mathlib.Core.Path.{_≡_}
 use mathlib.Core.Bool.{Bool, true, false}
 use mathlib.Core.List.{List, []}
@@ -13,7 +13,8 @@ use Rattle.layout.specs.Limits.{Limits}
 use Rattle.layout.specs.Reasons.{growthTold}
 use Rattle.layout.specs.Tally.{liveSpotOf, movesNow}
 use Rattle.layout.specs.Windows.{windows, oldSpot, movingIn}
-use Rattle.marks.specs.Marks.{markCount, noMarks, within}
+use Rattle.marks.specs.Marks.{markCount, within}
+use Rattle.marks.specs.Words.{marksOf}
 use Rattle.medium.specs.Medium.{recordBytes, Observations, observe, noStore, StoreFits}
 use Rattle.volume.specs.declared.Volume.{Volume}
 use Rattle.volume.specs.Answers.{number, callsTold, addressNumber, spotTold, reasonTold, holderNumber, blockTold}
@@ -26,21 +27,21 @@ use Rattle.volume.specs.States.{geometry, historyOf, tallyOf, newState, 
 
 pub record RestFacts (v : Volume) : Type 0 where
   pub window-zero : v .window ≡ 0
-  pub none-recorded : v .recorded ≡ noMarks
-  pub none-copied : v .copied ≡ noMarks
+  pub none-recorded : v .recorded ≡ 0
+  pub none-copied : v .copied ≡ 0
 
 pub record GrowthFacts (v : Volume) : Type 0 where
   pub growing-one : v .growing ≡ 1
   pub has-growth : 0 < v .growths
   pub window-below : v .window < windows (oldCount (historyOf v)) (addedCount (historyOf v)) (v .rows)
-  pub recorded-copied : within (v .recorded) (v .copied) ≡ true
-  pub copied-moving : within (v .copied) (movingOf v) ≡ true
+  pub recorded-copied : within (marksOf (v .recorded)) (marksOf (v .copied)) ≡ true
+  pub copied-moving : within (marksOf (v .copied)) (movingOf v) ≡ true
   pub one-unrecorded : (x : ℕ) × (movingIn (v .rows) (historyOf v) (v .window) x ≡ true) × (tallyOf v .recorded x ≡ false)
 
 pub record SoundFacts (v : Volume) : Type 0 where
   pub counts-length : length (v .counts) ≡ 8
-  pub recorded-length : length (v .recorded) ≡ markCount
-  pub copied-length : length (v .copied) ≡ markCount
+  pub recorded-fits : v .recorded < 2 ^ markCount
+  pub copied-fits : v .copied < 2 ^ markCount
   pub size-least : sizeStep ≤ v .size
   pub size-most : v .size ≤ mostSize
   pub size-steps : v .size % sizeStep ≡ 0
@@ -119,7 +120,7 @@ pub record VolumeLaws : Type 0 where
   pub copy-source : (v : Volume) (x byteCount : ℕ) → refusal (copyTable v x byteCount) ≡ 0
       → liveSpotOf (tallyOf v) x ≡ oldSpot (v .rows) (historyOf v) x
   -- 12 is given exactly where copied equals recorded
-  pub no-copy-waiting : (v : Volume) → sound v ≡ true → within (v .copied) (v .recorded) ≡ true → v .copied ≡ v .recorded
+  pub no-copy-waiting : (v : Volume) → sound v ≡ true → within (marksOf (v .copied)) (marksOf (v .recorded)) ≡ true → v .copied ≡ v .recorded
   -- address and holder are inverse to each other in every stage of a growth, and after a finished one 15 never occurs
   pub look-ups : (v : Volume) → sound v ≡ true → LookUps (tallyOf v)
   pub holder-of-address : (v : Volume) (x : ℕ) → addressNumber (addressReply v x .answer) ≡ 0

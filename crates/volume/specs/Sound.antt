@@ -1,12 +1,13 @@
 -- Document 01, "Words and limits" and "A state is sound when". Assumes nothing.
-use Prim.Native.Nat.{ℕ, _%_}
+use Prim.Native.Nat.{ℕ, _%_, _^_}
 use mathlib.Core.Bool.{Bool, cond, _&&_}
 use mathlib.Core.List.{List}
-use lib.Dec.{eqb, leb}
+use lib.Dec.{eqb, leb, ltb}
 use lib.ListN.{length}
 use Rattle.layout.specs.History.{diskCount, rising}
 use Rattle.layout.specs.Limits.{mostDisks, mostGrowths, mostRows}
 use Rattle.marks.specs.Marks.{markCount, movingMarksIn, zerosAfter, atRest, inGrowth}
+use Rattle.marks.specs.Words.{marksOf}
 use Rattle.volume.specs.declared.Volume.{Volume}
 use Rattle.volume.specs.States.{historyOf}
 
@@ -44,18 +45,18 @@ movingOf v = movingMarksIn (v .rows) (historyOf v) (v .window)
 
 -- the stages that crate `marks` defines, of the state's window and marks: not growing, and growing
 abbrev pub restHolds : (v : Volume) → Bool
-restHolds v = atRest (v .window) (v .recorded) (v .copied)
+restHolds v = atRest (v .window) (marksOf (v .recorded)) (marksOf (v .copied))
 
 abbrev pub growthHolds : (v : Volume) → Bool
-growthHolds v = inGrowth (v .growths) (v .rows) (historyOf v) (v .window) (v .recorded) (v .copied)
+growthHolds v = inGrowth (v .growths) (v .rows) (historyOf v) (v .window) (marksOf (v .recorded)) (marksOf (v .copied))
 
 -- "growing (0 or 1)"
 unfoldable pub stageHolds : (v : Volume) → Bool
 stageHolds v = cond (eqb (v .growing) 0) (restHolds v) (eqb (v .growing) 1 && growthHolds v)
 
--- the lengths of the arrays, which the code's types fix
+-- the length of the array and the bounds of the words, which the code's types fix
 unfoldable pub lengthsHold : (v : Volume) → Bool
-lengthsHold v = eqb (length (v .counts)) 8 && (eqb (length (v .recorded)) markCount && eqb (length (v .copied)) markCount)
+lengthsHold v = eqb (length (v .counts)) 8 && (ltb (v .recorded) (2 ^ markCount) && ltb (v .copied) (2 ^ markCount))
 
 -- "A state is sound when: the limits hold; counts after N[t] are 0;" and the rest as above.
 unfoldable pub sound : (v : Volume) → Bool

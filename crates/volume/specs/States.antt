@@ -1,14 +1,14 @@
--- Document 01, "Medium, state, record": the state, read as a tally, and the states that calls hand back. The arrays of the code are
--- lists here. Assumes nothing.
+-- Document 01, "Medium, state, record": the state, read as a tally, and the states that calls hand back. The array of counts is a list
+-- here, a set of marks a word. Assumes nothing.
 use Prim.Native.Nat.{ℕ, suc}
-use mathlib.Core.Bool.{Bool, true, cond}
+use mathlib.Core.Bool.{true, cond}
 use mathlib.Core.List.{List}
 use lib.Dec.{eqb}
 use lib.ListN.{set, replicate}
 use Rattle.layout.specs.History.{history, diskCount}
 use Rattle.layout.specs.Tally.{Mode, notGrowing, growing, Tally, windowFull, lastWindow}
 use Rattle.layout.specs.Windows.{markOf, markedBlocks}
-use Rattle.marks.specs.Marks.{noMarks}
+use Rattle.marks.specs.Words.{marksOf, wordOf}
 use Rattle.medium.specs.declared.Geometry.{Geometry}
 use Rattle.volume.specs.declared.Volume.{Volume}
 
@@ -35,8 +35,8 @@ tallyOf v =
       counts = historyOf v;
       mode = modeOf (v .growing);
       window = v .window;
-      copied = markedBlocks (v .rows) (historyOf v) (v .window) (v .copied);
-      recorded = markedBlocks (v .rows) (historyOf v) (v .window) (v .recorded);
+      copied = markedBlocks (v .rows) (historyOf v) (v .window) (marksOf (v .copied));
+      recorded = markedBlocks (v .rows) (historyOf v) (v .window) (marksOf (v .recorded));
     }
 
 -- ---- the states that calls hand back, from two forms
@@ -51,12 +51,12 @@ newState z s n =
       counts = set (replicate 8 0) 0 n;
       growing = 0;
       window = 0;
-      recorded = noMarks;
-      copied = noMarks;
+      recorded = 0;
+      copied = 0;
     }
 
 -- the same blocks and rows with another history and another stage of a growth
-unfoldable pub withGrowth : (v : Volume) (t : ℕ) (counts : List ℕ) (stage w : ℕ) (recorded copied : List Bool) → Volume
+unfoldable pub withGrowth : (v : Volume) (t : ℕ) (counts : List ℕ) (stage w : ℕ) (recorded copied : ℕ) → Volume
 withGrowth v t counts stage w recorded copied =
     record {
       size = v .size;
@@ -75,10 +75,10 @@ zeros = newState 0 0 0
 
 -- "the count added, growing 1, w 0, no marks"
 unfoldable pub grown : (v : Volume) (count : ℕ) → Volume
-grown v count = withGrowth v (suc (v .growths)) (set (v .counts) (suc (v .growths)) count) 1 0 noMarks noMarks
+grown v count = withGrowth v (suc (v .growths)) (set (v .counts) (suc (v .growths)) count) 1 0 0 0
 
 -- the same history, in another stage
-abbrev pub inStage : (v : Volume) (stage w : ℕ) (recorded copied : List Bool) → Volume
+abbrev pub inStage : (v : Volume) (stage w : ℕ) (recorded copied : ℕ) → Volume
 inStage v stage w recorded copied = withGrowth v (v .growths) (v .counts) stage w recorded copied
 
 -- the recorded marks alone: "sets copied to recorded"
@@ -87,12 +87,12 @@ recordedOnly v = inStage v (v .growing) (v .window) (v .recorded) (v .recorded)
 
 -- "sets the copied mark" of block x
 unfoldable pub withCopy : (v : Volume) (x : ℕ) → Volume
-withCopy v x = inStage v (v .growing) (v .window) (v .recorded) (set (v .copied) (markOf (v .rows) (historyOf v) x) true)
+withCopy v x = inStage v (v .growing) (v .window) (v .recorded) (wordOf (set (marksOf (v .copied)) (markOf (v .rows) (historyOf v) x) true))
 
 -- "with recorded set to copied. If window w is then full, that same store has w+1 and no marks, or, after the last window, growing 0 and
 -- w 0."
 unfoldable pub checkpointed : (v : Volume) → Volume
 checkpointed v =
     cond (windowFull (tallyOf v))
-    (cond (lastWindow (tallyOf v)) (inStage v 0 0 noMarks noMarks) (inStage v (v .growing) (suc (v .window)) noMarks noMarks))
+    (cond (lastWindow (tallyOf v)) (inStage v 0 0 0 0) (inStage v (v .growing) (suc (v .window)) 0 0))
     (inStage v (v .growing) (v .window) (v .copied) (v .copied))

@@ -47,9 +47,9 @@ impl Volume {
         }
         let g = layout::newest_growth(counts, t);
         if w + 1 == window::window_count(g.old, g.added, self.rows) {
-            return self.with_growth(t, counts, 0, 0, [false; 64], [false; 64]);
+            return self.with_growth(t, counts, 0, 0, 0, 0);
         }
-        self.with_growth(t, counts, self.growing, w + 1, [false; 64], [false; 64])
+        self.with_growth(t, counts, self.growing, w + 1, 0, 0)
     }
 
     // The state with what an advance did and its advance calls left.

@@ -16,7 +16,8 @@ use layout::Part;
 use layout::Reason;
 use layout::Spot;
 
-// Document 01's state: Z, s, t, the counts N[0] to N[7], growing (0 or 1), w, and the two sets of marks.
+// Document 01's state: Z, s, t, the counts N[0] to N[7], growing (0 or 1), w, and the two sets of marks, each a word with
+// mark j as its bit j.
 pub struct Volume {
     pub size: usize,
     pub rows: usize,
@@ -24,8 +25,8 @@ pub struct Volume {
     pub counts: [usize; 8],
     pub growing: usize,
     pub window: usize,
-    pub recorded: [bool; 64],
-    pub copied: [bool; 64],
+    pub recorded: usize,
+    pub copied: usize,
 }
 
 // What an advance did: copied the block, which is the head, body or tail of its window; recorded the copies; or

@@ -135,6 +135,6 @@ impl Volume {
         }
         let counts = self.counts;
         let copied = self.copied;
-        window::calls_left(counts, self.growths, self.rows, self.window, copied)
+        marks::calls_left(counts, self.growths, self.rows, self.window, copied)
     }
 }

@@ -42,8 +42,8 @@ impl Volume {
             counts,
             growing: 0,
             window: 0,
-            recorded: [false; 64],
-            copied: [false; 64],
+            recorded: 0,
+            copied: 0,
         }
     }
 
@@ -54,8 +54,8 @@ impl Volume {
         counts: [usize; 8],
         growing: usize,
         w: usize,
-        recorded: [bool; 64],
-        copied: [bool; 64],
+        recorded: usize,
+        copied: usize,
     ) -> Volume
         ensures { λ r. ⌜ r ≡ withGrowth self t counts growing w recorded copied ⌝ }
     {
@@ -79,7 +79,7 @@ impl Volume {
         let t = self.growths + 1;
         let mut counts = self.counts;
         counts[t] = count;
-        self.with_growth(t, counts, 1, 0, [false; 64], [false; 64])
+        self.with_growth(t, counts, 1, 0, 0, 0)
     }
 
     // Stores the record.
@@ -103,7 +103,7 @@ impl Volume {
             self.growing,
             self.window,
         ];
-        let marks = self.recorded;
+        let marks = marks::marks_of(self.recorded);
         record::write_record(medium, numbers, marks);
     }
 
@@ -122,6 +122,7 @@ impl Volume {
             numbers[10],
         ];
         let fresh = Volume::new_state(numbers[0], numbers[1], 0);
-        fresh.with_growth(numbers[2], counts, numbers[11], numbers[12], marks, marks)
+        let word = marks::word_of(marks);
+        fresh.with_growth(numbers[2], counts, numbers[11], numbers[12], word, word)
     }
 }

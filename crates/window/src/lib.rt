@@ -4,14 +4,12 @@
 // The functions here serve the crates above and are not offered to others: their `requires` are the
 // limits of a sound volume.
 ghost use mathlib.Core.Path.{_≡_};
-ghost use mathlib.Core.Bool.{true, false, not, _&&_};
+ghost use mathlib.Core.Bool.{true};
 ghost use Prim.Native.Nat.{_+_, _*_, _<_, _≤_};
-ghost use lib.ListN.{getD};
-ghost use Rattle.base.specs.Below.{count};
 ghost use Rattle.layout.specs.Limits.{Limits, Grows, mostRows};
 ghost use Rattle.layout.specs.Growth.{movesFrom};
 ghost use Rattle.layout.specs.History.{history, oldCount, addedCount};
-ghost use Rattle.layout.specs.Windows.{windows, markOfSpot, spotOfMark, rowExists, cutMoves, laterMoves, movesOfWindow, markedBlocks, callsLeft, callsLeftByMarks};
+ghost use Rattle.layout.specs.Windows.{windows, markOfSpot, spotOfMark, rowExists, cutMoves, laterMoves, movesOfWindow};
 use layout::Row;
 use layout::Spot;
 use layout::newest_growth;
@@ -101,28 +99,8 @@ pub fn moves_of_window(counts: [usize; 8], t: usize, s: usize, w: usize) -> usiz
     cut_moves(m, n, rest)
 }
 
-// The moving blocks of window w without a mark.
-fn unmarked(m: usize, n: usize, s: usize, w: usize, marks: [bool; 64]) -> usize
-    requires { ⌜ Grows m n ⌝ }
-    requires { ⌜ w ≤ mostRows ⌝ }
-    ensures { λ r. ⌜ r ≡ count (λ j. rowExists m n s w j && not (getD marks j false)) (m * n) ⌝ }
-{
-    let end = m * n;
-    let mut total = 0;
-    let mut j = 0;
-    while j < end {
-        if row_exists(m, n, s, w, j) {
-            if !marks[j] {
-                total += 1;
-            }
-        }
-        j += 1;
-    }
-    total
-}
-
 // The moving blocks of the windows after w.
-fn later_moves(m: usize, n: usize, s: usize, w: usize) -> usize
+pub fn later_moves(m: usize, n: usize, s: usize, w: usize) -> usize
     requires { ⌜ Grows m n ⌝ }
     requires { ⌜ s ≤ mostRows ⌝ }
     ensures { λ r. ⌜ r ≡ laterMoves m n s w ⌝ }
@@ -132,26 +110,4 @@ fn later_moves(m: usize, n: usize, s: usize, w: usize) -> usize
         return 0;
     }
     (whole - (w + 1)) * (m * n) + cut_moves(m, n, s % (m + n))
-}
-
-// U + R - w of the growth from m disks by n, from the marks of the copied blocks of window w.
-fn calls_left_by_marks(m: usize, n: usize, s: usize, w: usize, marks: [bool; 64]) -> usize
-    requires { ⌜ Grows m n ⌝ }
-    requires { ⌜ (s ≤ mostRows) × (w < windows m n s) ⌝ }
-    ensures { λ r. ⌜ r ≡ callsLeftByMarks m n s w marks ⌝ }
-{
-    let all = window_count(m, n, s);
-    let here = unmarked(m, n, s, w, marks);
-    let later = later_moves(m, n, s, w);
-    here + later + all - w
-}
-
-// U + R - w of the newest growth, where window w's copied blocks are those with a mark.
-pub fn calls_left(counts: [usize; 8], t: usize, s: usize, w: usize, copied: [bool; 64]) -> usize
-    requires { ⌜ Limits s (history t counts) ⌝ }
-    requires { ⌜ (0 < t) × (w < windows (oldCount (history t counts)) (addedCount (history t counts)) s) ⌝ }
-    ensures { λ r. ⌜ r ≡ callsLeft s (history t counts) w (markedBlocks s (history t counts) w copied) ⌝ }
-{
-    let g = newest_growth(counts, t);
-    calls_left_by_marks(g.old, g.added, s, w, copied)
 }

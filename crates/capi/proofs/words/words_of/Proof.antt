@@ -31,18 +31,12 @@ array-read-t25 c = search needs
 array-read-t28 : tie.Need-array-read-t28
 array-read-t28 c = search needs
 
-word-of-requires : tie.Need-word-of-requires
-word-of-requires c κs = search needs
-
-word-of-requires-2 : tie.Need-word-of-requires-2
-word-of-requires-2 c κs = search needs
-
 returns : tie.Need-returns
 unfolding wordsOf
 returns c =
-    let v = c .before .before .before .before .before .args .v in
+    let v = c .before .args .v in
     let e : length (v .counts) ≡ 8 = search needs in
-    rw (numbers-listed v e, c .before .word-of .ensures, c .word-of2 .ensures)
+    rw (numbers-listed v e)
 
 pub words-of-spec : {M : Type 1} → statement M
 words-of-spec =
@@ -56,6 +50,4 @@ words-of-spec =
     array-read-t22
     array-read-t25
     array-read-t28
-    word-of-requires
-    word-of-requires-2
     returns)

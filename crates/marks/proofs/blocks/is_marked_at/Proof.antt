@@ -18,13 +18,13 @@ returns c = rw (ne-eqb _ _ (c .if1 .taken))
 mark-of-spot-requires : tie.Need-mark-of-spot-requires
 mark-of-spot-requires c κs = search needs
 
-array-read-result : tie.Need-array-read-result
-array-read-result c =
+has-mark-requires : tie.Need-has-mark-requires
+has-mark-requires c κs =
     let q = c .before .before .before .before .pre in
     omega (arith, c .mark-of-spot .ensures, mark-fits _ _ _ (q .0) (q .1))
 
 returns-2 : tie.Need-returns-2
-returns-2 c = rw (eq-eqb _ _ (c .before .if1 .left), ← c .mark-of-spot .ensures)
+returns-2 c = rw (eq-eqb _ _ (c .before .before .if1 .left), ← c .before .mark-of-spot .ensures) (c .has-mark .ensures)
 
 pub is-marked-at-spec : {M : Type 1} → statement M
-is-marked-at-spec = tie.close (tie.spec add-if1 div-if1 returns mark-of-spot-requires array-read-result returns-2)
+is-marked-at-spec = tie.close (tie.spec add-if1 div-if1 returns mark-of-spot-requires has-mark-requires returns-2)

@@ -5,6 +5,7 @@ use Rattle.layout.proofs.NewestCode.{newest-asks}
 use Rattle.layout.proofs.WindowsCode.{marks-most}
 use Rattle.marks.proofs.BlocksCode.{ReadGrowth, grows-read}
 use Rattle.marks.proofs.CopiesCode.{NextMark, window-most, none-told, next-mark, next-small, next-asks, next-told}
+use Rattle.marks.specs.Words.{marksOf}
 use Rattle.marks.proofs.copies.next_copy.Statement.{statement}
 use Rattle.marks.proofs.copies.next_copy.Tie as tie
 
@@ -27,7 +28,7 @@ returns c = none-told (read (c .before .before)) _ _ _ (c .before .first-unmarke
 found : (c : tie.Else1)
     → let b = c .before .before in
     let a = b .before .args in
-    NextMark (a .s) (a .t) (a .counts) (b .newest-growth .result) (a .w) (a .copied) (c .before .first-unmarked .result)
+    NextMark (a .s) (a .t) (a .counts) (b .newest-growth .result) (a .w) (marksOf (a .copied)) (c .before .first-unmarked .result)
 found c = next-mark (read (c .before .before)) _ _ _ (c .before .first-unmarked .ensures) (c .if1 .left)
 
 spot-of-mark-requires : tie.Need-spot-of-mark-requires

@@ -1,6 +1,6 @@
 -- `with_mark` meets its contract. Assumes nothing.
 use Prim.Native.Nat.{ℕ}
-use mathlib.Core.Path.{_∙_, ap}
+use mathlib.Core.Path.{_∙_, ap, sym}
 use mathlib.Core.Bool.{true}
 use native.Mathlib.Omega.{arith}
 use lib.ListN.{set}
@@ -8,6 +8,8 @@ use borrow.Author.Needs.{needs}
 use Rattle.layout.proofs.NewestCode.{newest-asks}
 use Rattle.marks.proofs.BlocksCode.{ReadGrowth, MovingSpot, spot-asks, mark-asks, mark-small, mark-told}
 use Rattle.marks.proofs.CopiesCode.{old-block, moving-spot}
+use Rattle.marks.specs.Words.{marksOf, wordOf}
+use Rattle.marks.proofs.Bits.{word-back}
 use Rattle.marks.proofs.copies.with_mark.Statement.{statement}
 use Rattle.marks.proofs.copies.with_mark.Tie as tie
 
@@ -33,12 +35,15 @@ found c = moving-spot (read (c .before)) _ _ (c .before .before .pre .1 .1) (c .
 mark-of-spot-requires : tie.Need-mark-of-spot-requires
 mark-of-spot-requires c κs = mark-asks (found c)
 
-array-write-with : tie.Need-array-write-with
-array-write-with c = omega (arith, c .mark-of-spot .ensures, mark-small (found (c .before)))
+with-bit-requires : tie.Need-with-bit-requires
+with-bit-requires c κs = omega (arith, c .mark-of-spot .ensures, mark-small (found (c .before)))
 
 returns : tie.Need-returns
 returns c =
-    ap (λ (j : ℕ). set (c .before .before .before .args .marks) j true) (c .mark-of-spot .ensures ∙ mark-told (found (c .before)))
+    sym (word-back 64 (c .with-bit .result) (omega arith))
+    ∙ ap wordOf (c .with-bit .ensures)
+    ∙ ap (λ (j : ℕ). wordOf (set (marksOf (c .before .before .before .before .args .marks)) j true))
+    (c .before .mark-of-spot .ensures ∙ mark-told (found (c .before .before)))
 
 pub with-mark-spec : {M : Type 1} → statement M
 with-mark-spec =
@@ -48,5 +53,5 @@ with-mark-spec =
     sub-spot-of
     spot-of-requires
     mark-of-spot-requires
-    array-write-with
+    with-bit-requires
     returns)

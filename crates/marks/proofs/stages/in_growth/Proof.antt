@@ -10,6 +10,7 @@ use Rattle.layout.specs.History.{history, oldCount, addedCount}
 use Rattle.layout.specs.Windows.{windows}
 use Rattle.layout.proofs.NewestCode.{newest-asks}
 use Rattle.marks.specs.Marks.{within, movingMarksIn, inGrowth}
+use Rattle.marks.specs.Words.{marksOf}
 use Rattle.marks.proofs.BlocksCode.{ReadGrowth, old-read, added-read, grows-read}
 use Rattle.marks.proofs.CopiesCode.{window-most}
 use Rattle.marks.proofs.stages.in_growth.Statement.{statement}
@@ -23,14 +24,14 @@ abbrev movingOf : (c : tie.Start) → List Bool
 movingOf c = let a = c .args in movingMarksIn (a .s) (history (a .t) (a .counts)) (a .w)
 
 abbrev tested : (c : tie.Start) → Bool
-tested c = let a = c .args in inGrowth (a .t) (a .s) (history (a .t) (a .counts)) (a .w) (a .recorded) (a .copied)
+tested c = let a = c .args in inGrowth (a .t) (a .s) (history (a .t) (a .counts)) (a .w) (marksOf (a .recorded)) (marksOf (a .copied))
 
 -- what the tests of the marks say, the last two and all of them
 abbrev copiedFit : (c : tie.Start) → Bool
-copiedFit c = within (c .args .copied) (movingOf c) && not (within (movingOf c) (c .args .recorded))
+copiedFit c = within (marksOf (c .args .copied)) (movingOf c) && not (within (movingOf c) (marksOf (c .args .recorded)))
 
 abbrev marksFit : (c : tie.Start) → Bool
-marksFit c = within (c .args .recorded) (c .args .copied) && copiedFit c
+marksFit c = within (marksOf (c .args .recorded)) (marksOf (c .args .copied)) && copiedFit c
 
 returns : tie.Need-returns
 unfolding inGrowth
@@ -84,7 +85,7 @@ copied-left c =
     let e = sym (c .before .is-within .ensures) ∙ not-false _ (c .if3 .left) in
     marks-left (c .before .before) ∙ simp e
 
-moving-are : (c : tie.After-moving-marks) → c .moving-marks .result ≡ movingOf (start (c .before .before .before))
+moving-are : (c : tie.After-moving-marks) → marksOf (c .moving-marks .result) ≡ movingOf (start (c .before .before .before))
 moving-are c =
     let r = read (c .before .before .before .before .before) in
     rw (old-read r, added-read r) at (c .moving-marks .ensures)
@@ -93,7 +94,7 @@ is-within-requires-2 : tie.Need-is-within-requires-2
 is-within-requires-2 c κs = search needs
 
 copied-test : (c : tie.After-is-within2)
-    → let b = start (c .before .before .before .before) in c .is-within2 .result ≡ within (b .args .copied) (movingOf b)
+    → let b = start (c .before .before .before .before) in c .is-within2 .result ≡ within (marksOf (b .args .copied)) (movingOf b)
 copied-test c = rw (moving-are (c .before)) at (c .is-within2 .ensures)
 
 returns-4 : tie.Need-returns-4

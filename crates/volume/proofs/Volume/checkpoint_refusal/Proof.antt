@@ -16,12 +16,12 @@ is-within-requires c κs = search needs
 
 returns-2 : tie.Need-returns-2
 returns-2 c =
-    checkpoint-left _ _ _ (c .before .before .before .before .before .advance-refusal .ensures) (c .before .before .before .before .if1 .left)
+    checkpoint-left _ _ _ (c .before .before .before .advance-refusal .ensures) (c .before .before .if1 .left)
     _ (sym (c .if2 .taken) ∙ c .before .is-within .ensures)
 
 returns-3 : tie.Need-returns-3
 returns-3 c =
-    checkpoint-left _ _ _ (c .before .before .before .before .before .advance-refusal .ensures) (c .before .before .before .before .if1 .left)
+    checkpoint-left _ _ _ (c .before .before .before .advance-refusal .ensures) (c .before .before .if1 .left)
     _ (sym (c .if2 .left) ∙ c .before .is-within .ensures)
 
 pub checkpoint-refusal-spec : {M : Type 1} → statement M

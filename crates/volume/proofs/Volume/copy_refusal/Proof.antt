@@ -48,16 +48,16 @@ returns-3 c =
 
 is-marked-requires : tie.Need-is-marked-requires
 is-marked-requires c κs =
-    let a = advances (c .before .before .before .before .before .before .before) in
+    let a = advances (c .before .before .before .before .before .before) in
     (history-limits _ (a .is-sound), has-growth _ (a .is-growing) (a .is-sound))
 
 last-test : (c : tie.After-is-marked) (copied : Bool) → copied ≡ c .is-marked .result
-    → let a = c .before .before .before .before .before .before .before .before .before .before .args in cond copied 11 0 ≡ refusal (copyTable (a .self) (a .x .0) (a .len))
+    → let a = c .before .before .before .before .before .before .before .before .before .args in cond copied 11 0 ≡ refusal (copyTable (a .self) (a .x .0) (a .len))
 last-test c copied t =
-    let e = c .before .before .before .before .before .before .before .before .before .advance-refusal .ensures in
-    let h = c .before .before .before .before .before .before .before .before .if1 .left in
-    let m = not-false _ (c .before .before .if3 .left) in
-    copy-left _ _ _ e h _ (block-open (c .before .before .before .before .before)) _ (c .before .before .before .moves-now .ensures) m copied (t ∙ c .is-marked .ensures)
+    let e = c .before .before .before .before .before .before .before .before .advance-refusal .ensures in
+    let h = c .before .before .before .before .before .before .before .if1 .left in
+    let m = not-false _ (c .before .if3 .left) in
+    copy-left _ _ _ e h _ (block-open (c .before .before .before .before)) _ (c .before .before .moves-now .ensures) m copied (t ∙ c .is-marked .ensures)
 
 returns-4 : tie.Need-returns-4
 returns-4 c = last-test (c .before) _ (sym (c .if4 .taken))

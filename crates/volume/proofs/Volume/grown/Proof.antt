@@ -2,7 +2,6 @@
 use mathlib.Core.Path.{_∙_}
 use native.Mathlib.Numerals.{add-one}
 use borrow.Author.Needs.{needs}
-use Rattle.marks.specs.Marks.{noMarks}
 use Rattle.volume.specs.States.{grown}
 use Rattle.volume.proofs.Volume.grown.Statement.{statement}
 use Rattle.volume.proofs.Volume.grown.Tie as tie
@@ -20,7 +19,7 @@ with-growth-requires : tie.Need-with-growth-requires
 with-growth-requires c κs = search needs
 
 returns : tie.Need-returns
-unfolding grown noMarks
+unfolding grown
 returns c = c .with-growth .ensures ∙ simp add-one
 
 pub grown-spec : {M : Type 1} → statement M

@@ -1,9 +1,10 @@
 -- `is_sound` meets its contract. Assumes nothing.
+use Prim.Native.Nat.{_^_, _<_}
 use mathlib.Core.Path.{_≡_, sym, _∙_}
 use mathlib.Core.Bool.{true, false}
 use lib.ListN.{length}
 use borrow.Author.Needs.{needs}
-use borrow.Author.Tests.{eq-eqb, not-true, not-false}
+use borrow.Author.Tests.{eq-eqb, not-true, not-false, lt-ltb}
 use Rattle.base.proofs.Booleans.{and-both}
 use Rattle.marks.specs.Marks.{markCount}
 use Rattle.volume.specs.Sound.{limitsHold, lengthsHold, sound}
@@ -15,9 +16,9 @@ lengths : (c : tie.Start) → lengthsHold (c .args .self) ≡ true
 unfolding lengthsHold
 lengths c =
     let counts : length (c .args .self .counts) ≡ 8 = search needs in
-    let recorded : length (c .args .self .recorded) ≡ markCount = search needs in
-    let copied : length (c .args .self .copied) ≡ markCount = search needs in
-    and-both (eq-eqb _ _ counts) (and-both (eq-eqb _ _ recorded) (eq-eqb _ _ copied))
+    let recorded : c .args .self .recorded < 2 ^ markCount = search needs in
+    let copied : c .args .self .copied < 2 ^ markCount = search needs in
+    and-both (eq-eqb _ _ counts) (and-both (lt-ltb _ _ recorded) (lt-ltb _ _ copied))
 
 limits-hold-requires : tie.Need-limits-hold-requires
 limits-hold-requires c κs = search needs

@@ -12,12 +12,12 @@ returns c = c .spot-of .ensures ∙ rest-spot _ (c .before .if1 .taken) _
 
 live-spot-requires : tie.Need-live-spot-requires
 live-spot-requires c κs =
-    let g = c .before .if1 .left in
-    let p = c .before .before .before .before .pre in
+    let g = c .if1 .left in
+    let p = c .before .before .before .pre in
     (history-limits _ (p .0), (has-growth _ g (p .0), old-block _ g _ (p .1)))
 
 returns-2 : tie.Need-returns-2
-returns-2 c = c .live-spot .ensures ∙ growing-spot _ (c .before .before .if1 .left) _
+returns-2 c = c .live-spot .ensures ∙ growing-spot _ (c .before .if1 .left) _
 
 pub live-spot-spec : {M : Type 1} → statement M
 live-spot-spec = tie.close (tie.spec spot-of-requires returns live-spot-requires returns-2)

@@ -1,7 +1,6 @@
 -- `new_state` meets its contract. Assumes nothing.
 use mathlib.Core.Path.{refl}
 use borrow.Author.Needs.{needs}
-use Rattle.marks.specs.Marks.{noMarks}
 use Rattle.volume.specs.States.{newState}
 use Rattle.volume.proofs.Volume.new_state.Statement.{statement}
 use Rattle.volume.proofs.Volume.new_state.Tie as tie
@@ -10,7 +9,7 @@ array-write-counts : tie.Need-array-write-counts
 array-write-counts c = search needs
 
 returns : tie.Need-returns
-unfolding newState noMarks
+unfolding newState
 returns c = refl
 
 pub new-state-spec : {M : Type 1} → statement M

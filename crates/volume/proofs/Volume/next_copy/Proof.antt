@@ -7,7 +7,7 @@ use Rattle.volume.proofs.Volume.next_copy.Tie as tie
 
 next-copy-requires : tie.Need-next-copy-requires
 next-copy-requires c κs =
-    let p = c .before .before .pre in
+    let p = c .before .pre in
     (history-limits _ (p .0), (has-growth _ (p .1) (p .0), window-below _ (p .1) (p .0)))
 
 returns : tie.Need-returns

@@ -20,7 +20,7 @@ returns-2 c = simp (ne-eqb _ _ (c .before .before .if1 .left), ne-eqb _ _ (c .if
 
 in-growth-requires : tie.Need-in-growth-requires
 unfolding historyOf
-in-growth-requires c κs = let b = c .before .before .before .before .before .before .before in limits-of (b .args .self) (b .pre)
+in-growth-requires c κs = let b = c .before .before .before .before .before in limits-of (b .args .self) (b .pre)
 
 returns-3 : tie.Need-returns-3
 unfolding stageHolds historyOf

@@ -32,6 +32,9 @@ array-read-t26 c = search needs
 array-read-t29 : tie.Need-array-read-t29
 array-read-t29 c = search needs
 
+marks-of-requires : tie.Need-marks-of-requires
+marks-of-requires c κs = search needs
+
 write-record-requires : tie.Need-write-record-requires
 write-record-requires c κs = search needs
 
@@ -43,7 +46,7 @@ unfolding apply recordOf
 returns c =
     let v = c .before .before .before .before .before .before .before .args .self in
     let e : length (v .counts) ≡ 8 = search needs in
-    rw (numbers-listed v e) (c .before .before .write-record .ensures)
+    rw (numbers-listed v e, ← c .before .before .before .before .marks-of .ensures) (c .before .before .write-record .ensures)
 
 pub store-record-spec : {M : Type 1} → statement M
 store-record-spec =
@@ -57,6 +60,7 @@ store-record-spec =
     array-read-t23
     array-read-t26
     array-read-t29
+    marks-of-requires
     write-record-requires
     same-length
     returns)

@@ -8,7 +8,7 @@ use Rattle.volume.proofs.Volume.with_copy.Tie as tie
 
 with-mark-requires : tie.Need-with-mark-requires
 with-mark-requires c κs =
-    let p = c .before .before .before .pre in
+    let p = c .before .pre in
     (history-limits _ (p .0 .0), (has-growth _ (p .0 .1) (p .0 .0), now-moving _ _ (p .1)))
 
 with-growth-requires : tie.Need-with-growth-requires

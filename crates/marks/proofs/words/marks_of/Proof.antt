@@ -5,10 +5,10 @@ use mathlib.Core.Bool.{false}
 use mathlib.Core.List.{_++_}
 use native.Mathlib.Omega.{arith}
 use lib.ListN.{length, take, drop, replicate, length-set}
-use Rattle.capi.specs.Words.{bits}
-use Rattle.capi.proofs.WordsCode.{bits-next, bits-rest, still-unset, bits-all}
-use Rattle.capi.proofs.words.marks_of.Statement.{statement}
-use Rattle.capi.proofs.words.marks_of.Tie as tie
+use Rattle.marks.specs.Words.{bits}
+use Rattle.marks.proofs.WordsCode.{bits-next, bits-rest, still-unset, bits-all}
+use Rattle.marks.proofs.words.marks_of.Statement.{statement}
+use Rattle.marks.proofs.words.marks_of.Tie as tie
 
 -- the first j marks are stored, the others are those of the rest and not set yet
 abbrev Inv-loop : tie.InvT-loop

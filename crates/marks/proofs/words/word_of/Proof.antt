@@ -6,10 +6,10 @@ use mathlib.Core.Logic.{⊎-elim}
 use native.Mathlib.Omega.{arith}
 use lib.ListN.{length, drop, getD}
 use borrow.Author.Needs.{needs}
-use Rattle.capi.specs.Words.{wordOf}
-use Rattle.capi.proofs.WordsCode.{word-none, word-fits, word-next}
-use Rattle.capi.proofs.words.word_of.Statement.{statement}
-use Rattle.capi.proofs.words.word_of.Tie as tie
+use Rattle.marks.specs.Words.{wordOf}
+use Rattle.marks.proofs.MarkWords.{word-none, word-fits, word-next}
+use Rattle.marks.proofs.words.word_of.Statement.{statement}
+use Rattle.marks.proofs.words.word_of.Tie as tie
 
 -- the word of the marks from j on
 abbrev Inv-loop : tie.InvT-loop

@@ -1,9 +1,9 @@
 -- `counts_rise` meets its contract. The loop's invariant: the counts passed rise. Assumes nothing.
 use Prim.Native.Nat.{suc, _-_, _≤_}
 use native.Mathlib.Omega.{arith}
-use Rattle.marks.proofs.SetsCode.{Risen, risen-none, risen-next, not-risen, risen-all}
-use Rattle.marks.proofs.sets.counts_rise.Statement.{statement}
-use Rattle.marks.proofs.sets.counts_rise.Tie as tie
+use Rattle.marks.proofs.CountsCode.{Risen, risen-none, risen-next, not-risen, risen-all}
+use Rattle.marks.proofs.counts.counts_rise.Statement.{statement}
+use Rattle.marks.proofs.counts.counts_rise.Tie as tie
 
 abbrev Inv-loop : tie.InvT-loop
 Inv-loop t counts last₀ k₀ last k = (k ≤ suc t) × Risen k last counts

@@ -5,8 +5,8 @@ use borrow.Author.Needs.{needs}
 use Rattle.layout.specs.Windows.{callsLeftByMarks}
 use Rattle.base.proofs.Counting.{count-most}
 use Rattle.layout.proofs.WindowsCode.{marks-most, windows-most, later-most}
-use Rattle.window.proofs.calls_left_by_marks.Statement.{statement}
-use Rattle.window.proofs.calls_left_by_marks.Tie as tie
+use Rattle.marks.proofs.copies.calls_left_by_marks.Statement.{statement}
+use Rattle.marks.proofs.copies.calls_left_by_marks.Tie as tie
 
 window-count-requires : tie.Need-window-count-requires
 window-count-requires c κs = search needs

@@ -7,9 +7,9 @@ use native.Mathlib.Omega.{arith}
 use Rattle.base.specs.Below.{every}
 use Rattle.base.proofs.Counting.{every-next}
 use Rattle.marks.specs.Marks.{zerosAfter}
-use Rattle.marks.proofs.SetsCode.{zeroAt, zero-early, zero-there, not-zeros}
-use Rattle.marks.proofs.sets.zeros_after.Statement.{statement}
-use Rattle.marks.proofs.sets.zeros_after.Tie as tie
+use Rattle.marks.proofs.CountsCode.{zeroAt, zero-early, zero-there, not-zeros}
+use Rattle.marks.proofs.counts.zeros_after.Statement.{statement}
+use Rattle.marks.proofs.counts.zeros_after.Tie as tie
 
 abbrev Inv-loop : tie.InvT-loop
 Inv-loop t counts i₀ i = (i ≤ 8) × (every (zeroAt counts t) i ≡ true)

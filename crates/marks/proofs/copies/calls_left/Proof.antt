@@ -2,8 +2,8 @@
 use mathlib.Core.Path.{_∙_}
 use Rattle.layout.proofs.HistoryCode.{newest-old}
 use Rattle.layout.proofs.NewestCode.{newest-asks, newest-grows, window-within, calls-are}
-use Rattle.window.proofs.calls_left.Statement.{statement}
-use Rattle.window.proofs.calls_left.Tie as tie
+use Rattle.marks.proofs.copies.calls_left.Statement.{statement}
+use Rattle.marks.proofs.copies.calls_left.Tie as tie
 
 newest-growth-requires : tie.Need-newest-growth-requires
 newest-growth-requires c κs = newest-asks _ _ (c .args .counts) (c .pre .1 .0) (c .pre .0)
