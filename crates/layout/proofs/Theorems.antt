@@ -4,12 +4,14 @@ use mathlib.Core.Path.{_≡_, refl}
 use mathlib.Core.Bool.{Bool, true}
 use mathlib.Core.List.{List, [], _∷_}
 use native.Mathlib.Omega.{arith}
+use lib.ListN.{length}
 use Rattle.base.specs.Below.{count}
 use Rattle.layout.specs.Growth.{minusMod, moves, partOf, newDisk, diskAfter, movesFrom, oldBlockSpot, addedDisk, addedSpot, spotAfter, changeOf, addedIndex, oldDisk, diskBefore, spotBefore, blockAfter}
 use Rattle.layout.specs.declared.Spot.{Spot}
 use Rattle.layout.specs.History.{Within, diskCount, earlier, oldCount, addedCount, rising, spotOf, blockAt}
 use Rattle.layout.specs.Windows.{windows, windowOfRow, oldSpot, moving, windowOf, movingIn, uncopied, callsLeft}
 use Rattle.layout.specs.Limits.{Limits}
+use Rattle.layout.specs.Reasons.{reasonAfter, reasonOf}
 use Rattle.layout.specs.Tally.{Tally, notGrowing, growing, movedBlocks}
 use Rattle.layout.specs.Laws.{RemainderOf, Bijection, Moving, LiveSpots, Marks, MarksFit, Counts, LookUps, AddedAt, ReasonTrue, LayoutLaws}
 use Rattle.layout.specs.Cases.{TableHolds, worked}
@@ -49,6 +51,18 @@ module _ (s : ℕ) (h : List ℕ) (r : rising h ≡ true) (g : 0 < oldCount h) w
   pub disks-sum : oldCount h + addedCount h ≡ diskCount h
   unfolding addedCount oldCount earlier diskCount
   disks-sum = has-growth (λ k. oldCount k + addedCount k ≡ diskCount k) (λ c m k q. omega (arith, rising-up c m k q)) h r g
+
+  -- the spot of block x after the newest growth and its reason, from those before it
+  pub spot-after-newest : (x : ℕ) → spotOf s h x ≡ spotAfter (oldCount h) (addedCount h) s x (oldSpot s h x)
+  unfolding spotOf oldSpot addedCount oldCount earlier diskCount
+  spot-after-newest x = has-growth (λ k. spotOf s k x ≡ spotAfter (oldCount k) (addedCount k) s x (oldSpot s k x)) (λ c m k q. refl) h r g
+
+  pub reason-after-newest : (x : ℕ)
+      → reasonOf s h x ≡ reasonAfter (changeOf (oldCount h) (addedCount h) s x (oldSpot s h x)) (length (earlier h)) (reasonOf s (earlier h) x)
+  unfolding reasonOf oldSpot addedCount oldCount earlier diskCount
+  reason-after-newest x =
+      has-growth (λ k. reasonOf s k x ≡ reasonAfter (changeOf (oldCount k) (addedCount k) s x (oldSpot s k x)) (length (earlier k)) (reasonOf s (earlier k) x))
+      (λ c m k q. refl) h r g
 
   pub moving-blocks : Moving s h
   moving-blocks = has-growth (Moving s) (moving-law s) h r g

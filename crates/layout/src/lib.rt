@@ -6,9 +6,12 @@
 mod growth;
 mod history;
 
+pub use growth::added_index;
 pub use growth::change_of;
 pub use growth::moves_from;
 pub use growth::part_of;
+pub use growth::spot_after;
+pub use growth::spot_before;
 pub use history::address_of;
 pub use history::block_at;
 pub use history::newest_growth;

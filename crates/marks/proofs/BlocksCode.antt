@@ -1,33 +1,32 @@
 -- What the code that looks for a block of a growth under way meets. Assumes nothing.
 use Prim.Native.Nat.{ℕ, zero, suc, _+_, _-_, _*_, _/_, _≤_, _<_}
 use mathlib.Core.Path.{_≡_, refl, sym, _∙_, ap}
-use mathlib.Core.Bool.{Bool, true, false, cond, _&&_, and-self-left}
+use mathlib.Core.Bool.{Bool, true, false, not, _&&_, _||_}
 use mathlib.Core.List.{List}
-use native.Mathlib.Nat.{mul-le-mul}
 use native.Mathlib.Omega.{arith}
-use lib.Dec.{eqb}
-use lib.ListN.{getD}
-use borrow.Author.Tests.{lt-ltb, le-ltb, ltb-true}
-use Rattle.base.proofs.Booleans.{and-left}
+use lib.Dec.{eqb, ltb}
+use lib.ListN.{length, getD}
+use borrow.Author.Tests.{lt-ltb, le-ltb}
+use Rattle.base.proofs.Booleans.{and-left, and-right, by-test}
+use Rattle.layout.specs.declared.Address.{Address}
 use Rattle.layout.specs.declared.Block.{Block}
 use Rattle.layout.specs.declared.GrowthDisks.{GrowthDisks}
 use Rattle.layout.specs.declared.Spot.{Spot}
-use Rattle.layout.specs.Growth.{movesFrom}
-use Rattle.layout.specs.History.{Within, history, diskCount, earlier, oldCount, addedCount, newestGrowth, spotOf, blockAt}
+use Rattle.layout.specs.Growth.{movesFrom, changeOf, addedIndex, spotBefore}
+use Rattle.layout.specs.History.{Within, history, diskCount, earlier, oldCount, addedCount, newestGrowth, rising, spotOf, blockAt}
 use Rattle.layout.specs.Limits.{Limits, Grows}
 use Rattle.layout.specs.Live.{atNewSpot, liveSpot, liveBlock}
+use Rattle.layout.specs.Reasons.{reasonAfter, addressOf}
 use Rattle.layout.specs.Tally.{recordedBy}
 use Rattle.layout.specs.Windows.{windowOfRow, markOfSpot, oldSpot, moving, windowOf, movingIn, markOf, markedBlocks}
-use Rattle.layout.proofs.GrowthCode.{old-blocks-most}
-use Rattle.layout.proofs.HistoryCode.{limits-at, newest-old}
+use Rattle.layout.proofs.HistoryCode.{history-disks, limits-at, newest-old, back-added, back-older}
 use Rattle.layout.proofs.MarkSpots.{mark-below}
 use Rattle.layout.proofs.NewestCode.{old-is, added-is, newest-grows}
-use Rattle.layout.proofs.Theorems.{disks-sum, spots-and-blocks}
+use Rattle.layout.proofs.Theorems.{disks-sum, spots-and-blocks, spot-after-newest, reason-after-newest}
 use Rattle.layout.proofs.WindowsCode.{marks-most}
 use Rattle.marks.specs.declared.LiveBlock.the-variants.{Lives, Nothing}
-use Rattle.marks.specs.declared.OldSpot.{OldSpot}
-use Rattle.marks.specs.declared.OldSpot.the-variants.{Moving, NotMoving}
-use Rattle.marks.specs.Marks.{markCount, movingFrom, asLiveBlock}
+use Rattle.marks.specs.Marks.{markCount, movesAt, markedAt, movedAt, liveFrom, addressFrom, asLiveBlock, difference}
+use Rattle.marks.proofs.MarkWords.{difference-at}
 
 -- ---- the mark of a moving block
 
@@ -52,12 +51,6 @@ module _ (s t : ℕ) (l : List ℕ) (a : Limits s (history t l)) (o : 0 < t) whe
   pub block-before : (x : ℕ) → x < oldCount (history t l) * s → x < diskCount (history (t - 1) l) * s
   block-before x h = rw disks-before h
 
-  pub block-now : (x : ℕ) → x < oldCount (history t l) * s → x < diskCount (history t l) * s
-  block-now x h =
-      let k : oldCount (history t l) ≤ diskCount (history t l) = omega (arith, disks-sum s (history t l) (a .rise) (newest-old s t l o a)) in
-      let m : oldCount (history t l) * s ≤ diskCount (history t l) * s = mul-le-mul k (omega arith) in
-      omega arith
-
   pub spot-before : (p : Spot) → Within s (history t l) p → p .disk < oldCount (history t l) → Within s (history (t - 1) l) p
   spot-before p w h = record { disk = rw disks-before h; row = w .row }
 
@@ -81,18 +74,10 @@ module _ {s t : ℕ} {l : List ℕ} {g : GrowthDisks} (r : ReadGrowth s t l g) w
   pub grows-read : Grows (g .old) (g .added)
   grows-read = newest-grows s (history t l) (r .limits) some-old g (r .growth)
 
-  pub old-most : g .old * s ≤ 16_000_000
-  old-most = old-blocks-most (g .old) (g .added) s grows-read (r .limits .rows-most)
-
   -- what finding the old spot of block x asks
   pub spot-asks : {x : ℕ} → x < g .old * s → Limits s (history (t - 1) l) × (x < diskCount (history (t - 1) l) * s)
   spot-asks h =
       (limits-before s t l (r .limits) (r .grown), block-before s t l (r .limits) (r .grown) _ (rw old-read at h))
-
-  -- a block that is no old one
-  pub not-old : {x : ℕ} → g .old * s ≤ x → NotMoving ≡ movingFrom s (history t l) x
-  unfolding moving movingFrom
-  not-old h = rw (le-ltb _ _ (rw old-read at h))
 
 -- ---- the old spot of block x, which the code has found
 
@@ -108,104 +93,166 @@ module _ {s t : ℕ} {l : List ℕ} {g : GrowthDisks} (r : ReadGrowth s t l g) {
   unfolding oldSpot
   spot-found = e ∙ ap (λ (k : List ℕ). spotOf s k x) (history-before t l (r .grown))
 
-  moving-found : moving s (history t l) x ≡ movesFrom (g .old) (g .added) p
-  unfolding moving
-  moving-found = rw (lt-ltb _ _ (rw (old-read r) at h), old-read r, added-read r, spot-found)
+-- ---- what marks say of an old block, read at its old spot p
 
-  pub found-moving : movesFrom (g .old) (g .added) p ≡ true → Moving p ≡ movingFrom s (history t l) x
-  unfolding movingFrom
-  found-moving k = rw (moving-found, k, spot-found)
+module _ (m n w : ℕ) (marks : List Bool) (p : Spot) where
+  pub unmoving-unmarked : movesFrom m n p ≡ false → false ≡ markedAt m n w marks p
+  unfolding markedAt movesAt
+  unmoving-unmarked e = rw e
 
-  pub found-unmoving : movesFrom (g .old) (g .added) p ≡ false → NotMoving ≡ movingFrom s (history t l) x
-  unfolding movingFrom
-  found-unmoving k = rw (moving-found, k)
+  pub moving-marked : movesFrom m n p ≡ true → (r : Bool) → r ≡ (eqb (p .row .0 / (m + n)) w && getD marks (markOfSpot m n p) false)
+      → r ≡ markedAt m n w marks p
+  unfolding markedAt movesAt windowOfRow
+  moving-marked e r f = rw e f
 
--- ---- the old spot of block x, which `moving_from` has answered
+  pub unmoving-unmoved : movesFrom m n p ≡ false → false ≡ movedAt m n w marks p
+  unfolding movedAt
+  unmoving-unmoved e = rw e
 
--- what the two arms of `let OldSpot::Moving(p)` know
-choice-moving : (b : Bool) (q p : Spot) → cond b (Moving q) NotMoving ≡ Moving p → (b ≡ true) × (p ≡ q)
-choice-moving true q p e = (refl, cc)
-choice-moving false q p e = (cc, cc)
-
-choice-unmoving : (b : Bool) (q : Spot) → cond b (Moving q) NotMoving ≡ NotMoving → b ≡ false
-choice-unmoving true q e = cc
-choice-unmoving false q e = refl
-
-pub told-unmoving : (s : ℕ) (h : List ℕ) (x : ℕ) (a : OldSpot) → a ≡ movingFrom s h x → a ≡ NotMoving → moving s h x ≡ false
-unfolding movingFrom
-told-unmoving s h x a e f = choice-unmoving (moving s h x) (oldSpot s h x) (sym e ∙ f)
-
-pub record MovingSpot (s t : ℕ) (l : List ℕ) (g : GrowthDisks) (x : ℕ) (p : Spot) : Type 0 where
-  pub read : ReadGrowth s t l g
-  pub moves : moving s (history t l) x ≡ true
-  pub spot : p ≡ oldSpot s (history t l) x
-
-pub told-moving : {s t : ℕ} {l : List ℕ} {g : GrowthDisks} {x : ℕ} {p : Spot} (a : OldSpot) → ReadGrowth s t l g → a ≡ movingFrom s (history t l) x
-    → a ≡ Moving p → MovingSpot s t l g x p
-unfolding movingFrom
-told-moving {s} {t} {l} {x = x} {p = p} a r e f =
-    let k = choice-moving (moving s (history t l) x) (oldSpot s (history t l) x) p (sym e ∙ f) in
-    record { read = r; moves = k .0; spot = k .1 }
-
-module _ {s t : ℕ} {l : List ℕ} {g : GrowthDisks} {x : ℕ} {p : Spot} (f : MovingSpot s t l g x p) where
-  -- what finding its mark asks
-  pub mark-asks : Grows (g .old) (g .added) × ((p .disk < g .old) × (movesFrom (g .old) (g .added) p ≡ true))
-  unfolding moving oldSpot
-  mark-asks =
-      let h : x < g .old * s = rw (old-read (f .read)) (ltb-true _ _ (and-left _ _ (f .moves))) in
-      let e : p ≡ spotOf s (history (t - 1) l) x = rw (history-before t l (f .read .grown)) (f .spot) in
-      (grows-read (f .read), (on-old-disk (f .read) h e, sym (moving-found (f .read) h e) ∙ f .moves))
-
-  pub window-told : p .row .0 / (g .old + g .added) ≡ windowOf s (history t l) x
-  unfolding windowOf windowOfRow
-  window-told = rw (old-read (f .read), added-read (f .read), f .spot)
-
-  pub mark-told : markOfSpot (g .old) (g .added) p ≡ markOf s (history t l) x
-  unfolding markOf
-  mark-told = rw (old-read (f .read), added-read (f .read), f .spot)
-
-  pub mark-small : markOfSpot (g .old) (g .added) p < markCount
-  mark-small = let k = mark-asks in mark-fits (g .old) (g .added) p (k .0) (k .1)
-
-  -- whether it is of window w with its mark set
-  pub mark-set : (w : ℕ) (marks : List Bool) (r : Bool)
-      → r ≡ (eqb (p .row .0 / (g .old + g .added)) w && getD marks (markOfSpot (g .old) (g .added) p) false)
-      → r ≡ markedBlocks s (history t l) w marks x
-  unfolding markedBlocks movingIn
-  mark-set w marks r e = rw (f .moves) (rw (window-told, mark-told) at e)
-
--- ---- marked blocks, and blocks at their new spots
-
-pub unmoving-old : (s : ℕ) (h : List ℕ) (moved : ℕ → Bool) (x : ℕ) → moving s h x ≡ false → false ≡ atNewSpot s h moved x
-unfolding atNewSpot
-unmoving-old s h moved x e = rw e
-
-module _ (s : ℕ) (h : List ℕ) (w x : ℕ) where
-  pub unmoving-unmarked : (marks : List Bool) → moving s h x ≡ false → false ≡ markedBlocks s h w marks x
-  unfolding markedBlocks movingIn
-  unmoving-unmarked marks e = rw e
-
-  pub passed-new : (recorded : ℕ → Bool) → moving s h x ≡ true → windowOf s h x < w → true ≡ atNewSpot s h (recordedBy s h w recorded) x
-  unfolding atNewSpot recordedBy
-  passed-new recorded e f = rw (e, lt-ltb _ _ f)
+  pub passed-moved : movesFrom m n p ≡ true → p .row .0 / (m + n) < w → true ≡ movedAt m n w marks p
+  unfolding movedAt windowOfRow
+  passed-moved e f = rw (e, lt-ltb _ _ f)
 
   -- of a window not passed, those that are marked
-  pub marked-new : (marks : List Bool) (r : Bool) → r ≡ markedBlocks s h w marks x → moving s h x ≡ true → w ≤ windowOf s h x
-      → r ≡ atNewSpot s h (recordedBy s h w (markedBlocks s h w marks)) x
-  unfolding atNewSpot recordedBy markedBlocks movingIn
-  marked-new marks r q e f =
-      rw (q, e, le-ltb _ _ f) (sym (and-self-left (eqb (windowOf s h x) w) (getD marks (markOf s h x) false)))
+  pub marked-moved : movesFrom m n p ≡ true → w ≤ p .row .0 / (m + n) → (r : Bool)
+      → r ≡ (eqb (p .row .0 / (m + n)) w && getD marks (markOfSpot m n p) false) → r ≡ movedAt m n w marks p
+  unfolding movedAt markedAt movesAt windowOfRow
+  marked-moved e f r g = rw (e, le-ltb _ _ f) g
+
+-- copied and not recorded: one test of the marks that are in one set and not in the other
+both-told : (a b g : Bool) → (a && (b && not g)) ≡ ((a && b) && not (a && g))
+both-told true b g = refl
+both-told false b g = refl
+
+pub waiting-told : (m n w : ℕ) (copied recorded : List Bool) (p : Spot) → Grows m n → p .disk < m → (left : List Bool) → left ≡ difference copied recorded
+    → (r : Bool) → r ≡ markedAt m n w left p → r ≡ (markedAt m n w copied p && not (markedAt m n w recorded p))
+unfolding markedAt movesAt
+waiting-told m n w copied recorded p g h left e r f =
+    by-test (movesFrom m n p)
+    (λ k.
+    let d : getD left (markOfSpot m n p) false ≡ (getD copied (markOfSpot m n p) false && not (getD recorded (markOfSpot m n p) false)) =
+    rw e (difference-at copied recorded (markOfSpot m n p) (mark-fits m n p g (h, k))) in
+    rw (f, d) (both-told (movesAt m n w p) (getD copied (markOfSpot m n p) false) (getD recorded (markOfSpot m n p) false)))
+    (λ k. rw (f, k))
+
+-- ---- and at the old spot of block x
+
+-- a marked block is one of window w
+window-twice : (a l e g : Bool) → (a && (l || ((a && e) && g))) ≡ (a && (l || (e && ((a && e) && g))))
+window-twice false l e g = refl
+window-twice true l true g = refl
+window-twice true l false g = refl
+
+module _ (s : ℕ) (h : List ℕ) (w x : ℕ) (k : x < oldCount h * s) where
+  pub moves-at-spot : movesAt (oldCount h) (addedCount h) w (oldSpot s h x) ≡ movingIn s h w x
+  unfolding movesAt movingIn moving windowOf
+  moves-at-spot = rw (lt-ltb x (oldCount h * s) k)
+
+  pub marked-at-spot : (marks : List Bool) → markedAt (oldCount h) (addedCount h) w marks (oldSpot s h x) ≡ markedBlocks s h w marks x
+  unfolding markedAt markedBlocks markOf
+  marked-at-spot marks = rw moves-at-spot
+
+  moved-at-spot : (marks : List Bool)
+      → movedAt (oldCount h) (addedCount h) w marks (oldSpot s h x) ≡ atNewSpot s h (recordedBy s h w (markedBlocks s h w marks)) x
+  unfolding movedAt markedAt movesAt atNewSpot recordedBy markedBlocks movingIn moving windowOf markOf
+  moved-at-spot marks =
+      let m = oldCount h in
+      let n = addedCount h in
+      let p = oldSpot s h x in
+      rw (lt-ltb x (oldCount h * s) k)
+      (window-twice (movesFrom m n p) (ltb (windowOfRow m n (p .row)) w) (eqb (windowOfRow m n (p .row)) w) (getD marks (markOfSpot m n p) false))
 
 -- ---- live spots and blocks
 
-pub live-new : (s : ℕ) (h : List ℕ) (moved : ℕ → Bool) (x : ℕ) → atNewSpot s h moved x ≡ true → spotOf s h x ≡ liveSpot s h moved x
-unfolding liveSpot
-live-new s h moved x e = rw e
+-- the live spot, from the old one
+pub live-from-spot : (s : ℕ) (h : List ℕ) (w x : ℕ) → rising h ≡ true → 0 < oldCount h → x < oldCount h * s → (marks : List Bool)
+    → liveFrom (oldCount h) (addedCount h) s w marks x (oldSpot s h x) ≡ liveSpot s h (recordedBy s h w (markedBlocks s h w marks)) x
+unfolding liveFrom liveSpot
+live-from-spot s h w x r g k marks = rw (moved-at-spot s h w x k marks, ← spot-after-newest s h r g x)
 
-pub live-old : (s t : ℕ) (l : List ℕ) → 0 < t → (moved : ℕ → Bool) (x : ℕ) → atNewSpot s (history t l) moved x ≡ false
-    → spotOf s (history (t - 1) l) x ≡ liveSpot s (history t l) moved x
-unfolding liveSpot oldSpot
-live-old s t l o moved x e = rw (e, history-before t l o)
+-- and why it is there: the reason before the growth, or that it moved
+module _ (s : ℕ) (h : List ℕ) (w x k : ℕ) (below : x < oldCount h * s) (marks : List Bool) where
+  abbrev newest : (old : Address) → Address
+  newest old = addressFrom (oldCount h) (addedCount h) s k w marks x old
+
+  abbrev moved : Bool
+  moved = atNewSpot s h (recordedBy s h w (markedBlocks s h w marks)) x
+
+  moved-told : movedAt (oldCount h) (addedCount h) w marks (spotOf s (earlier h) x) ≡ moved
+  unfolding oldSpot
+  moved-told = moved-at-spot s h w x below marks
+
+  pub address-stays : moved ≡ false → newest (addressOf s (earlier h) x) ≡ addressOf s (earlier h) x
+  unfolding addressFrom addressOf
+  address-stays e = rw (moved-told, e)
+
+  moves-then : moved ≡ true → movesFrom (oldCount h) (addedCount h) (spotOf s (earlier h) x) ≡ true
+  unfolding atNewSpot moving oldSpot
+  moves-then e = and-right (ltb x (oldCount h * s)) _ (and-left (moving s h x) _ e)
+
+  pub address-moved : rising h ≡ true → 0 < oldCount h → k ≡ length (earlier h) → moved ≡ true → newest (addressOf s (earlier h) x) ≡ addressOf s h x
+  unfolding addressFrom addressOf reasonAfter changeOf oldSpot
+  address-moved r g q e =
+      rw (moved-told, e, q, spot-after-newest s h r g x, reason-after-newest s h r g x, lt-ltb x (oldCount h * s) below, moves-then e)
+
+-- ---- spots of old blocks
+
+-- the block that had an old spot, and its spot
+module _ (s t : ℕ) (l : List ℕ) (a : Limits s (history t l)) (o : 0 < t) (p : Spot) (w : Within s (history (t - 1) l) p) where
+  block-of-old : blockAt s (history (t - 1) l) p < oldCount (history t l) * s
+  block-of-old =
+      rw (← disks-before s t l a o) (spots-and-blocks s (history (t - 1) l) (limits-before s t l a o .rise) .block-within p w)
+
+  spot-of-old : oldSpot s (history t l) (blockAt s (history (t - 1) l) p) ≡ p
+  unfolding oldSpot
+  spot-of-old =
+      rw (← history-before t l o) (spots-and-blocks s (history (t - 1) l) (limits-before s t l a o .rise) .spot-of-block p w)
+
+module _ {s t : ℕ} {l : List ℕ} {g : GrowthDisks} (r : ReadGrowth s t l g) where
+  -- whether the block that had an old spot has left it
+  pub left-told : (w : ℕ) (marks : List Bool) (p : Spot) → Within s (history (t - 1) l) p
+      → movedAt (g .old) (g .added) w marks p
+      ≡ atNewSpot s (history t l) (recordedBy s (history t l) w (markedBlocks s (history t l) w marks)) (blockAt s (history (t - 1) l) p)
+  left-told w marks p k =
+      let a = r .limits in
+      let o = r .grown in
+      rw (old-read r, added-read r)
+      (rw (spot-of-old s t l a o p k) at (moved-at-spot s (history t l) w (blockAt s (history (t - 1) l) p) (block-of-old s t l a o p k) marks))
+
+  -- a spot after the growth, and one growth back
+  old-then : g .old ≡ getD l (t - 1) 0
+  old-then = old-read r ∙ sym (disks-before s t l (r .limits) (r .grown)) ∙ history-disks (t - 1) l
+
+  added-then : g .added ≡ getD l t 0 - getD l (t - 1) 0
+  unfolding addedCount
+  added-then = added-read r ∙ rw (history-disks t l, ← old-read r, old-then)
+
+  module _ (p : Spot) (k : Within s (history t l) p) where
+    pub index-asks : Grows (g .old) (g .added) × (p .disk < g .old + g .added)
+    index-asks = (grows-read r, rw (old-read r, added-read r, disks-sum s (history t l) (r .limits .rise) (some-old r)) (k .disk))
+
+    module _ (i : ℕ) (e : i ≡ addedIndex (g .old) (g .added) (p .disk) (p .row .0)) where
+      index-then : i ≡ addedIndex (getD l (t - 1) 0) (getD l t 0 - getD l (t - 1) 0) (p .disk) (p .row .0)
+      index-then = rw (old-then, added-then) at e
+
+      -- a block that the growth added, which is not open
+      pub added-there : i < g .added → oldCount (history t l) * s ≤ blockAt s (history t l) p
+      added-there h =
+          let o = r .grown in
+          let b = back-added s t (t - 1) t l (r .limits) (omega arith) (omega arith) p i (p .row .0) refl index-then (rw added-then at h) in
+          rw (← old-read r, old-then) (omega (arith, b))
+
+      -- an old one, at its spot before
+      pub before-there : g .added ≤ i → (q : Spot) → q ≡ spotBefore (g .old) (g .added) p
+          → Within s (history (t - 1) l) q × (blockAt s (history (t - 1) l) q ≡ blockAt s (history t l) p)
+      before-there h q f =
+          let o = r .grown in
+          let b = back-older s t (t - 1) t l (r .limits) (omega arith) (omega arith) p q i (p .row .0) refl index-then (rw added-then at h) k (rw (old-then, added-then) at f) in
+          (b .0, b .2)
+
+pub added-unmoved : (s : ℕ) (h : List ℕ) (moved : ℕ → Bool) (x : ℕ) → oldCount h * s ≤ x → false ≡ atNewSpot s h moved x
+unfolding atNewSpot moving
+added-unmoved s h moved x k = rw (le-ltb _ _ k)
 
 -- at a spot of the old disks lives its block of before the growth, unless that is at its new spot
 module _ (s t : ℕ) (l : List ℕ) (o : 0 < t) (moved : ℕ → Bool) (p : Spot) (x : Block) (h : p .disk < oldCount (history t l))

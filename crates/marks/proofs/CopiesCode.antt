@@ -16,29 +16,18 @@ use Rattle.layout.specs.declared.GrowthDisks.{GrowthDisks}
 use Rattle.layout.specs.declared.Part.{Part}
 use Rattle.layout.specs.declared.Spot.{Spot}
 use Rattle.layout.specs.Growth.{partOf}
-use Rattle.layout.specs.History.{Within, history, oldCount, addedCount, spotOf, blockAt}
+use Rattle.layout.specs.History.{Within, history, oldCount, addedCount, blockAt}
 use Rattle.layout.specs.Limits.{Limits, mostRows}
 use Rattle.layout.specs.Windows.{windows, rowExists, spotOfMark, oldSpot, moving, windowOf, movingIn, markOf, blockOfMark, markedBlocks, partMoved, nextOfWindow, allCopied}
 use Rattle.layout.proofs.MarkSpots.{mark-spot-disk}
-use Rattle.layout.proofs.NextBlocks.{leftAt, moving-old, moving-in-old}
+use Rattle.layout.proofs.NextBlocks.{leftAt, moving-in-old}
 use Rattle.layout.proofs.Theorems.{some-added, spots-and-blocks}
 use Rattle.layout.proofs.WindowsCode.{marks-most, windows-most}
 use Rattle.marks.specs.declared.NextCopy.the-variants.{CopyOf, AllCopied}
 use Rattle.marks.specs.Marks.{markCount, within, movingMarks, firstUnmarked, asNextCopy}
-use Rattle.marks.proofs.BlocksCode.{ReadGrowth, MovingSpot, history-before, disks-before, limits-before, some-old, old-read, added-read, grows-read, spot-found}
+use Rattle.marks.proofs.BlocksCode.{ReadGrowth, history-before, disks-before, limits-before, some-old, old-read, added-read, grows-read}
 use Rattle.marks.proofs.MarkSets.{marks-law, all-by-marks}
 use Rattle.marks.proofs.MarkWords.{unmarkedAt}
-
--- ---- a moving block of window w
-
-module _ (s : ℕ) (h : List ℕ) (w x : ℕ) where
-  pub unmoving-now : moving s h x ≡ false → false ≡ movingIn s h w x
-  unfolding movingIn
-  unmoving-now e = rw e
-
-  pub moving-now : (k : ℕ) → moving s h x ≡ true → k ≡ windowOf s h x → eqb k w ≡ movingIn s h w x
-  unfolding movingIn
-  moving-now k e f = rw (e, f)
 
 -- ---- marks and blocks that are left to copy
 
@@ -118,13 +107,6 @@ module _ (s : ℕ) (h : List ℕ) (l : Limits s h) (g : 0 < oldCount h) (w : ℕ
 -- ---- the newest growth, which the code has read
 
 module _ {s t : ℕ} {l : List ℕ} {g : GrowthDisks} (r : ReadGrowth s t l g) where
-  -- the old spot of a moving block, which the code has found
-  pub old-block : (x : ℕ) → moving s (history t l) x ≡ true → x < g .old * s
-  old-block x e = rw (old-read r) (moving-old s (history t l) x e)
-
-  pub moving-spot : (x : ℕ) (p : Spot) → moving s (history t l) x ≡ true → p ≡ spotOf s (history (t - 1) l) x → MovingSpot s t l g x p
-  moving-spot x p e f = record { read = r; moves = e; spot = spot-found r (old-block x e) f }
-
   pub window-most : (w : ℕ) → w < windows (oldCount (history t l)) (addedCount (history t l)) s → w ≤ mostRows
   window-most w h =
       let n = some-added s (history t l) (r .limits .rise) (some-old r) in
@@ -197,7 +179,7 @@ module _ {s t : ℕ} {l : List ℕ} {g : GrowthDisks} {w : ℕ} {marks : List Bo
 
     pub next-told : (x : Block) (part : Part) → x .0 ≡ blockAt s (history (t - 1) l) p
         → part ≡ partOf (g .old) (g .added) (p .row .0 % (g .old + g .added))
-        → CopyOf x part ≡ asNextCopy s (history t l) (nextOfWindow s (history t l) w (markedBlocks s (history t l) w marks))
+        → CopyOf x part p ≡ asNextCopy s (history t l) (nextOfWindow s (history t l) w (markedBlocks s (history t l) w marks))
     unfolding asNextCopy partMoved
     next-told x part k q =
         rw (f .next, ← its-block (x .0) k, its-old-spot (x .0) k, ← old-read (f .read), ← added-read (f .read), q)

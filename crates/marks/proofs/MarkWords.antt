@@ -43,7 +43,7 @@ within-word a b h =
 
 -- ---- the marks of a that are not in b
 
-difference-at : (a b : List Bool) (j : ℕ) → j < markCount → getD (difference a b) j false ≡ (getD a j false && not (getD b j false))
+pub difference-at : (a b : List Bool) (j : ℕ) → j < markCount → getD (difference a b) j false ≡ (getD a j false && not (getD b j false))
 unfolding difference
 difference-at a b j h = getD-table false (λ i. getD a i false && not (getD b i false)) markCount j h
 

@@ -6,10 +6,12 @@ use mathlib.Core.Option.{Option, none, some}
 use lib.Dec.{eqb, leb, ltb}
 use lib.ListN.{getD, replicate}
 use Rattle.base.specs.Below.{every, first, table}
+use Rattle.layout.specs.declared.Address.{Address}
+use Rattle.layout.specs.declared.Reason.the-variants.{MovedBy}
+use Rattle.layout.specs.declared.Spot.{Spot}
+use Rattle.layout.specs.Growth.{partOf, rowInWindow, movesFrom, spotAfter}
 use Rattle.layout.specs.History.{oldCount, addedCount}
-use Rattle.layout.specs.Windows.{windows, rowExists, oldSpot, moving, partMoved}
-use Rattle.marks.specs.declared.OldSpot.{OldSpot}
-use Rattle.marks.specs.declared.OldSpot.the-variants.{Moving, NotMoving}
+use Rattle.layout.specs.Windows.{windows, windowOfRow, markOfSpot, rowExists, oldSpot, partMoved}
 use Rattle.marks.specs.declared.LiveBlock.{LiveBlock}
 use Rattle.marks.specs.declared.LiveBlock.the-variants.{Lives, Nothing}
 use Rattle.marks.specs.declared.NextCopy.{NextCopy}
@@ -56,9 +58,32 @@ inGrowth t s h w recorded copied =
     && (within copied (movingMarksIn s h w)
     && not (within (movingMarksIn s h w) recorded))))
 
--- where block x moves from in the newest growth, as the code answers it
-unfoldable pub movingFrom : (s : ℕ) (h : List ℕ) (x : ℕ) → OldSpot
-movingFrom s h x = cond (moving s h x) (Moving (oldSpot s h x)) NotMoving
+-- ---- what the marks of window w say of an old block, in a growth from m disks by n; p is its old spot
+
+-- it is a moving block of window w
+unfoldable pub movesAt : (m n w : ℕ) (p : Spot) → Bool
+movesAt m n w p = movesFrom m n p && eqb (windowOfRow m n (p .row)) w
+
+-- and its mark is set
+unfoldable pub markedAt : (m n w : ℕ) (marks : List Bool) (p : Spot) → Bool
+markedAt m n w marks p = movesAt m n w p && getD marks (markOfSpot m n p) false
+
+-- "x is at its new spot if it moves and its window is below w, or is w with its recorded mark set"
+unfoldable pub movedAt : (m n w : ℕ) (recorded : List Bool) (p : Spot) → Bool
+movedAt m n w recorded p = movesFrom m n p && (ltb (windowOfRow m n (p .row)) w || markedAt m n w recorded p)
+
+-- the live spot of the old block x
+unfoldable pub liveFrom : (m n s w : ℕ) (recorded : List Bool) (x : ℕ) (p : Spot) → Spot
+liveFrom m n s w recorded x p = cond (movedAt m n w recorded p) (spotAfter m n s x p) p
+
+-- and why it is there, the growth's number being k
+unfoldable pub addressFrom : (m n s k w : ℕ) (recorded : List Bool) (x : ℕ) (old : Address) → Address
+addressFrom m n s k w recorded x old =
+    cond (movedAt m n w recorded (old .spot))
+    (record { spot = spotAfter m n s x (old .spot); reason = MovedBy k (partOf m n (rowInWindow m n (old .spot .row))) })
+    old
+
+-- ---- what the code answers
 
 -- a block that lives at a spot, or none, as the code answers it
 unfoldable pub asLiveBlock : (found : Option ℕ) → LiveBlock
@@ -69,7 +94,7 @@ asLiveBlock (some x) = Lives (record { 0 = x })
 unfoldable pub firstUnmarked : (m n s w : ℕ) (marks : List Bool) → ℕ
 firstUnmarked m n s w marks = first (λ j. rowExists m n s w j && not (getD marks j false)) (m * n)
 
--- the block to copy next with its part, or none, as the code answers it
+-- the block to copy next with its part and its old spot, or none, as the code answers it
 unfoldable pub asNextCopy : (s : ℕ) (h : List ℕ) (found : Option ℕ) → NextCopy
 asNextCopy s h none = AllCopied
-asNextCopy s h (some x) = CopyOf (record { 0 = x }) (partMoved s h x)
+asNextCopy s h (some x) = CopyOf (record { 0 = x }) (partMoved s h x) (oldSpot s h x)

@@ -1,39 +1,25 @@
-// What the marks of window w say of the blocks of a growth under way.
+// What the marks of window w say of the blocks of a growth under way, from m disks by n. An old block is known by its
+// old spot.
 ghost use mathlib.Core.Path.{_≡_};
-ghost use mathlib.Core.Bool.{true, false, _&&_};
-ghost use Prim.Native.Nat.{_+_, _*_, _/_, _<_};
+ghost use mathlib.Core.Bool.{true, false, not, _&&_};
+ghost use Prim.Native.Nat.{_+_, _/_, _<_, _≤_};
 ghost use lib.Dec.{eqb};
 ghost use lib.ListN.{getD};
 ghost use Rattle.layout.specs.Growth.{movesFrom};
-ghost use Rattle.layout.specs.History.{Within, history, oldCount};
-ghost use Rattle.layout.specs.Limits.{Limits, Grows};
-ghost use Rattle.layout.specs.Live.{atNewSpot, liveSpot, liveBlock};
+ghost use Rattle.layout.specs.History.{Within, history};
+ghost use Rattle.layout.specs.Limits.{Limits, Grows, mostRows};
+ghost use Rattle.layout.specs.Live.{liveBlock};
 ghost use Rattle.layout.specs.Tally.{recordedBy};
 ghost use Rattle.layout.specs.Windows.{markOfSpot, markedBlocks};
-ghost use Rattle.marks.specs.Marks.{movingFrom, asLiveBlock};
+ghost use Rattle.marks.specs.Marks.{markedAt, movedAt, liveFrom, addressFrom, asLiveBlock};
 ghost use Rattle.marks.specs.Words.{marksOf};
 use super::LiveBlock;
-use super::OldSpot;
 use super::words::has_mark;
+use super::words::without;
+use layout::Address;
 use layout::Block;
+use layout::Reason;
 use layout::Spot;
-
-// Where x moves from in the newest growth.
-pub(crate) fn moving_from(counts: [usize; 8], t: usize, s: usize, x: Block) -> OldSpot
-    requires { ⌜ Limits s (history t counts) ⌝ }
-    requires { ⌜ 0 < t ⌝ }
-    ensures { λ r. ⌜ r ≡ movingFrom s (history t counts) (x .0) ⌝ }
-{
-    let g = layout::newest_growth(counts, t);
-    if g.old * s <= x.0 {
-        return OldSpot::NotMoving;
-    }
-    let p = layout::spot_of(counts, t - 1, s, x);
-    if layout::moves_from(g.old, g.added, p) {
-        return OldSpot::Moving(p);
-    }
-    OldSpot::NotMoving
-}
 
 // Is the moving block at the old spot p one of window w with its mark set?
 fn is_marked_at(m: usize, n: usize, w: usize, marks: usize, p: Spot) -> bool
@@ -49,60 +35,82 @@ fn is_marked_at(m: usize, n: usize, w: usize, marks: usize, p: Spot) -> bool
     has_mark(marks, j)
 }
 
-// Is x a moving block of window w with its mark set?
-pub fn is_marked(counts: [usize; 8], t: usize, s: usize, w: usize, marks: usize, x: Block) -> bool
-    requires { ⌜ Limits s (history t counts) ⌝ }
-    requires { ⌜ 0 < t ⌝ }
-    ensures { λ r. ⌜ r ≡ markedBlocks s (history t counts) w (marksOf marks) (x .0) ⌝ }
+// Is the block at the old spot p a moving block of window w with its mark set?
+pub fn is_marked(m: usize, n: usize, w: usize, marks: usize, p: Spot) -> bool
+    requires { ⌜ Grows m n ⌝ }
+    requires { ⌜ p .disk < m ⌝ }
+    ensures { λ r. ⌜ r ≡ markedAt m n w (marksOf marks) p ⌝ }
 {
-    let OldSpot::Moving(p) = moving_from(counts, t, s, x) else {
+    if !layout::moves_from(m, n, p) {
         return false;
-    };
-    let g = layout::newest_growth(counts, t);
-    is_marked_at(g.old, g.added, w, marks, p)
+    }
+    is_marked_at(m, n, w, marks, p)
 }
 
-// Is x at its new spot?
-pub fn at_new_spot(
-    counts: [usize; 8],
-    t: usize,
-    s: usize,
-    w: usize,
-    recorded: usize,
-    x: Block,
-) -> bool
-    requires { ⌜ Limits s (history t counts) ⌝ }
-    requires { ⌜ 0 < t ⌝ }
-    ensures { λ r. ⌜ r ≡ atNewSpot s (history t counts) (recordedBy s (history t counts) w (markedBlocks s (history t counts) w (marksOf recorded))) (x .0) ⌝ }
+// Is the block at the old spot p copied but not recorded?
+pub fn is_waiting(m: usize, n: usize, w: usize, recorded: usize, copied: usize, p: Spot) -> bool
+    requires { ⌜ Grows m n ⌝ }
+    requires { ⌜ p .disk < m ⌝ }
+    ensures { λ r. ⌜ r ≡ (markedAt m n w (marksOf copied) p && not (markedAt m n w (marksOf recorded) p)) ⌝ }
 {
-    let OldSpot::Moving(p) = moving_from(counts, t, s, x) else {
+    let waiting = without(copied, recorded);
+    is_marked(m, n, w, waiting, p)
+}
+
+// Has the block with the old spot p moved to its new one?
+fn at_new_spot(m: usize, n: usize, w: usize, recorded: usize, p: Spot) -> bool
+    requires { ⌜ Grows m n ⌝ }
+    requires { ⌜ p .disk < m ⌝ }
+    ensures { λ r. ⌜ r ≡ movedAt m n w (marksOf recorded) p ⌝ }
+{
+    if !layout::moves_from(m, n, p) {
         return false;
-    };
-    let g = layout::newest_growth(counts, t);
+    }
     let row = p.row;
-    if row.0 / (g.old + g.added) < w {
+    if row.0 / (m + n) < w {
         return true;
     }
-    is_marked_at(g.old, g.added, w, recorded, p)
+    is_marked_at(m, n, w, recorded, p)
 }
 
-// The live spot of x.
-pub fn live_spot(
-    counts: [usize; 8],
-    t: usize,
+// The live spot of block x, where p is its old spot.
+pub fn live_from(m: usize, n: usize, s: usize, w: usize, recorded: usize, x: Block, p: Spot) -> Spot
+    requires { ⌜ Grows m n ⌝ }
+    requires { ⌜ (s ≤ mostRows) × (p .disk < m) ⌝ }
+    ensures { λ r. ⌜ r ≡ liveFrom m n s w (marksOf recorded) (x .0) p ⌝ }
+{
+    if at_new_spot(m, n, w, recorded, p) {
+        return layout::spot_after(m, n, s, x.0, p);
+    }
+    p
+}
+
+// The live spot of block x in growth k and why it is there, where `old` has its old spot and why it was there.
+pub fn address_from(
+    m: usize,
+    n: usize,
     s: usize,
+    k: usize,
     w: usize,
     recorded: usize,
     x: Block,
-) -> Spot
-    requires { ⌜ Limits s (history t counts) ⌝ }
-    requires { ⌜ (0 < t) × (x .0 < oldCount (history t counts) * s) ⌝ }
-    ensures { λ r. ⌜ r ≡ liveSpot s (history t counts) (recordedBy s (history t counts) w (markedBlocks s (history t counts) w (marksOf recorded))) (x .0) ⌝ }
+    old: Address,
+) -> Address
+    requires { ⌜ Grows m n ⌝ }
+    requires { ⌜ (s ≤ mostRows) × (old .spot .disk < m) ⌝ }
+    ensures { λ r. ⌜ r ≡ addressFrom m n s k w (marksOf recorded) (x .0) old ⌝ }
 {
-    if at_new_spot(counts, t, s, w, recorded, x) {
-        return layout::spot_of(counts, t, s, x);
+    let p = old.spot;
+    if !at_new_spot(m, n, w, recorded, p) {
+        return old;
     }
-    layout::spot_of(counts, t - 1, s, x)
+    let row = p.row;
+    let part = layout::part_of(m, n, row.0 % (m + n));
+    let spot = layout::spot_after(m, n, s, x.0, p);
+    Address {
+        spot,
+        reason: Reason::MovedBy(k, part),
+    }
 }
 
 // The block that lives at p.
@@ -120,16 +128,21 @@ pub fn live_block(
 {
     let g = layout::newest_growth(counts, t);
     let m = g.old;
+    let n = g.added;
     if p.disk < m {
-        let old = layout::block_at(counts, t - 1, s, p);
-        if at_new_spot(counts, t, s, w, recorded, old) {
+        if at_new_spot(m, n, w, recorded, p) {
             return LiveBlock::Nothing;
         }
-        return LiveBlock::Lives(old);
+        return LiveBlock::Lives(layout::block_at(counts, t - 1, s, p));
     }
-    let x = layout::block_at(counts, t, s, p);
-    if at_new_spot(counts, t, s, w, recorded, x) {
-        return LiveBlock::Lives(x);
+    let row = p.row;
+    // A block that the growth adds is not open.
+    if layout::added_index(m, n, p.disk, row.0) < n {
+        return LiveBlock::Nothing;
+    }
+    let old = layout::spot_before(m, n, p);
+    if at_new_spot(m, n, w, recorded, old) {
+        return LiveBlock::Lives(layout::block_at(counts, t - 1, s, old));
     }
     LiveBlock::Nothing
 }

@@ -4,43 +4,39 @@ ghost use mathlib.Core.Bool.{true, false, not, _&&_};
 ghost use Prim.Native.Nat.{_<_, _≤_, _*_};
 ghost use lib.ListN.{getD, set};
 ghost use Rattle.base.specs.Below.{count};
+ghost use Rattle.layout.specs.Growth.{movesFrom};
 ghost use Rattle.layout.specs.History.{history, oldCount, addedCount};
 ghost use Rattle.layout.specs.Limits.{Limits, Grows, mostRows};
-ghost use Rattle.layout.specs.Windows.{windows, rowExists, moving, movingIn, markOf, markedBlocks, nextOfWindow, allCopied, callsLeft, callsLeftByMarks};
-ghost use Rattle.marks.specs.Marks.{firstUnmarked, asNextCopy};
+ghost use Rattle.layout.specs.Windows.{windows, markOfSpot, rowExists, markedBlocks, nextOfWindow, allCopied, callsLeft, callsLeftByMarks};
+ghost use Rattle.marks.specs.Marks.{movesAt, firstUnmarked, asNextCopy};
 ghost use Rattle.marks.specs.Words.{marksOf, wordOf};
 use super::NextCopy;
-use super::OldSpot;
-use super::blocks::moving_from;
 use super::words::is_within;
 use super::words::moving_marks;
 use super::words::with_bit;
 use super::words::without;
-use layout::Block;
+use layout::Spot;
 
-// Is x a moving block of window w?
-pub fn moves_now(counts: [usize; 8], t: usize, s: usize, w: usize, x: Block) -> bool
-    requires { ⌜ Limits s (history t counts) ⌝ }
-    requires { ⌜ 0 < t ⌝ }
-    ensures { λ r. ⌜ r ≡ movingIn s (history t counts) w (x .0) ⌝ }
+// Is the block at the old spot p a moving block of window w?
+pub fn moves_now(m: usize, n: usize, w: usize, p: Spot) -> bool
+    requires { ⌜ Grows m n ⌝ }
+    requires { ⌜ p .disk < m ⌝ }
+    ensures { λ r. ⌜ r ≡ movesAt m n w p ⌝ }
 {
-    let OldSpot::Moving(p) = moving_from(counts, t, s, x) else {
+    if !layout::moves_from(m, n, p) {
         return false;
-    };
-    let g = layout::newest_growth(counts, t);
+    }
     let row = p.row;
-    row.0 / (g.old + g.added) == w
+    row.0 / (m + n) == w
 }
 
-// The marks with that of the moving block x set.
-pub fn with_mark(counts: [usize; 8], t: usize, s: usize, marks: usize, x: Block) -> usize
-    requires { ⌜ Limits s (history t counts) ⌝ }
-    requires { ⌜ (0 < t) × (moving s (history t counts) (x .0) ≡ true) ⌝ }
-    ensures { λ r. ⌜ r ≡ wordOf (set (marksOf marks) (markOf s (history t counts) (x .0)) true) ⌝ }
+// The marks with that of the moving block at the old spot p set.
+pub fn with_mark(m: usize, n: usize, marks: usize, p: Spot) -> usize
+    requires { ⌜ Grows m n ⌝ }
+    requires { ⌜ (p .disk < m) × (movesFrom m n p ≡ true) ⌝ }
+    ensures { λ r. ⌜ r ≡ wordOf (set (marksOf marks) (markOfSpot m n p) true) ⌝ }
 {
-    let g = layout::newest_growth(counts, t);
-    let p = layout::spot_of(counts, t - 1, s, x);
-    let j = window::mark_of_spot(g.old, g.added, p);
+    let j = window::mark_of_spot(m, n, p);
     with_bit(marks, j)
 }
 
@@ -86,7 +82,7 @@ pub fn next_copy(counts: [usize; 8], t: usize, s: usize, w: usize, copied: usize
     let row = p.row;
     let part = layout::part_of(m, n, row.0 % (m + n));
     let x = layout::block_at(counts, t - 1, s, p);
-    NextCopy::CopyOf(x, part)
+    NextCopy::CopyOf(x, part, p)
 }
 
 // The moving blocks of window w without a mark.

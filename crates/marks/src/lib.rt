@@ -9,10 +9,11 @@ mod counts;
 mod stages;
 mod words;
 
-pub use blocks::at_new_spot;
+pub use blocks::address_from;
 pub use blocks::is_marked;
+pub use blocks::is_waiting;
 pub use blocks::live_block;
-pub use blocks::live_spot;
+pub use blocks::live_from;
 pub use copies::all_copied;
 pub use copies::calls_left;
 pub use copies::moves_now;
@@ -29,20 +30,14 @@ pub use words::is_within;
 pub use words::marks_of;
 pub use words::word_of;
 
-// The old spot of a block that moves in the newest growth, or that the block does not move.
-enum OldSpot {
-    Moving(Spot),
-    NotMoving,
-}
-
 // The block that lives at a spot, or that none does.
 pub enum LiveBlock {
     Lives(Block),
     Nothing,
 }
 
-// The block of window w to copy next, with its part, or that all are copied.
+// The block of window w to copy next, with its part and its old spot, or that all are copied.
 pub enum NextCopy {
-    CopyOf(Block, Part),
+    CopyOf(Block, Part, Spot),
     AllCopied,
 }

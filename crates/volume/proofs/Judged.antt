@@ -8,12 +8,14 @@ use lib.Dec.{eqb}
 use borrow.Author.Tests.{eq-eqb, ne-eqb, eqb-true, eqb-false}
 use Rattle.base.specs.Refusals.{refusal}
 use Rattle.base.proofs.Booleans.{cond-cases}
+use Rattle.layout.specs.declared.Spot.{Spot}
 use Rattle.medium.specs.declared.Geometry.{Geometry}
 use Rattle.medium.specs.Medium.{apply}
 use Rattle.volume.specs.declared.Volume.{Volume}
 use Rattle.volume.specs.declared.Answer.the-variants.{Refused}
 use Rattle.volume.specs.declared.Reply.{Reply}
-use Rattle.volume.specs.Calls.{Outcome, refused, judged}
+use Rattle.volume.specs.declared.SpotFound.{SpotFound}
+use Rattle.volume.specs.Calls.{Outcome, refused, judged, foundAt}
 
 -- what holds of the refusal where there is one, and of what is accepted where there is none, holds of what is judged
 pub judged-cases : {A : Type 0} (P : A → Type 0) (table : List (ℕ × Bool)) (refusing : ℕ → A) (accepted : A)
@@ -63,3 +65,21 @@ module _ (table : List (ℕ × Bool)) (v : Volume) (piece : List ℕ) (accepted 
 
   pub accepted-piece : (after : List ℕ) → after ≡ accepted .piece → after ≡ accepting .piece
   accepted-piece after made = rw (accepted-when table (λ k. refused v k piece) accepted k e h) made
+
+-- ---- a refusal, or the spot that a call works on
+
+pub found-refused : (k r : ℕ) (p : Spot) → k ≡ r → k ≢ 0 → _≡_ {A = SpotFound} (record { refusal = k; spot = record { disk = 0; row = record { 0 = 0 } } }) (foundAt r p)
+unfolding foundAt
+found-refused k r p e h = rw (← e, ne-eqb k 0 h)
+
+pub found-there : (r : ℕ) (q p : Spot) → 0 ≡ r → q ≡ p → _≡_ {A = SpotFound} (record { refusal = 0; spot = q }) (foundAt r p)
+unfolding foundAt
+found-there r q p e f = rw (← e, f)
+
+pub refusal-found : (f : SpotFound) (k : ℕ) (p : Spot) → f ≡ foundAt k p → f .refusal ≡ k
+unfolding foundAt
+refusal-found f k p e = rw e
+
+pub spot-found : (f : SpotFound) (k : ℕ) (p : Spot) → f ≡ foundAt k p → f .refusal ≡ 0 → f .spot ≡ p
+unfolding foundAt
+spot-found f k p e z = let q : k ≡ 0 = sym (refusal-found f k p e) ∙ z in rw (e, q)

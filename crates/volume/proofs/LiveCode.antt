@@ -1,27 +1,34 @@
 -- What the code that looks up open blocks, live spots and calls left of a state meets, at rest and while a growth runs. Assumes nothing.
 use Prim.Native.Nat.{ℕ, _-_, _*_, _≤_, _<_, _^_}
-use mathlib.Core.Path.{_≡_, sym, ap}
-use mathlib.Core.Bool.{Bool, true, false, not}
+use mathlib.Core.Path.{_≡_, sym, ap, _∙_}
+use mathlib.Core.Bool.{Bool, true, false, not, _&&_}
 use mathlib.Core.List.{List}
 use mathlib.Core.Logic.{_≢_}
 use native.Mathlib.Nat.{mul-le-mul}
 use native.Mathlib.Decide.{ℕ-discrete}
 use native.Mathlib.Omega.{arith}
 use lib.Dec.{ltb}
-use lib.ListN.{getD}
+use lib.ListN.{length, getD}
 use borrow.Author.Tests.{eq-eqb, ne-eqb}
+use Rattle.base.proofs.Booleans.{by-test}
+use Rattle.layout.specs.declared.Address.{Address}
 use Rattle.layout.specs.declared.Block.{Block}
+use Rattle.layout.specs.declared.GrowthDisks.{GrowthDisks}
 use Rattle.layout.specs.declared.Spot.{Spot}
-use Rattle.layout.specs.History.{history, diskCount, oldCount, addedCount, spotOf, blockAt}
-use Rattle.layout.specs.Limits.{Limits, mostDisks}
+use Rattle.layout.specs.Growth.{spotAfter}
+use Rattle.layout.specs.History.{history, diskCount, earlier, oldCount, addedCount, newestGrowth, rising, spotOf, blockAt}
+use Rattle.layout.specs.Limits.{Limits, Grows, mostDisks, mostGrowths, mostRows}
 use Rattle.layout.specs.Live.{atNewSpot, liveSpot, liveBlock}
 use Rattle.layout.specs.Reasons.{addressOf}
 use Rattle.layout.specs.Tally.{notGrowing, growing, openBlocks, recordedBy, movedBlocks, liveSpotOf, liveBlockOf, growthsOf, liveReasonOf, liveAddressOf, waiting, callsLeftOf}
-use Rattle.layout.specs.Windows.{windows, oldSpot, markedBlocks, callsLeft}
-use Rattle.layout.proofs.HistoryCode.{history-disks, growths-most}
+use Rattle.layout.specs.Windows.{windows, oldSpot, movingIn, markedBlocks, callsLeft}
+use Rattle.layout.proofs.HistoryCode.{history-disks, history-length, growths-most}
+use Rattle.layout.proofs.NewestCode.{newest-asks}
+use Rattle.layout.proofs.Theorems.{spot-after-newest}
 use Rattle.marks.specs.declared.LiveBlock.the-variants.{Lives}
-use Rattle.marks.specs.Marks.{asLiveBlock}
-use Rattle.marks.proofs.BlocksCode.{history-before, limits-before, block-before, block-now}
+use Rattle.marks.specs.Marks.{movesAt, markedAt, liveFrom, addressFrom, asLiveBlock}
+use Rattle.marks.specs.Words.{marksOf}
+use Rattle.marks.proofs.BlocksCode.{ReadGrowth, history-before, limits-before, block-before, some-old, old-read, added-read, grows-read, on-old-disk, spot-found, moves-at-spot, marked-at-spot, live-from-spot, address-stays, address-moved}
 use Rattle.medium.specs.declared.Geometry.{Geometry}
 use Rattle.medium.specs.Medium.{bytesNeeded}
 use Rattle.volume.specs.declared.Volume.{Volume}
@@ -30,7 +37,6 @@ use Rattle.volume.specs.Sound.{sound}
 use Rattle.volume.specs.States.{geometry, historyOf, disks, modeOf, tallyOf}
 use Rattle.volume.proofs.ByteBounds.{bytes-bound}
 use Rattle.volume.proofs.SoundLaws.{sound-facts}
-use Rattle.marks.specs.Words.{marksOf}
 
 -- the history as the lower crates have it, and before the newest growth
 abbrev pub countsNow : (v : Volume) → List ℕ
@@ -130,7 +136,7 @@ module _ (v : Volume) (g : v .growing ≢ 0) where
   pub old-block : (x : ℕ) → x < openBlocks (tallyOf v) → x < oldCount (countsNow v) * v .rows
   old-block x h = rw growing-blocks at h
 
-  pub growing-spot : (x : ℕ) → liveSpot (v .rows) (countsNow v) moved x ≡ liveSpotOf (tallyOf v) x
+  growing-spot : (x : ℕ) → liveSpot (v .rows) (countsNow v) moved x ≡ liveSpotOf (tallyOf v) x
   unfolding liveSpotOf movedBlocks tallyOf historyOf
   growing-spot x = rw growing-mode
 
@@ -138,19 +144,13 @@ module _ (v : Volume) (g : v .growing ≢ 0) where
   unfolding liveBlockOf movedBlocks tallyOf historyOf
   growing-block p = rw growing-mode
 
-  pub new-address : (x : ℕ) → atNewSpot (v .rows) (countsNow v) moved x ≡ true → addressOf (v .rows) (countsNow v) x ≡ liveAddressOf (tallyOf v) x
+  new-address : (x : ℕ) → atNewSpot (v .rows) (countsNow v) moved x ≡ true → addressOf (v .rows) (countsNow v) x ≡ liveAddressOf (tallyOf v) x
   unfolding addressOf liveAddressOf liveSpotOf liveSpot liveReasonOf growthsOf movedBlocks tallyOf historyOf
   new-address x e = rw (growing-mode, e)
 
-  -- waiting, by what the code found of the marks of x
-  pub not-copied : (x : ℕ) (copied : Bool) → copied ≡ marked (marksOf (v .copied)) x → copied ≡ false → false ≡ waiting (tallyOf v) x
+  growing-waiting : (x : ℕ) → (marked (marksOf (v .copied)) x && not (marked (marksOf (v .recorded)) x)) ≡ waiting (tallyOf v) x
   unfolding waiting tallyOf historyOf
-  not-copied x copied a f = rw (growing-mode, ← a, f)
-
-  pub copied-waits : (x : ℕ) (copied recorded : Bool) → copied ≡ marked (marksOf (v .copied)) x → copied ≡ true → recorded ≡ marked (marksOf (v .recorded)) x
-      → not recorded ≡ waiting (tallyOf v) x
-  unfolding waiting tallyOf historyOf
-  copied-waits x copied recorded a f b = rw (growing-mode, ← a, f, b)
+  growing-waiting x = rw growing-mode
 
   pub growing-calls : callsLeft (v .rows) (countsNow v) (v .window) (marked (marksOf (v .copied))) ≡ callsLeftOf (tallyOf v)
   unfolding callsLeftOf tallyOf historyOf
@@ -174,19 +174,96 @@ module _ (v : Volume) (g : v .growing ≢ 0) where
     unfolding oldCount
     growing-open = rw (growing-blocks, ← history-before (v .growths) (v .counts) has-growth, history-disks (v .growths - 1) (v .counts))
 
-    -- what finding the address of an open block asks, after the newest growth and before it
-    pub asks-now : (x : ℕ) → x < openBlocks (tallyOf v) → Limits (v .rows) (countsNow v) × (x < diskCount (countsNow v) * v .rows)
-    asks-now x h =
-        let a = history-limits v e in
-        (a, block-now (v .rows) (v .growths) (v .counts) a has-growth x (old-block x h))
-
+    -- what finding the spot of an open block before the newest growth asks
     pub asks-before : (x : ℕ) → x < openBlocks (tallyOf v) → Limits (v .rows) (countsBefore v) × (x < diskCount (countsBefore v) * v .rows)
     asks-before x h =
         (limits-then, block-before (v .rows) (v .growths) (v .counts) (history-limits v e) has-growth x (old-block x h))
 
-    pub old-address : (x : ℕ) → atNewSpot (v .rows) (countsNow v) moved x ≡ false → addressOf (v .rows) (countsBefore v) x ≡ liveAddressOf (tallyOf v) x
+    old-address : (x : ℕ) → atNewSpot (v .rows) (countsNow v) moved x ≡ false → addressOf (v .rows) (countsBefore v) x ≡ liveAddressOf (tallyOf v) x
     unfolding addressOf liveAddressOf liveSpotOf liveSpot oldSpot liveReasonOf growthsOf movedBlocks tallyOf historyOf
     old-address x f = rw (growing-mode, f, history-before (v .growths) (v .counts) has-growth)
+
+-- ---- the newest growth, which the code has read while it runs
+
+module _ (v : Volume) (g : v .growing ≢ 0) (e : sound v ≡ true) where
+  pub newest-asked : (0 < v .growths) × (v .growths ≤ mostGrowths) × (rising (countsNow v) ≡ true)
+  newest-asked = newest-asks (v .rows) (v .growths) (v .counts) (has-growth v g e) (history-limits v e)
+
+  -- the spot before it, as definitions have it
+  pub spot-before-it : (x : ℕ) (p : Spot) → p ≡ oldSpot (v .rows) (historyOf v) x → p ≡ spotOf (v .rows) (countsBefore v) x
+  unfolding oldSpot historyOf
+  spot-before-it x p f = rw (history-before (v .growths) (v .counts) (has-growth v g e)) f
+
+  pub spot-is-old : (x : ℕ) (p : Spot) → p ≡ spotOf (v .rows) (countsBefore v) x → p ≡ oldSpot (v .rows) (historyOf v) x
+  unfolding oldSpot historyOf
+  spot-is-old x p f = rw (history-before (v .growths) (v .counts) (has-growth v g e)) at f
+
+  module _ (d : GrowthDisks) (q : d ≡ newestGrowth (countsNow v)) where
+    pub growth-read : ReadGrowth (v .rows) (v .growths) (v .counts) d
+    growth-read = record { limits = history-limits v e; grown = has-growth v g e; growth = q }
+
+    -- the old spot of an open block
+    module _ (x : ℕ) (h : x < openBlocks (tallyOf v)) (p : Spot) (f : p ≡ spotOf (v .rows) (countsBefore v) x) where
+      below : x < oldCount (countsNow v) * v .rows
+      below = old-block v g x h
+
+      disk-below : p .disk < d .old
+      disk-below = on-old-disk growth-read (rw (old-read growth-read) below) f
+
+      its-spot : p ≡ oldSpot (v .rows) (countsNow v) x
+      its-spot = spot-found growth-read (rw (old-read growth-read) below) f
+
+      pub spot-asks : Grows (d .old) (d .added) × (p .disk < d .old)
+      spot-asks = (grows-read growth-read, disk-below)
+
+      pub live-asks : Grows (d .old) (d .added) × ((v .rows ≤ mostRows) × (p .disk < d .old))
+      live-asks = (grows-read growth-read, (history-limits v e .rows-most, disk-below))
+
+      pub moves-read : movesAt (d .old) (d .added) (v .window) p ≡ movingIn (v .rows) (countsNow v) (v .window) x
+      moves-read = rw (old-read growth-read, added-read growth-read, its-spot) (moves-at-spot (v .rows) (countsNow v) (v .window) x below)
+
+      pub marked-read : (marks : List Bool) → markedAt (d .old) (d .added) (v .window) marks p ≡ markedBlocks (v .rows) (countsNow v) (v .window) marks x
+      marked-read marks =
+          rw (old-read growth-read, added-read growth-read, its-spot) (marked-at-spot (v .rows) (countsNow v) (v .window) x below marks)
+
+      pub waiting-read : (r : Bool)
+          → r ≡ (markedAt (d .old) (d .added) (v .window) (marksOf (v .copied)) p && not (markedAt (d .old) (d .added) (v .window) (marksOf (v .recorded)) p))
+          → r ≡ waiting (tallyOf v) x
+      waiting-read r k = rw (marked-read (marksOf (v .copied)), marked-read (marksOf (v .recorded))) at k ∙ growing-waiting v g x
+
+      pub new-read : (to : Spot) → to ≡ spotAfter (d .old) (d .added) (v .rows) x p → to ≡ spotOf (v .rows) (countsNow v) x
+      new-read to k =
+          rw (old-read growth-read, added-read growth-read, its-spot) at k
+          ∙ sym (spot-after-newest (v .rows) (countsNow v) (history-limits v e .rise) (some-old growth-read) x)
+
+      pub live-read : liveFrom (d .old) (d .added) (v .rows) (v .window) (marksOf (v .recorded)) x p ≡ liveSpotOf (tallyOf v) x
+      live-read =
+          rw (old-read growth-read, added-read growth-read, its-spot)
+          (live-from-spot (v .rows) (countsNow v) (v .window) x (history-limits v e .rise) (some-old growth-read) below (marksOf (v .recorded)))
+          ∙ growing-spot v g x
+
+    -- and its address
+    module _ (x : ℕ) (h : x < openBlocks (tallyOf v)) (a : Address) (f : a ≡ addressOf (v .rows) (countsBefore v) x) where
+      a-spot : a .spot ≡ spotOf (v .rows) (countsBefore v) x
+      unfolding addressOf
+      a-spot = rw f
+
+      pub address-asks : Grows (d .old) (d .added) × ((v .rows ≤ mostRows) × (a .spot .disk < d .old))
+      address-asks = live-asks x h (a .spot) a-spot
+
+      number : v .growths ≡ length (earlier (countsNow v))
+      number = rw (← history-before (v .growths) (v .counts) (has-growth v g e)) (omega (arith, has-growth v g e, history-length (v .growths - 1) (v .counts)))
+
+      pub address-read : addressFrom (d .old) (d .added) (v .rows) (v .growths) (v .window) (marksOf (v .recorded)) x a ≡ liveAddressOf (tallyOf v) x
+      address-read =
+          let s = v .rows in
+          let c = countsNow v in
+          let k = old-block v g x h in
+          let b : a ≡ addressOf s (earlier c) x = rw (← history-before (v .growths) (v .counts) (has-growth v g e)) f in
+          rw (old-read growth-read, added-read growth-read, b)
+          (by-test (atNewSpot s c (moved v g) x)
+          (λ t. address-moved s c (v .window) x (v .growths) k (marksOf (v .recorded)) (history-limits v e .rise) (some-old growth-read) number t ∙ new-address v g x t)
+          (λ t. address-stays s c (v .window) x (v .growths) k (marksOf (v .recorded)) t ∙ rw (← history-before (v .growths) (v .counts) (has-growth v g e)) (old-address v g e x t)))
 
 -- ---- whether a growth runs or not
 

@@ -20,6 +20,7 @@ use Rattle.volume.specs.declared.Advanced.{Advanced}
 use Rattle.volume.specs.declared.Advanced.the-variants.{Copied, Recorded, Finished}
 use Rattle.volume.specs.declared.Answer.the-variants.{Refused, Done, CallsLeft, Told}
 use Rattle.volume.specs.declared.Reply.{Reply}
+use Rattle.volume.specs.declared.SpotFound.{SpotFound}
 use Rattle.volume.specs.declared.AddressAnswer.the-variants as address
 use Rattle.volume.specs.declared.AddressReply.{AddressReply}
 use Rattle.volume.specs.declared.HolderAnswer.the-variants as holder
@@ -49,6 +50,10 @@ telling v did store = record { reply = record { state = v; answer = Told did (ca
 -- refused by its table, with the number, or accepted
 abbrev pub judged : {A : Type 0} (table : List (ℕ × Bool)) (refusing : ℕ → A) (accepted : A) → A
 judged table refusing accepted = cond (eqb (refusal table) 0) accepted (refusing (refusal table))
+
+-- a refusal, or the spot that a call works on, as the code answers it
+unfoldable pub foundAt : (k : ℕ) (p : Spot) → SpotFound
+foundAt k p = record { refusal = k; spot = cond (eqb k 0) p (record { disk = 0; row = record { 0 = 0 } }) }
 
 -- "2: medium too short for the record and N[t] disks"
 unfoldable pub tooShort : (g : Geometry) (n byteCount : ℕ) → Bool

@@ -2,18 +2,21 @@
 ghost use mathlib.Core.Path.{_≡_};
 ghost use mathlib.Core.Bool.{true};
 ghost use Rattle.base.specs.Refusals.{refusal};
-ghost use Rattle.layout.specs.Tally.{callsLeftOf};
+ghost use Rattle.layout.specs.Tally.{liveSpotOf, callsLeftOf};
 ghost use Rattle.medium.specs.Medium.{observe, apply};
-ghost use Rattle.volume.specs.Calls.{formatTable, formatOutcome, restartOutcome, sectorOutcome, growTable, growOutcome, writeTable, writeOutcome, readTable, readOutcome};
+ghost use Rattle.volume.specs.Calls.{foundAt, formatTable, formatOutcome, restartOutcome, sectorOutcome, growTable, growOutcome, writeTable, writeOutcome, readTable, readOutcome};
 ghost use Rattle.volume.specs.Sound.{sound};
 ghost use Rattle.volume.specs.States.{geometry, tallyOf};
 use super::Answer;
 use super::Reply;
+use super::SpotFound;
 use super::Volume;
 use super::sound::disks_hold;
 use super::sound::rows_hold;
 use super::sound::size_holds;
 use layout::Block;
+use layout::Row;
+use layout::Spot;
 use medium::Geometry;
 
 impl Volume {
@@ -167,17 +170,38 @@ impl Volume {
         0
     }
 
-    pub(crate) fn write_refusal(self, x: Block, piece: usize, len: usize) -> usize
-        ensures { λ r. ⌜ r ≡ refusal (writeTable self (x .0) piece len) ⌝ }
+    // The live spot of block x, which a piece is saved to, or the refusal.
+    pub(crate) fn write_spot(self, x: Block, piece: usize, len: usize) -> SpotFound
+        ensures { λ r. ⌜ r ≡ foundAt (refusal (writeTable self (x .0) piece len)) (liveSpotOf (tallyOf self) (x .0)) ⌝ }
     {
+        let nowhere = Spot {
+            disk: 0,
+            row: Row(0),
+        };
         let k = self.read_refusal(x, piece, len);
         if k != 0 {
-            return k;
+            return SpotFound {
+                refusal: k,
+                spot: nowhere,
+            };
         }
-        if self.is_waiting(x) {
-            return 7;
+        let counts = self.counts;
+        let t = self.growths;
+        if self.growing == 0 {
+            let spot = layout::spot_of(counts, t, self.rows, x);
+            return SpotFound { refusal: 0, spot };
         }
-        0
+        let old = layout::spot_of(counts, t - 1, self.rows, x);
+        let g = layout::newest_growth(counts, t);
+        let w = self.window;
+        if marks::is_waiting(g.old, g.added, w, self.recorded, self.copied, old) {
+            return SpotFound {
+                refusal: 7,
+                spot: nowhere,
+            };
+        }
+        let spot = marks::live_from(g.old, g.added, self.rows, w, self.recorded, x, old);
+        SpotFound { refusal: 0, spot }
     }
 
     // Saves a piece as block x.
@@ -185,11 +209,11 @@ impl Volume {
         ensures { λ r. ⌜ r ≡ writeOutcome self (x .0) (now (piece .entry)) (observe (now (medium .entry))) .reply ⌝ }
         ensures { λ _. ⌜ now (medium .exit) ≡ apply (geometry self) (writeOutcome self (x .0) (now (piece .entry)) (observe (now (medium .entry))) .store) (now (medium .entry)) ⌝ }
     {
-        let k = self.write_refusal(x, piece.len(), medium.len());
-        if k != 0 {
-            return self.refuse(k);
+        let target = self.write_spot(x, piece.len(), medium.len());
+        if target.refusal != 0 {
+            return self.refuse(target.refusal);
         }
-        let p = self.live_spot(x);
+        let p = target.spot;
         let g = self.geometry();
         medium::store_block(medium, g, p, piece);
         Reply {

@@ -2,35 +2,40 @@
 ghost use mathlib.Core.Path.{_≡_};
 ghost use mathlib.Core.Bool.{true, false};
 ghost use mathlib.Core.Logic.{_≢_};
-ghost use Prim.Native.Nat.{_≤_};
+ghost use Prim.Native.Nat.{_≤_, _<_};
 ghost use lib.ListN.{length};
 ghost use Rattle.base.specs.Refusals.{refusal};
+ghost use Rattle.layout.specs.Growth.{movesFrom};
+ghost use Rattle.layout.specs.History.{oldCount, addedCount};
 ghost use Rattle.layout.specs.Tally.{movesNow, nextBlock, callsLeftOf};
+ghost use Rattle.layout.specs.Windows.{oldSpot};
 ghost use Rattle.marks.specs.Marks.{asNextCopy};
 ghost use Rattle.medium.specs.Medium.{bytesNeeded, observe, apply};
-ghost use Rattle.volume.specs.Calls.{copyTable, copyStore, copyOutcome, checkpointTable, checkpointOutcome, advanceTable, checkpointTold, advanceOutcome};
+ghost use Rattle.volume.specs.Calls.{foundAt, copyTable, copyStore, copyOutcome, checkpointTable, checkpointOutcome, advanceTable, checkpointTold, advanceOutcome};
 ghost use Rattle.volume.specs.Sound.{sound};
-ghost use Rattle.volume.specs.States.{geometry, historyOf, disks, tallyOf, withCopy, checkpointed};
+ghost use Rattle.volume.specs.States.{geometry, historyOf, disks, tallyOf, withCopyAt, checkpointed};
 use super::Advanced;
 use super::Answer;
 use super::Reply;
+use super::SpotFound;
 use super::Volume;
 use layout::Block;
+use layout::Row;
+use layout::Spot;
 use marks::NextCopy;
 
 impl Volume {
-    // The state with block x copied.
-    pub(crate) fn with_copy(self, x: Block) -> Volume
+    // The state with the moving block at the old spot p copied.
+    pub(crate) fn with_copy(self, p: Spot) -> Volume
         requires { ⌜ (sound self ≡ true) × (self .growing ≢ 0) ⌝ }
-        requires { ⌜ movesNow (tallyOf self) (x .0) ≡ true ⌝ }
-        ensures { λ r. ⌜ r ≡ withCopy self (x .0) ⌝ }
+        requires { ⌜ (p .disk < oldCount (historyOf self)) × (movesFrom (oldCount (historyOf self)) (addedCount (historyOf self)) p ≡ true) ⌝ }
+        ensures { λ r. ⌜ r ≡ withCopyAt self p ⌝ }
     {
         let t = self.growths;
         let counts = self.counts;
-        let recorded = self.recorded;
-        let old = self.copied;
-        let copied = marks::with_mark(counts, t, self.rows, old, x);
-        self.with_growth(t, counts, self.growing, self.window, recorded, copied)
+        let g = layout::newest_growth(counts, t);
+        let copied = marks::with_mark(g.old, g.added, self.copied, p);
+        self.with_growth(t, counts, self.growing, self.window, self.recorded, copied)
     }
 
     // The state that a checkpoint records.
@@ -74,19 +79,19 @@ impl Volume {
         Advanced::Recorded
     }
 
-    // Stores block x's bytes at its new spot.
-    pub(crate) fn store_copy(self, medium: &mut [u8], x: Block)
+    // Stores the bytes of block x, which are at its old spot p, at its new spot.
+    pub(crate) fn store_copy(self, medium: &mut [u8], x: Block, p: Spot)
         requires { ⌜ (sound self ≡ true) × (self .growing ≢ 0) ⌝ }
         requires { ⌜ bytesNeeded (geometry self) (disks self) ≤ length (now medium) ⌝ }
         requires { ⌜ (movesNow (tallyOf self) (x .0) ≡ true) × (tallyOf self .copied (x .0) ≡ false) ⌝ }
+        requires { ⌜ p ≡ oldSpot (self .rows) (historyOf self) (x .0) ⌝ }
         ensures { λ _. ⌜ now (medium .exit) ≡ apply (geometry self) (copyStore self (x .0) (observe (now (medium .entry)))) (now (medium .entry)) ⌝ }
     {
         let counts = self.counts;
-        let t = self.growths;
-        let from = layout::spot_of(counts, t - 1, self.rows, x);
-        let to = layout::spot_of(counts, t, self.rows, x);
+        let d = layout::newest_growth(counts, self.growths);
+        let to = layout::spot_after(d.old, d.added, self.rows, x.0, p);
         let g = self.geometry();
-        medium::copy_block(medium, g, from, to);
+        medium::copy_block(medium, g, p, to);
     }
 
     pub(crate) fn advance_refusal(self, len: usize) -> usize
@@ -104,25 +109,45 @@ impl Volume {
         0
     }
 
-    pub(crate) fn copy_refusal(self, x: Block, len: usize) -> usize
-        ensures { λ r. ⌜ r ≡ refusal (copyTable self (x .0) len) ⌝ }
+    // The old spot of block x, which a copy is taken from, or the refusal.
+    pub(crate) fn copy_spot(self, x: Block, len: usize) -> SpotFound
+        ensures { λ r. ⌜ r ≡ foundAt (refusal (copyTable self (x .0) len)) (oldSpot (self .rows) (historyOf self) (x .0)) ⌝ }
     {
+        let nowhere = Spot {
+            disk: 0,
+            row: Row(0),
+        };
         let k = self.advance_refusal(len);
         if k != 0 {
-            return k;
+            return SpotFound {
+                refusal: k,
+                spot: nowhere,
+            };
         }
         if self.open_blocks() <= x.0 {
-            return 3;
+            return SpotFound {
+                refusal: 3,
+                spot: nowhere,
+            };
         }
         let counts = self.counts;
-        if !marks::moves_now(counts, self.growths, self.rows, self.window, x) {
-            return 10;
+        let t = self.growths;
+        let spot = layout::spot_of(counts, t - 1, self.rows, x);
+        let g = layout::newest_growth(counts, t);
+        if !marks::moves_now(g.old, g.added, self.window, spot) {
+            return SpotFound {
+                refusal: 10,
+                spot: nowhere,
+            };
         }
         let done = self.copied;
-        if marks::is_marked(counts, self.growths, self.rows, self.window, done, x) {
-            return 11;
+        if marks::is_marked(g.old, g.added, self.window, done, spot) {
+            return SpotFound {
+                refusal: 11,
+                spot: nowhere,
+            };
         }
-        0
+        SpotFound { refusal: 0, spot }
     }
 
     // Copies block x to its new spot.
@@ -130,12 +155,13 @@ impl Volume {
         ensures { λ r. ⌜ r ≡ copyOutcome self (x .0) (observe (now (medium .entry))) .reply ⌝ }
         ensures { λ _. ⌜ now (medium .exit) ≡ apply (geometry self) (copyOutcome self (x .0) (observe (now (medium .entry))) .store) (now (medium .entry)) ⌝ }
     {
-        let k = self.copy_refusal(x, medium.len());
-        if k != 0 {
-            return self.refuse(k);
+        let found = self.copy_spot(x, medium.len());
+        if found.refusal != 0 {
+            return self.refuse(found.refusal);
         }
-        self.store_copy(medium, x);
-        let v = self.with_copy(x);
+        let p = found.spot;
+        self.store_copy(medium, x, p);
+        let v = self.with_copy(p);
         v.report()
     }
 
@@ -177,13 +203,13 @@ impl Volume {
         if k != 0 {
             return self.refuse(k);
         }
-        let NextCopy::CopyOf(x, part) = self.next_copy() else {
+        let NextCopy::CopyOf(x, part, p) = self.next_copy() else {
             let v = self.checkpointed();
             v.store_record(medium);
             return v.tell(v.checkpoint_told());
         };
-        self.store_copy(medium, x);
-        let v = self.with_copy(x);
+        self.store_copy(medium, x, p);
+        let v = self.with_copy(p);
         v.tell(Advanced::Copied(x, part))
     }
 

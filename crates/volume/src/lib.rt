@@ -51,6 +51,12 @@ pub struct Reply {
     pub answer: Answer,
 }
 
+// A refusal, or 0 and the spot that a call works on.
+struct SpotFound {
+    refusal: usize,
+    spot: Spot,
+}
+
 // The answer of address: refused with a number, or the live spot and why the block is there.
 pub enum AddressAnswer {
     Refused(usize),

@@ -4,7 +4,7 @@ ghost use mathlib.Core.Bool.{true};
 ghost use Prim.Native.Nat.{_≤_, _<_};
 ghost use Rattle.layout.specs.History.{Within};
 ghost use Rattle.layout.specs.Limits.{mostDisks};
-ghost use Rattle.layout.specs.Tally.{openBlocks, liveSpotOf, liveBlockOf, liveAddressOf, waiting, callsLeftOf};
+ghost use Rattle.layout.specs.Tally.{openBlocks, liveSpotOf, liveBlockOf, liveAddressOf, callsLeftOf};
 ghost use Rattle.marks.specs.Marks.{asLiveBlock};
 ghost use Rattle.volume.specs.Calls.{tooShort};
 ghost use Rattle.volume.specs.Sound.{sound};
@@ -69,11 +69,14 @@ impl Volume {
         ensures { λ r. ⌜ r ≡ liveSpotOf (tallyOf self) (x .0) ⌝ }
     {
         let counts = self.counts;
+        let t = self.growths;
         if self.growing == 0 {
-            return layout::spot_of(counts, self.growths, self.rows, x);
+            return layout::spot_of(counts, t, self.rows, x);
         }
-        let recorded = self.recorded;
-        marks::live_spot(counts, self.growths, self.rows, self.window, recorded, x)
+        let old = layout::spot_of(counts, t - 1, self.rows, x);
+        let g = layout::newest_growth(counts, t);
+        let w = self.window;
+        marks::live_from(g.old, g.added, self.rows, w, self.recorded, x, old)
     }
 
     // The live spot of block x, and why it is there.
@@ -87,11 +90,18 @@ impl Volume {
         if self.growing == 0 {
             return layout::address_of(counts, t, self.rows, x);
         }
-        let recorded = self.recorded;
-        if marks::at_new_spot(counts, t, self.rows, self.window, recorded, x) {
-            return layout::address_of(counts, t, self.rows, x);
-        }
-        layout::address_of(counts, t - 1, self.rows, x)
+        let old = layout::address_of(counts, t - 1, self.rows, x);
+        let g = layout::newest_growth(counts, t);
+        marks::address_from(
+            g.old,
+            g.added,
+            self.rows,
+            t,
+            self.window,
+            self.recorded,
+            x,
+            old,
+        )
     }
 
     // The block that lives at p.
@@ -106,23 +116,6 @@ impl Volume {
         }
         let recorded = self.recorded;
         marks::live_block(counts, self.growths, self.rows, self.window, recorded, p)
-    }
-
-    // Is block x copied but not recorded?
-    pub(crate) fn is_waiting(self, x: Block) -> bool
-        requires { ⌜ sound self ≡ true ⌝ }
-        ensures { λ r. ⌜ r ≡ waiting (tallyOf self) (x .0) ⌝ }
-    {
-        if self.growing == 0 {
-            return false;
-        }
-        let counts = self.counts;
-        let copied = self.copied;
-        if !marks::is_marked(counts, self.growths, self.rows, self.window, copied, x) {
-            return false;
-        }
-        let recorded = self.recorded;
-        !marks::is_marked(counts, self.growths, self.rows, self.window, recorded, x)
     }
 
     // The advance calls left.

@@ -1,56 +1,28 @@
 -- `moves_now` meets its contract. Assumes nothing.
-use native.Mathlib.Omega.{arith}
+use mathlib.Core.Path.{sym, _∙_}
 use borrow.Author.Needs.{needs}
-use Rattle.layout.proofs.NewestCode.{newest-asks}
-use Rattle.marks.proofs.BlocksCode.{MovingSpot, grows-read, told-unmoving, told-moving, window-told}
-use Rattle.marks.proofs.CopiesCode.{unmoving-now, moving-now}
+use borrow.Author.Tests.{not-true, not-false}
+use Rattle.layout.specs.Windows.{windowOfRow}
+use Rattle.marks.specs.Marks.{movesAt}
 use Rattle.marks.proofs.copies.moves_now.Statement.{statement}
 use Rattle.marks.proofs.copies.moves_now.Tie as tie
 
-moving-from-requires : tie.Need-moving-from-requires
-moving-from-requires c κs = search needs
-
-enum-known-p : tie.Need-enum-known-p
-enum-known-p c = search needs
-
-enum-told : tie.Need-enum-told
-enum-told c = search needs
+moves-from-requires : tie.Need-moves-from-requires
+moves-from-requires c κs = search needs
 
 returns : tie.Need-returns
-returns c = unmoving-now _ _ _ _ (told-unmoving _ _ _ _ (c .before .before .moving-from .ensures) (c .enum-told .given .1))
-
-abbrev start : tie.After-known-told → tie.Start
-start c = c .before .before .before .before
-
-newest-growth-requires : tie.Need-newest-growth-requires
-newest-growth-requires c κs = newest-asks _ _ (start c .args .counts) (start c .pre .1) (start c .pre .0)
-
--- the old spot from which the block moves
-found : (c : tie.After-newest-growth)
-    → MovingSpot (start (c .before) .args .s) (start (c .before) .args .t) (start (c .before) .args .counts) (c .newest-growth .result)
-    (start (c .before) .args .x .0) (c .before .before .p .given .0 .0)
-found c =
-    told-moving _ (record { limits = start (c .before) .pre .0; grown = start (c .before) .pre .1; growth = c .newest-growth .ensures })
-    (c .before .before .before .before .moving-from .ensures) (c .before .before .p .given .1)
+unfolding movesAt
+returns c = rw (sym (c .before .moves-from .ensures) ∙ not-true _ (c .if1 .taken))
 
 add-result : tie.Need-add-result
-add-result c = omega (arith, grows-read (found (c .before .before) .read) .most)
+add-result c = search needs
 
 div-result : tie.Need-div-result
-div-result c = omega (arith, grows-read (found (c .before .before .before) .read) .old)
+div-result c = search needs
 
 returns-2 : tie.Need-returns-2
-returns-2 c = let f = found (c .before .before .before) in moving-now _ _ _ _ _ (f .moves) (window-told f)
+unfolding movesAt windowOfRow
+returns-2 c = rw (sym (c .before .before .before .moves-from .ensures) ∙ not-false _ (c .before .before .if1 .left))
 
 pub moves-now-spec : {M : Type 1} → statement M
-moves-now-spec =
-    tie.close
-    (tie.spec
-    moving-from-requires
-    enum-known-p
-    enum-told
-    returns
-    newest-growth-requires
-    add-result
-    div-result
-    returns-2)
+moves-now-spec = tie.close (tie.spec moves-from-requires returns add-result div-result returns-2)

@@ -1,50 +1,69 @@
 -- `copy` meets its contract. Assumes nothing.
-use mathlib.Core.Path.{refl, sym, _∙_}
+use mathlib.Core.Path.{_≡_, refl, sym, _∙_}
 use mathlib.Core.List.{[]}
 use lib.ListN.{length}
 use borrow.Author.Needs.{needs}
+use Rattle.base.specs.Refusals.{refusal}
+use Rattle.layout.specs.Windows.{oldSpot}
 use Rattle.medium.specs.Medium.{observe}
-use Rattle.volume.specs.Calls.{reporting, copyOutcome}
+use Rattle.volume.specs.Calls.{reporting, copyTable, copyOutcome}
+use Rattle.volume.specs.States.{historyOf, withCopy}
 use Rattle.volume.proofs.Accepted.{CopyFacts, copy-accepted}
-use Rattle.volume.proofs.Judged.{refused-reply, refused-stores, accepted-reply, accepted-stores}
+use Rattle.volume.proofs.GrowthCode.{copied-at, copied-asks}
+use Rattle.volume.proofs.Judged.{refused-reply, refused-stores, accepted-reply, accepted-stores, refusal-found, spot-found}
 use Rattle.volume.proofs.StatesSound.{copied-sound}
 use Rattle.volume.proofs.Volume.copy.Statement.{statement}
 use Rattle.volume.proofs.Volume.copy.Tie as tie
 
-copy-refusal-requires : tie.Need-copy-refusal-requires
-copy-refusal-requires c κs = search needs
+copy-spot-requires : tie.Need-copy-spot-requires
+copy-spot-requires c κs = search needs
 
 refuse-requires : tie.Need-refuse-requires
 refuse-requires c κs = search needs
 
+-- the number that was found
+judged : (c : tie.After-copy-spot)
+    → let a = c .before .before .args in c .copy-spot .result .refusal ≡ refusal (copyTable (a .self) (a .x .0) (length (a .medium .now)))
+judged c = refusal-found _ _ _ (c .copy-spot .ensures)
+
 returns : tie.Need-returns
 unfolding copyOutcome observe
 returns c =
-    let v = c .before .before .before .before .args .self in
-    let e = c .before .before .copy-refusal .ensures in
+    let v = c .before .before .before .before .before .args .self in
+    let e = judged (c .before .before .before) in
     let h = c .before .if1 .taken in
     (refused-reply _ v [] _ _ e h v _ refl (c .refuse .ensures), refused-stores _ v [] _ _ e h _ _)
 
-accepted : (c : tie.Else1) → let a = c .before .before .before .args in CopyFacts (a .self) (a .x .0) (length (a .medium .now))
-accepted c = copy-accepted _ _ _ (sym (c .before .copy-refusal .ensures) ∙ c .if1 .left)
+accepted : (c : tie.Else1) → let a = c .before .before .before .before .args in CopyFacts (a .self) (a .x .0) (length (a .medium .now))
+accepted c = copy-accepted _ _ _ (sym (judged (c .before .before)) ∙ c .if1 .left)
+
+-- and the old spot
+from-old : (c : tie.Else1)
+    → let a = c .before .before .before .before .args in c .before .before .copy-spot .result .spot ≡ oldSpot (a .self .rows) (historyOf (a .self)) (a .x .0)
+from-old c = spot-found _ _ _ (c .before .before .copy-spot .ensures) (c .if1 .left)
 
 store-copy-requires : tie.Need-store-copy-requires
 store-copy-requires c κs =
-    let f = accepted (c .before) in
+    let b = c .before .before in
+    let f = accepted b in
     let a = f .advances in
-    ((a .is-sound, a .is-growing), (a .room, (f .moves, f .not-copied)))
+    ((a .is-sound, a .is-growing), (a .room, ((f .moves, f .not-copied), from-old b)))
 
 with-copy-requires : tie.Need-with-copy-requires
 with-copy-requires c κs =
-    let f = accepted (c .before .before .before .before) in
-    let a = f .advances in
-    ((a .is-sound, a .is-growing), f .moves)
+    let b = c .before .before .before .before .before in
+    let a = accepted b .advances in
+    ((a .is-sound, a .is-growing), copied-asks _ _ _ (accepted b) _ (from-old b))
+
+copied : (c : tie.After-with-copy)
+    → let a = c .before .before .before .before .before .before .before .before .before .before .args in c .with-copy .result ≡ withCopy (a .self) (a .x .0)
+copied c = c .with-copy .ensures ∙ copied-at _ _ _ (from-old (c .before .before .before .before .before .before))
 
 report-requires : tie.Need-report-requires
 report-requires c κs =
-    let f = accepted (c .before .before .before .before .before) in
+    let f = accepted (c .before .before .before .before .before .before) in
     let a = f .advances in
-    rw (c .with-copy .ensures) (copied-sound _ _ (a .is-sound) (a .is-growing) (f .moves))
+    rw (copied c) (copied-sound _ _ (a .is-sound) (a .is-growing) (f .moves))
 
 same-length : tie.Need-same-length
 same-length c = search needs
@@ -52,10 +71,11 @@ same-length c = search needs
 returns-2 : tie.Need-returns-2
 unfolding copyOutcome reporting observe
 returns-2 c =
-    let v = c .before .before .before .before .before .before .before .before .before .args .self in
-    let e = c .before .before .before .before .before .before .before .copy-refusal .ensures in
-    let h = c .before .before .before .before .before .before .if1 .left in (
-      accepted-reply _ v [] _ _ e h _ (rw (c .before .with-copy .ensures) at (c .report .ensures)),
+    let b = c .before .before .before .before .before .before .before in
+    let v = b .before .before .before .before .args .self in
+    let e = judged (b .before .before) in
+    let h = b .if1 .left in (
+      accepted-reply _ v [] _ _ e h _ (rw (copied (c .before)) at (c .report .ensures)),
       accepted-stores _ v [] _ _ e h _ _ _ (c .before .before .before .before .store-copy .ensures),
     )
 
@@ -63,7 +83,7 @@ pub copy-spec : {M : Type 1} → statement M
 copy-spec =
     tie.close
     (tie.spec
-    copy-refusal-requires
+    copy-spot-requires
     refuse-requires
     returns
     store-copy-requires

@@ -1,6 +1,7 @@
 -- `live_spot` meets its contract. Assumes nothing.
 use mathlib.Core.Path.{_∙_}
-use Rattle.volume.proofs.LiveCode.{history-limits, rest-asks, rest-spot, has-growth, old-block, growing-spot}
+use native.Mathlib.Omega.{arith}
+use Rattle.volume.proofs.LiveCode.{rest-asks, rest-spot, has-growth, asks-before, newest-asked, live-asks, live-read}
 use Rattle.volume.proofs.Volume.live_spot.Statement.{statement}
 use Rattle.volume.proofs.Volume.live_spot.Tie as tie
 
@@ -10,14 +11,27 @@ spot-of-requires c κs = let p = c .before .before .before .pre in rest-asks _ (
 returns : tie.Need-returns
 returns c = c .spot-of .ensures ∙ rest-spot _ (c .before .if1 .taken) _
 
-live-spot-requires : tie.Need-live-spot-requires
-live-spot-requires c κs =
-    let g = c .if1 .left in
-    let p = c .before .before .before .pre in
-    (history-limits _ (p .0), (has-growth _ g (p .0), old-block _ g _ (p .1)))
+sub-spot-of : tie.Need-sub-spot-of
+sub-spot-of c = omega (arith, has-growth _ (c .if1 .left) (c .before .before .before .pre .0))
+
+spot-of-requires-2 : tie.Need-spot-of-requires-2
+spot-of-requires-2 c κs = let p = c .before .before .before .pre in asks-before _ (c .if1 .left) (p .0) _ (p .1)
+
+newest-growth-requires : tie.Need-newest-growth-requires
+newest-growth-requires c κs = newest-asked _ (c .before .if1 .left) (c .before .before .before .before .pre .0)
+
+live-from-requires : tie.Need-live-from-requires
+live-from-requires c κs =
+    let p = c .before .before .before .before .before .pre in
+    live-asks _ (c .before .before .if1 .left) (p .0) _ (c .newest-growth .ensures) _ (p .1) _ (c .before .spot-of2 .ensures)
 
 returns-2 : tie.Need-returns-2
-returns-2 c = c .live-spot .ensures ∙ growing-spot _ (c .before .if1 .left) _
+returns-2 c =
+    let p = c .before .before .before .before .before .before .pre in
+    c .live-from .ensures
+    ∙ live-read _ (c .before .before .before .if1 .left) (p .0) _ (c .before .newest-growth .ensures) _ (p .1) _ (c .before .before .spot-of2 .ensures)
 
 pub live-spot-spec : {M : Type 1} → statement M
-live-spot-spec = tie.close (tie.spec spot-of-requires returns live-spot-requires returns-2)
+live-spot-spec =
+    tie.close
+    (tie.spec spot-of-requires returns sub-spot-of spot-of-requires-2 newest-growth-requires live-from-requires returns-2)

@@ -1,41 +1,52 @@
 -- `write` meets its contract. Assumes nothing.
-use mathlib.Core.Path.{refl, sym, _∙_}
+use mathlib.Core.Path.{_≡_, refl, sym, _∙_}
 use lib.ListN.{length}
 use borrow.Author.Needs.{needs}
+use Rattle.base.specs.Refusals.{refusal}
+use Rattle.layout.specs.Tally.{liveSpotOf}
 use Rattle.medium.specs.Medium.{observe}
-use Rattle.volume.specs.Calls.{writeOutcome}
+use Rattle.volume.specs.Calls.{writeTable, writeOutcome}
+use Rattle.volume.specs.States.{tallyOf}
 use Rattle.volume.proofs.Accepted.{ReadFacts, write-accepted}
 use Rattle.volume.proofs.BlockCode.{piece-fits}
-use Rattle.volume.proofs.Judged.{refused-reply, refused-stores, accepted-reply, accepted-stores}
+use Rattle.volume.proofs.Judged.{refused-reply, refused-stores, accepted-reply, accepted-stores, refusal-found, spot-found}
 use Rattle.volume.proofs.Volume.write.Statement.{statement}
 use Rattle.volume.proofs.Volume.write.Tie as tie
 
-write-refusal-requires : tie.Need-write-refusal-requires
-write-refusal-requires c κs = search needs
+write-spot-requires : tie.Need-write-spot-requires
+write-spot-requires c κs = search needs
 
 refuse-requires : tie.Need-refuse-requires
 refuse-requires c κs = search needs
 
+-- the number that was found
+judged : (c : tie.After-write-spot)
+    → let a = c .before .before .before .args in
+    c .write-spot .result .refusal ≡ refusal (writeTable (a .self) (a .x .0) (length (a .piece .now)) (length (a .medium .now)))
+judged c = refusal-found _ _ _ (c .write-spot .ensures)
+
 returns : tie.Need-returns
 unfolding writeOutcome observe
 returns c =
-    let a = c .before .before .before .before .before .args in
-    let e = c .before .before .write-refusal .ensures in
+    let a = c .before .before .before .before .before .before .args in
+    let e = judged (c .before .before .before) in
     let h = c .before .if1 .taken in
     (refused-reply _ (a .self) (a .piece .now) _ _ e h (a .self) _ refl (c .refuse .ensures), refused-stores _ (a .self) (a .piece .now) _ _ e h _ _)
 
 accepted : (c : tie.Else1)
-    → let a = c .before .before .before .before .args in ReadFacts (a .self) (a .x .0) (length (a .piece .now)) (length (a .medium .now))
-accepted c = write-accepted _ _ _ _ (sym (c .before .write-refusal .ensures) ∙ c .if1 .left) .0
+    → let a = c .before .before .before .before .before .args in ReadFacts (a .self) (a .x .0) (length (a .piece .now)) (length (a .medium .now))
+accepted c = write-accepted _ _ _ _ (sym (judged (c .before .before)) ∙ c .if1 .left) .0
 
-live-spot-requires : tie.Need-live-spot-requires
-live-spot-requires c κs = (accepted c .is-sound, accepted c .block-open)
+-- and the live spot
+lives : (c : tie.Else1)
+    → let a = c .before .before .before .before .before .args in c .before .before .write-spot .result .spot ≡ liveSpotOf (tallyOf (a .self)) (a .x .0)
+lives c = spot-found _ _ _ (c .before .before .write-spot .ensures) (c .if1 .left)
 
 geometry-requires : tie.Need-geometry-requires
 geometry-requires c κs = search needs
 
 store-block-requires : tie.Need-store-block-requires
-store-block-requires c κs = piece-fits _ _ _ _ (accepted (c .before .before .before)) _ (c .before .geometry .ensures) _ (c .before .before .live-spot .ensures)
+store-block-requires c κs = let b = c .before .before .before in piece-fits _ _ _ _ (accepted b) _ (c .before .geometry .ensures) _ (lives b)
 
 same-length : tie.Need-same-length
 same-length c = search needs
@@ -43,21 +54,21 @@ same-length c = search needs
 returns-2 : tie.Need-returns-2
 unfolding writeOutcome observe
 returns-2 c =
-    let a = c .before .before .before .before .before .before .before .before .before .before .args in
-    let e = c .before .before .before .before .before .before .before .write-refusal .ensures in
-    let h = c .before .before .before .before .before .before .if1 .left in (
+    let b = c .before .before .before .before .before .before in
+    let a = b .before .before .before .before .before .args in
+    let e = judged (b .before .before) in
+    let h = b .if1 .left in (
       accepted-reply _ (a .self) (a .piece .now) _ _ e h _ refl,
-      accepted-stores _ (a .self) (a .piece .now) _ _ e h _ _ _ (rw (c .before .before .before .before .before .live-spot .ensures, c .before .before .before .before .geometry .ensures) at (c .before .before .store-block .ensures)),
+      accepted-stores _ (a .self) (a .piece .now) _ _ e h _ _ _ (rw (lives b, c .before .before .before .before .geometry .ensures) at (c .before .before .store-block .ensures)),
     )
 
 pub write-spec : {M : Type 1} → statement M
 write-spec =
     tie.close
     (tie.spec
-    write-refusal-requires
+    write-spot-requires
     refuse-requires
     returns
-    live-spot-requires
     geometry-requires
     store-block-requires
     same-length

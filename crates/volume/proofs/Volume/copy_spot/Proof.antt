@@ -1,0 +1,114 @@
+-- `copy_spot` meets its contract. Assumes nothing.
+use Prim.Native.Nat.{_<_}
+use mathlib.Core.Path.{_≡_, sym, _∙_}
+use mathlib.Core.Bool.{Bool, cond}
+use native.Mathlib.Omega.{arith}
+use borrow.Author.Needs.{needs}
+use borrow.Author.Tests.{not-true, not-false}
+use Rattle.base.specs.Refusals.{refusal}
+use Rattle.layout.specs.Tally.{openBlocks}
+use Rattle.layout.specs.Windows.{movingIn}
+use Rattle.volume.specs.Calls.{copyTable}
+use Rattle.volume.specs.States.{tallyOf}
+use Rattle.volume.proofs.Accepted.{AdvanceFacts, advance-accepted}
+use Rattle.volume.proofs.GrowthCode.{copy-refused, copy-not-open, copy-not-moving, copy-left}
+use Rattle.volume.proofs.Judged.{found-refused, found-there}
+use Rattle.volume.proofs.LiveCode.{countsNow, has-growth, asks-before, newest-asked, spot-is-old, spot-asks, moves-read, marked-read}
+use Rattle.volume.proofs.Volume.copy_spot.Statement.{statement}
+use Rattle.volume.proofs.Volume.copy_spot.Tie as tie
+
+advance-refusal-requires : tie.Need-advance-refusal-requires
+advance-refusal-requires c κs = search needs
+
+returns : tie.Need-returns
+returns c = found-refused _ _ _ (copy-refused _ _ _ (c .before .advance-refusal .ensures) (c .if1 .taken) _) (c .if1 .taken)
+
+advances : (c : tie.Else1) → AdvanceFacts (c .before .before .args .self) (c .before .before .args .len)
+advances c = advance-accepted _ _ (sym (c .before .advance-refusal .ensures) ∙ c .if1 .left)
+
+open-blocks-requires : tie.Need-open-blocks-requires
+open-blocks-requires c κs = advances c .is-sound
+
+returns-2 : tie.Need-returns-2
+returns-2 c =
+    let b = c .before .before .before in
+    found-refused _ _ _ (copy-not-open _ _ _ (b .before .advance-refusal .ensures) (b .if1 .left) _ (rw (c .before .before .open-blocks .ensures) at (c .if2 .taken)))
+    (λ e. absurd (omega arith))
+
+block-open : (c : tie.Else2) → c .before .before .before .before .before .args .x .0 < openBlocks (tallyOf (c .before .before .before .before .before .args .self))
+block-open c = rw (c .before .before .open-blocks .ensures) at (c .if2 .left)
+
+sub-spot-of : tie.Need-sub-spot-of
+sub-spot-of c = let a = advances (c .before .before .before .before) in omega (arith, has-growth _ (a .is-growing) (a .is-sound))
+
+spot-of-requires : tie.Need-spot-of-requires
+spot-of-requires c κs =
+    let a = advances (c .before .before .before .before) in
+    asks-before _ (a .is-growing) (a .is-sound) _ (block-open (c .before))
+
+newest-growth-requires : tie.Need-newest-growth-requires
+newest-growth-requires c κs = let a = advances (c .before .before .before .before .before) in newest-asked _ (a .is-growing) (a .is-sound)
+
+moves-now-requires : tie.Need-moves-now-requires
+moves-now-requires c κs =
+    let a = advances (c .before .before .before .before .before .before) in
+    spot-asks _ (a .is-growing) (a .is-sound) _ (c .newest-growth .ensures) _ (block-open (c .before .before .before)) _ (c .before .spot-of .ensures)
+
+-- whether it is a moving block of window w
+moves-told : (c : tie.After-moves-now)
+    → let a = c .before .before .before .before .before .before .before .before .before .args in
+    c .moves-now .result ≡ movingIn (a .self .rows) (countsNow (a .self)) (a .self .window) (a .x .0)
+moves-told c =
+    let a = advances (c .before .before .before .before .before .before .before) in
+    c .moves-now .ensures
+    ∙ moves-read _ (a .is-growing) (a .is-sound) _ (c .before .newest-growth .ensures) _ (block-open (c .before .before .before .before)) _ (c .before .before .spot-of .ensures)
+
+returns-3 : tie.Need-returns-3
+returns-3 c =
+    let b = c .before .before .before .before .before in
+    let d = b .before .before .before in
+    found-refused _ _ _ (copy-not-moving _ _ _ (d .before .advance-refusal .ensures) (d .if1 .left) _ (block-open b) _ (moves-told (c .before)) (not-true _ (c .if3 .taken)))
+    (λ e. absurd (omega arith))
+
+is-marked-requires : tie.Need-is-marked-requires
+is-marked-requires c κs =
+    let n = c .before .before in
+    let a = advances (n .before .before .before .before .before .before) in
+    spot-asks _ (a .is-growing) (a .is-sound) _ (n .newest-growth .ensures) _ (block-open (n .before .before .before)) _ (n .before .spot-of .ensures)
+
+last-test : (c : tie.After-is-marked) (copied : Bool) → copied ≡ c .is-marked .result
+    → let a = c .before .before .before .before .before .before .before .before .before .before .before .args in cond copied 11 0 ≡ refusal (copyTable (a .self) (a .x .0) (a .len))
+last-test c copied t =
+    let n = c .before .before .before in
+    let b = n .before .before .before in
+    let d = b .before .before .before in
+    let a = advances d in
+    let m = marked-read _ (a .is-growing) (a .is-sound) _ (n .newest-growth .ensures) _ (block-open b) _ (n .before .spot-of .ensures) _ in
+    copy-left _ _ _ (d .before .advance-refusal .ensures) (d .if1 .left) _ (block-open b) _ (moves-told (c .before .before)) (not-false _ (c .before .if3 .left)) copied
+    (t ∙ c .is-marked .ensures ∙ m)
+
+returns-4 : tie.Need-returns-4
+returns-4 c = found-refused _ _ _ (last-test (c .before) _ (sym (c .if4 .taken))) (λ e. absurd (omega arith))
+
+returns-5 : tie.Need-returns-5
+returns-5 c =
+    let s = c .before .before .before .before .before in
+    let a = advances (s .before .before .before .before .before) in
+    found-there _ _ _ (last-test (c .before) _ (sym (c .if4 .left))) (spot-is-old _ (a .is-growing) (a .is-sound) _ _ (s .spot-of .ensures))
+
+pub copy-spot-spec : {M : Type 1} → statement M
+copy-spot-spec =
+    tie.close
+    (tie.spec
+    advance-refusal-requires
+    returns
+    open-blocks-requires
+    returns-2
+    sub-spot-of
+    spot-of-requires
+    newest-growth-requires
+    moves-now-requires
+    returns-3
+    is-marked-requires
+    returns-4
+    returns-5)
