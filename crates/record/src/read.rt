@@ -80,14 +80,16 @@ fn has_spaces(bytes: &[u8]) -> bool
     requires { ⌜ length (now bytes) ≡ 512 ⌝ }
     ensures { λ r. ⌜ r ≡ spacesHold (now (bytes .entry)) ⌝ }
 {
+    // No early return, so that the compiler takes many bytes at a time.
+    let mut other = 0u16;
     let mut i = 0;
     while i < 317 {
         if bytes[194 + i] != b' ' {
-            return false;
+            other += 1;
         }
         i += 1;
     }
-    true
+    other == 0
 }
 
 // Refusal 13.

@@ -1,25 +1,35 @@
--- `has_spaces` meets its contract. Assumes nothing.
-use Prim.Native.Nat.{_-_, _≤_}
-use mathlib.Core.Path.{_≡_, refl, sym}
-use mathlib.Core.Bool.{true}
+-- `has_spaces` meets its contract. The loop's invariant: no other byte is counted where those passed are spaces. Assumes nothing.
+use Prim.Native.Nat.{ℕ, _+_, _-_, _≤_}
+use mathlib.Core.Path.{_≡_, refl}
+use mathlib.Core.Bool.{Bool, true, false}
+use mathlib.Core.Logic.{⊎-elim}
+use native.Mathlib.Numerals.{add-one}
 use native.Mathlib.Omega.{arith}
+use lib.Dec.{eqb}
 use borrow.Author.Tests.{eq-eqb, ne-eqb}
 use Rattle.base.specs.Below.{every}
-use Rattle.base.proofs.Counting.{every-next, every-fails}
 use Rattle.record.specs.Sector.{spacesHold}
 use Rattle.record.proofs.ReadCode.{spaceAt}
 use Rattle.record.proofs.read.has_spaces.Statement.{statement}
 use Rattle.record.proofs.read.has_spaces.Tie as tie
 
+none-more : (p : ℕ → Bool) (j other : ℕ) → eqb other 0 ≡ every p j → p j ≡ true → eqb other 0 ≡ every p (j + 1)
+unfolding every
+none-more p j other e f = rw (add-one, f) e
+
+one-more : (p : ℕ → Bool) (j other : ℕ) → p j ≡ false → eqb (other + 1) 0 ≡ every p (j + 1)
+unfolding every
+one-more p j other f = rw (add-one j, f) (ne-eqb (other + 1) 0 (λ e. absurd (omega arith)))
+
 abbrev Inv-loop : tie.InvT-loop
-Inv-loop bytes i₀ i = (i ≤ 317) × (every (spaceAt bytes) i ≡ true)
+Inv-loop bytes other₀ i₀ other i = (i ≤ 317) × (other ≤ i) × (eqb other 0 ≡ every (spaceAt bytes) i)
 
 abbrev μ-loop : tie.MeasureT-loop
-μ-loop bytes i₀ i = 317 - i
+μ-loop bytes other₀ i₀ other i = 317 - i
 
 loop-holds : tie.Need-loop-holds Inv-loop μ-loop
 unfolding every
-loop-holds c = (omega arith, refl)
+loop-holds c = (omega arith, omega arith, refl)
 
 add-if1 : tie.Need-add-if1 Inv-loop μ-loop
 add-if1 c = omega arith
@@ -27,9 +37,8 @@ add-if1 c = omega arith
 shared-slice-read-if1 : tie.Need-shared-slice-read-if1 Inv-loop μ-loop
 shared-slice-read-if1 c = omega arith
 
-returns : tie.Need-returns Inv-loop μ-loop
-unfolding spacesHold
-returns c = sym (every-fails _ 317 (c .before .before .before .loop .i) (omega arith) (ne-eqb _ _ (c .if1 .taken)))
+add-other : tie.Need-add-other Inv-loop μ-loop
+add-other c = omega arith
 
 add-i : tie.Need-add-i Inv-loop μ-loop
 add-i c = omega arith
@@ -38,13 +47,17 @@ loop-less : tie.Need-loop-less Inv-loop μ-loop
 loop-less c = omega arith
 
 loop-again : tie.Need-loop-again Inv-loop μ-loop
-loop-again c = (omega arith, every-next _ _ (c .before .before .before .loop .inv .1) (eq-eqb _ _ (c .if1 .left)))
+loop-again c =
+    let l = c .before .before .before .loop in
+    let bytes = c .before .before .before .before .args .bytes .now in
+    ⊎-elim (λ w. rw (w .1) (omega arith, omega arith, one-more (spaceAt bytes) (l .i) (l .other) (ne-eqb _ _ (w .0 .taken))))
+    (λ w. rw (w .1) (omega arith, omega arith, none-more (spaceAt bytes) (l .i) (l .other) (l .inv .2) (eq-eqb _ _ (w .0 .left)))) (c .if1 .came)
 
-returns-2 : tie.Need-returns-2 Inv-loop μ-loop
+returns : tie.Need-returns Inv-loop μ-loop
 unfolding spacesHold
-returns-2 c =
+returns c =
     let e : c .before .loop .i ≡ 317 = omega arith in
-    sym (rw e at (c .before .loop .inv .1))
+    rw e at (c .before .loop .inv .2)
 
 pub has-spaces-spec : {M : Type 1} → statement M
 has-spaces-spec =
@@ -55,8 +68,8 @@ has-spaces-spec =
     loop-holds
     add-if1
     shared-slice-read-if1
-    returns
+    add-other
     add-i
     loop-less
     loop-again
-    returns-2)
+    returns)
