@@ -5,8 +5,8 @@
 // limits of a sound volume.
 ghost use mathlib.Core.Path.{_≡_};
 ghost use mathlib.Core.Bool.{true};
-ghost use Prim.Native.Nat.{_+_, _*_, _<_, _≤_};
-ghost use Rattle.layout.specs.Limits.{Limits, Grows, mostRows};
+ghost use Prim.Native.Nat.{_+_, _-_, _*_, _<_, _≤_};
+ghost use Rattle.layout.specs.Limits.{Limits, Grows, mostDisks, mostRows};
 ghost use Rattle.layout.specs.Growth.{movesFrom};
 ghost use Rattle.layout.specs.History.{history, oldCount, addedCount};
 ghost use Rattle.layout.specs.Windows.{windows, markOfSpot, spotOfMark, rowExists, cutMoves, laterMoves, movesOfWindow};
@@ -63,24 +63,32 @@ pub fn row_exists(m: usize, n: usize, s: usize, w: usize, j: usize) -> bool
     start + (j / n + j % n) < s
 }
 
-// The moving blocks of a window that is cut off to r rows.
+// 1 + 2 + .. + k.
+fn triangle(k: usize) -> usize
+    requires { ⌜ k ≤ mostDisks ⌝ }
+    ensures { λ r. ⌜ r + r ≡ k * (k + 1) ⌝ }
+{
+    k * (k + 1) / 2
+}
+
+// a - b, or 0 where b is more.
+fn excess(a: usize, b: usize) -> usize
+    ensures { λ r. ⌜ r ≡ a - b ⌝ }
+{
+    if a < b {
+        return 0;
+    }
+    a - b
+}
+
+// The moving blocks of a window that is cut off to r rows. Disk d has r - d rows from its own on, triangle(r) in all for the disks below
+// r. Of those, the rows of disks that are not old, and the rows past the n of each disk that move, don't count.
 fn cut_moves(m: usize, n: usize, r: usize) -> usize
     requires { ⌜ Grows m n ⌝ }
+    requires { ⌜ r < m + n ⌝ }
     ensures { λ k. ⌜ k ≡ cutMoves m n r ⌝ }
 {
-    let end = if m < r { m } else { r };
-    let mut total = 0;
-    let mut d = 0;
-    while d < end {
-        let rest = r - d;
-        if n < rest {
-            total += n;
-        } else {
-            total += rest;
-        }
-        d += 1;
-    }
-    total
+    triangle(r) - triangle(excess(r, m)) - triangle(excess(r, n))
 }
 
 // The moving blocks of window w of the newest growth.

@@ -1,65 +1,58 @@
--- `cut_moves` meets its contract. The loop's invariant: the total is the sum over the disks passed, each of at most as many as there may be disks. Assumes nothing.
-use Prim.Native.Nat.{_+_, _-_, _*_, _≤_, min}
+-- `cut_moves` meets its contract. Assumes nothing.
+use Prim.Native.Nat.{_+_, _-_}
 use mathlib.Core.Path.{_≡_, refl}
-use mathlib.Core.Logic.{⊎-elim}
 use native.Mathlib.Omega.{arith}
-use Rattle.base.specs.Below.{sum}
-use Rattle.layout.specs.Limits.{mostDisks}
+use borrow.Author.Needs.{needs}
 use Rattle.layout.specs.Windows.{cutMoves}
-use Rattle.base.proofs.Counting.{sum-next}
+use Rattle.window.proofs.CutMoves.{triangle, is-triangle, cut-triangles}
 use Rattle.window.proofs.cut_moves.Statement.{statement}
 use Rattle.window.proofs.cut_moves.Tie as tie
 
-abbrev Inv-loop : tie.InvT-loop
-Inv-loop m n r end total₀ d₀ total d = (d ≤ end) × (end ≡ min m r) × (total ≡ sum (λ k. min n (r - k)) d) × (total ≤ d * mostDisks)
+triangle-requires : tie.Need-triangle-requires
+triangle-requires c κs = search needs
 
-abbrev μ-loop : tie.MeasureT-loop
-μ-loop m n r end total₀ d₀ total d = end - d
+excess-requires : tie.Need-excess-requires
+excess-requires c κs = search needs
 
-end-is : (c : tie.Joined1 Inv-loop μ-loop) → c .if1 .end ≡ min (c .before .args .m) (c .before .args .r)
-end-is c = ⊎-elim (λ w. omega arith) (λ w. omega arith) (c .if1 .came)
+triangle-requires-2 : tie.Need-triangle-requires-2
+triangle-requires-2 c κs = search needs
 
-loop-holds : tie.Need-loop-holds Inv-loop μ-loop
-unfolding sum
-loop-holds c = (omega arith, end-is c, refl, omega arith)
+-- what the first two triangles are, with the third as it is to be
+first-two : (c : tie.After-triangle2)
+    → let a = c .before .before .before .args in
+    cutMoves (a .m) (a .n) (a .r) + c .triangle2 .result + triangle (a .r - a .n) ≡ c .before .before .triangle .result
+first-two c =
+    omega (
+      arith,
+      cut-triangles _ _ _ (c .before .before .before .pre .1),
+      is-triangle _ _ _ refl (c .before .before .triangle .ensures),
+      is-triangle _ _ _ (c .before .excess .ensures) (c .triangle2 .ensures),
+    )
 
-sub-rest : tie.Need-sub-rest Inv-loop μ-loop
-sub-rest c = omega arith
+sub-result : tie.Need-sub-result
+sub-result c = omega (arith, first-two c)
 
-add-total : tie.Need-add-total Inv-loop μ-loop
-add-total c = omega arith
+excess-requires-2 : tie.Need-excess-requires-2
+excess-requires-2 c κs = search needs
 
-add-total-2 : tie.Need-add-total-2 Inv-loop μ-loop
-add-total-2 c = omega arith
+triangle-requires-3 : tie.Need-triangle-requires-3
+triangle-requires-3 c κs = search needs
 
-add-d : tie.Need-add-d Inv-loop μ-loop
-add-d c = omega arith
+sub-result-2 : tie.Need-sub-result-2
+sub-result-2 c = omega (arith, first-two (c .before .before), is-triangle _ _ _ (c .before .excess2 .ensures) (c .triangle3 .ensures))
 
-loop-less : tie.Need-loop-less Inv-loop μ-loop
-loop-less c = omega arith
-
-loop-again : tie.Need-loop-again Inv-loop μ-loop
-loop-again c =
-    let a = c .before .before .before .before .args in
-    let l = c .before .before .loop in
-    let here : c .if2 .total ≡ l .total + min (a .n) (a .r - l .d) = ⊎-elim (λ w. omega arith) (λ w. omega arith) (c .if2 .came) in
-    (omega arith, l .inv .1, rw (sum-next, ← l .inv .2) here, omega arith)
-
-returns : tie.Need-returns Inv-loop μ-loop
-unfolding cutMoves
-returns c = let e : c .before .loop .d ≡ min (c .before .before .before .args .m) (c .before .before .before .args .r) = omega arith in rw e at (c .before .loop .inv .2)
+returns : tie.Need-returns
+returns c = omega (arith, first-two (c .before .before), is-triangle _ _ _ (c .before .excess2 .ensures) (c .triangle3 .ensures))
 
 pub cut-moves-spec : {M : Type 1} → statement M
 cut-moves-spec =
     tie.close
     (tie.spec
-    Inv-loop
-    μ-loop
-    loop-holds
-    sub-rest
-    add-total
-    add-total-2
-    add-d
-    loop-less
-    loop-again
+    triangle-requires
+    excess-requires
+    triangle-requires-2
+    sub-result
+    excess-requires-2
+    triangle-requires-3
+    sub-result-2
     returns)

@@ -1,6 +1,6 @@
 -- `later_moves` meets its contract. Assumes nothing.
 use Prim.Native.Nat.{_+_, _%_}
-use native.Mathlib.Nat.{div-le-self}
+use native.Mathlib.Nat.{div-le-self, mod-lt}
 use native.Mathlib.Numerals.{add-one}
 use native.Mathlib.Omega.{arith}
 use borrow.Author.Tests.{lt-ltb, le-ltb}
@@ -39,7 +39,7 @@ rem-cut-moves : tie.Need-rem-cut-moves
 rem-cut-moves c = search needs
 
 cut-moves-requires : tie.Need-cut-moves-requires
-cut-moves-requires c κs = search needs
+cut-moves-requires c κs = (c .before .pre .0, mod-lt (c .before .args .s) {m = c .before .args .m + c .before .args .n} (omega arith))
 
 add-result-2 : tie.Need-add-result-2
 add-result-2 c =

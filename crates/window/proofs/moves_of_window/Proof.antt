@@ -46,7 +46,7 @@ returns c =
     (omega (arith, c .if1 .taken, known (c .before) .1, suc-mul (c .before .before .args .w) (g .old + g .added)))
 
 cut-moves-requires : tie.Need-cut-moves-requires
-cut-moves-requires c κs = known (c .before) .0
+cut-moves-requires c κs = (known (c .before) .0, omega arith)
 
 returns-2 : tie.Need-returns-2
 returns-2 c =
