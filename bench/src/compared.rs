@@ -1,7 +1,9 @@
 //! The rows that compare values of s. The calls with a medium use as many bytes for each s, and these fit the cache.
 
 use crate::cases::*;
-use crate::list::{address, holder, recording, recordings, soundness, DIRECTIONS, RECORDS};
+use crate::list::{
+    address, holder, recording, recordings, soundness, DIRECTIONS, LOOKUPS, RECORDS,
+};
 use crate::media::Media;
 use crate::moves::{self, Moves};
 use crate::order;
@@ -20,10 +22,10 @@ pub fn lookups(s: u64) -> Vec<Box<dyn Row>> {
     let (grown, growing) = (volume::grown(512, s, &COUNTS), half_grown(s));
     let label = |call, case| compared(lookup_label(call, case, s));
     vec![
-        soundness(label("soundness", GROWING), growing),
-        address(label("address", GROWN), grown, 16 * s),
-        address(label("address", GROWING), growing, 14 * s),
-        holder(label("holder", GROWN), grown, 0..16 * s),
+        soundness(label("soundness", GROWING), growing, LOOKUPS),
+        address(label("address", GROWN), grown, 16 * s, LOOKUPS),
+        address(label("address", GROWING), growing, 14 * s, LOOKUPS),
+        holder(label("holder", GROWN), grown, 0..16 * s, LOOKUPS),
     ]
 }
 
@@ -43,7 +45,7 @@ pub fn calls(media: &Media, s: u64) -> Vec<Box<dyn Row>> {
             case,
             ..model
         };
-        rows.push(recording(label, kind, &media.sparse, words));
+        rows.push(recording(label, kind, &media.sparse, words, RECORDS));
     }
     rows
 }

@@ -16,7 +16,7 @@ use std::ops::Range;
 const SIZES: [u64; 3] = [512, 4096, 65_536];
 const LOOKUP_ROWS: u64 = 100_000;
 /// Calls of a lookup in a round.
-const LOOKUPS: usize = 65_536;
+pub const LOOKUPS: usize = 65_536;
 /// Calls in a round of those that store or read the record.
 pub const RECORDS: usize = 16_384;
 
@@ -44,8 +44,7 @@ pub fn all(media: &Media) -> Vec<Box<dyn Row>> {
     rows
 }
 
-pub fn soundness(label: Label, words: Words) -> Box<dyn Row> {
-    let calls = LOOKUPS;
+pub fn soundness(label: Label, words: Words, calls: usize) -> Box<dyn Row> {
     Box::new(Soundness {
         label,
         words,
@@ -54,8 +53,8 @@ pub fn soundness(label: Label, words: Words) -> Box<dyn Row> {
 }
 
 /// Address for blocks below `open`.
-pub fn address(label: Label, words: Words, open: u64) -> Box<dyn Row> {
-    let blocks = order::drawn(LOOKUPS, open);
+pub fn address(label: Label, words: Words, open: u64, calls: usize) -> Box<dyn Row> {
+    let blocks = order::drawn(calls, open);
     Box::new(Address {
         label,
         words,
@@ -64,8 +63,8 @@ pub fn address(label: Label, words: Words, open: u64) -> Box<dyn Row> {
 }
 
 /// Holder at the spots of some of the blocks.
-pub fn holder(label: Label, words: Words, blocks: Range<u64>) -> Box<dyn Row> {
-    let drawn = order::drawn(LOOKUPS, blocks.end - blocks.start);
+pub fn holder(label: Label, words: Words, blocks: Range<u64>, calls: usize) -> Box<dyn Row> {
+    let drawn = order::drawn(calls, blocks.end - blocks.start);
     let spot = |i| volume::spot(&words, blocks.start + i);
     let spots = drawn.into_iter().map(spot).collect();
     Box::new(Holder {
@@ -81,18 +80,20 @@ fn lookups() -> Vec<Box<dyn Row>> {
     let grown = volume::grown(512, s, &COUNTS);
     let old = volume::grown(512, s, &OLD_COUNTS);
     let growing = half_grown(s);
-    let label = |call, case| lookup_label(call, case, s);
+    let sound = |case, words| soundness(lookup_label("soundness", case, s), words, LOOKUPS);
+    let at = |case, words, open| address(lookup_label("address", case, s), words, open, LOOKUPS);
+    let held = |case, blocks| holder(lookup_label("holder", case, s), grown, blocks, LOOKUPS);
     vec![
-        soundness(label("soundness", FORMATTED), formatted),
-        soundness(label("soundness", GROWN), grown),
-        soundness(label("soundness", GROWING), growing),
-        address(label("address", FORMATTED), formatted, 16 * s),
-        address(label("address", GROWN), grown, 16 * s),
-        address(label("address", OLD_BLOCKS), old, 16 * s),
-        address(label("address", GROWING), growing, 14 * s),
-        holder(label("holder", GROWN), grown, 0..16 * s),
-        holder(label("holder", ADDED), grown, 14 * s..16 * s),
-        holder(label("holder", NOT_ADDED), grown, 0..14 * s),
+        sound(FORMATTED, formatted),
+        sound(GROWN, grown),
+        sound(GROWING, growing),
+        at(FORMATTED, formatted, 16 * s),
+        at(GROWN, grown, 16 * s),
+        at(OLD_BLOCKS, old, 16 * s),
+        at(GROWING, growing, 14 * s),
+        held(GROWN, 0..16 * s),
+        held(ADDED, 14 * s..16 * s),
+        held(NOT_ADDED, 0..14 * s),
     ]
 }
 
@@ -150,13 +151,19 @@ pub fn recordings(model: Label, medium: &Shared, words: Words) -> Vec<Box<dyn Ro
             call: name,
             ..model
         };
-        recording(label, call, medium, words)
+        recording(label, call, medium, words, RECORDS)
     };
     calls.map(row).into()
 }
 
-pub fn recording(label: Label, call: record::Call, medium: &Shared, words: Words) -> Box<dyn Row> {
+pub fn recording(
+    label: Label,
+    call: record::Call,
+    medium: &Shared,
+    words: Words,
+    calls: usize,
+) -> Box<dyn Row> {
     // The growth goes on after each of these windows.
-    let windows = order::drawn(RECORDS, volume::whole_windows(&words) - 1);
+    let windows = order::drawn(calls, volume::whole_windows(&words) - 1);
     Box::new(Recording::new(label, call, medium, words, windows))
 }

@@ -1,9 +1,12 @@
-//! Times the library against the Rust reference and memcpy, in one run.
+//! Times the library against the Rust reference and memcpy, in one run, and counts the instructions of its calls. With the
+//! argument `instructions` it only counts them. It fails when a call takes more than its limit.
 
 mod aims;
 mod cases;
 mod compared;
+mod counted;
 mod date;
+mod instructions;
 mod list;
 mod lookup;
 mod machine;
@@ -20,11 +23,29 @@ mod volume;
 
 use media::Media;
 use row::{Line, Row, Side};
+use std::env;
+use std::process::ExitCode;
 
 /// Timed rounds. In each one every row is timed on every side.
 pub const ROUNDS: usize = 15;
 
-fn main() {
+fn main() -> ExitCode {
+    match env::args().nth(1).as_deref() {
+        Some(instructions::MAKE_CALLS) => instructions::make_calls(),
+        Some("instructions") => return limits(),
+        Some(_) => {
+            eprintln!("usage: bench [instructions]");
+            return ExitCode::from(2);
+        }
+        None => {
+            times();
+            return limits();
+        }
+    }
+    ExitCode::SUCCESS
+}
+
+fn times() {
     let media = Media::new();
     let mut rows = list::all(&media);
     let lines = run(&mut rows);
@@ -32,6 +53,15 @@ fn main() {
     notes::print();
     table::print(&lines);
     aims::print(&lines);
+}
+
+fn limits() -> ExitCode {
+    println!("Instructions for one call:\n");
+    if instructions::print() {
+        return ExitCode::SUCCESS;
+    }
+    println!("A call takes more instructions than its limit in bench/src/counted.rs, or none were counted.");
+    ExitCode::FAILURE
 }
 
 /// Runs all rounds after one that is not counted.

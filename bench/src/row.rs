@@ -58,12 +58,18 @@ pub fn timed(
         let slice = first..calls.end.min(first + step);
         let count = slice.len() as f64;
         let start = Instant::now();
-        let refused = body(slice);
+        let refused = make_calls(&mut body, slice);
         let time = start.elapsed();
         assert_eq!(refused, 0, "a call was refused");
         times.push(time.as_nanos() as f64 / count);
     }
     median(&times)
+}
+
+/// Makes the calls of a slice. Instructions are counted inside this function, which is why it is never inlined.
+#[inline(never)]
+fn make_calls(body: &mut impl FnMut(Range<usize>) -> u64, slice: Range<usize>) -> u64 {
+    body(slice)
 }
 
 /// The times of a row, for each side by its number.

@@ -95,12 +95,17 @@ impl Row for Transfer {
         self.pass(side, 0..self.warming);
         let calls = self.blocks.len() / self.sections;
         let first = section % self.sections * calls;
-        let step = match self.words[0] {
-            512 => 512,
-            4096 => 128,
-            _ => 16,
-        };
+        let step = slice_calls(self.words[0]);
         timed(first..first + calls, step, |slice| self.pass(side, slice))
+    }
+}
+
+/// Calls in a slice.
+pub fn slice_calls(z: u64) -> usize {
+    match z {
+        512 => 512,
+        4096 => 128,
+        _ => 16,
     }
 }
 

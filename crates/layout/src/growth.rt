@@ -140,8 +140,13 @@ pub fn added_index(m: usize, n: usize, d: usize, b: usize) -> usize
     ensures { λ r. ⌜ r ≡ addedIndex m n d b ⌝ }
 {
     let k = m + n;
-    let first = added_disk(m, n, b, 0);
-    reduce_once(d + (k - first), k)
+    let b1 = b % k;
+    let up = d + (n - 1);
+    // One remainder, of up - b1: where that is negative, k more is no remainder to take.
+    if up < b1 {
+        return up + k - b1;
+    }
+    reduce_once(up - b1, k)
 }
 
 // The old disk of the moved block that the added disk d has at row b1 of its window.

@@ -115,16 +115,16 @@ pub fn address_from(
 
 // The block that lives at p.
 pub fn live_block(
-    counts: [usize; 8],
+    counts: &[usize; 8],
     t: usize,
     s: usize,
     w: usize,
     recorded: usize,
     p: Spot,
 ) -> LiveBlock
-    requires { ⌜ Limits s (history t counts) ⌝ }
-    requires { ⌜ (0 < t) × Within s (history t counts) p ⌝ }
-    ensures { λ r. ⌜ r ≡ asLiveBlock (liveBlock s (history t counts) (recordedBy s (history t counts) w (markedBlocks s (history t counts) w (marksOf recorded))) p) ⌝ }
+    requires { ⌜ Limits s (history t (now counts)) ⌝ }
+    requires { ⌜ (0 < t) × Within s (history t (now counts)) p ⌝ }
+    ensures { λ r. ⌜ r ≡ asLiveBlock (liveBlock s (history t (now (counts .entry))) (recordedBy s (history t (now (counts .entry))) w (markedBlocks s (history t (now (counts .entry))) w (marksOf recorded))) p) ⌝ }
 {
     let g = layout::newest_growth(counts, t);
     let m = g.old;

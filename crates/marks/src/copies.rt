@@ -41,10 +41,10 @@ pub fn with_mark(m: usize, n: usize, marks: usize, p: Spot) -> usize
 }
 
 // Are all moving blocks of window w copied?
-pub fn all_copied(counts: [usize; 8], t: usize, s: usize, w: usize, copied: usize) -> bool
-    requires { ⌜ Limits s (history t counts) ⌝ }
-    requires { ⌜ (0 < t) × (w < windows (oldCount (history t counts)) (addedCount (history t counts)) s) ⌝ }
-    ensures { λ r. ⌜ r ≡ allCopied s (history t counts) w (markedBlocks s (history t counts) w (marksOf copied)) ⌝ }
+pub fn all_copied(counts: &[usize; 8], t: usize, s: usize, w: usize, copied: usize) -> bool
+    requires { ⌜ Limits s (history t (now counts)) ⌝ }
+    requires { ⌜ (0 < t) × (w < windows (oldCount (history t (now counts))) (addedCount (history t (now counts))) s) ⌝ }
+    ensures { λ r. ⌜ r ≡ allCopied s (history t (now (counts .entry))) w (markedBlocks s (history t (now (counts .entry))) w (marksOf copied)) ⌝ }
 {
     let g = layout::newest_growth(counts, t);
     let moving = moving_marks(g.old, g.added, s, w);
@@ -66,10 +66,10 @@ fn first_unmarked(m: usize, n: usize, s: usize, w: usize, marks: usize) -> usize
 }
 
 // The block of window w with the lowest mark that is not set.
-pub fn next_copy(counts: [usize; 8], t: usize, s: usize, w: usize, copied: usize) -> NextCopy
-    requires { ⌜ Limits s (history t counts) ⌝ }
-    requires { ⌜ (0 < t) × (w < windows (oldCount (history t counts)) (addedCount (history t counts)) s) ⌝ }
-    ensures { λ r. ⌜ r ≡ asNextCopy s (history t counts) (nextOfWindow s (history t counts) w (markedBlocks s (history t counts) w (marksOf copied))) ⌝ }
+pub fn next_copy(counts: &[usize; 8], t: usize, s: usize, w: usize, copied: usize) -> NextCopy
+    requires { ⌜ Limits s (history t (now counts)) ⌝ }
+    requires { ⌜ (0 < t) × (w < windows (oldCount (history t (now counts))) (addedCount (history t (now counts))) s) ⌝ }
+    ensures { λ r. ⌜ r ≡ asNextCopy s (history t (now (counts .entry))) (nextOfWindow s (history t (now (counts .entry))) w (markedBlocks s (history t (now (counts .entry))) w (marksOf copied))) ⌝ }
 {
     let g = layout::newest_growth(counts, t);
     let m = g.old;
@@ -109,10 +109,10 @@ fn calls_left_by_marks(m: usize, n: usize, s: usize, w: usize, marks: usize) -> 
 }
 
 // U + R - w of the newest growth, where window w's copied blocks are those with a mark.
-pub fn calls_left(counts: [usize; 8], t: usize, s: usize, w: usize, copied: usize) -> usize
-    requires { ⌜ Limits s (history t counts) ⌝ }
-    requires { ⌜ (0 < t) × (w < windows (oldCount (history t counts)) (addedCount (history t counts)) s) ⌝ }
-    ensures { λ r. ⌜ r ≡ callsLeft s (history t counts) w (markedBlocks s (history t counts) w (marksOf copied)) ⌝ }
+pub fn calls_left(counts: &[usize; 8], t: usize, s: usize, w: usize, copied: usize) -> usize
+    requires { ⌜ Limits s (history t (now counts)) ⌝ }
+    requires { ⌜ (0 < t) × (w < windows (oldCount (history t (now counts))) (addedCount (history t (now counts))) s) ⌝ }
+    ensures { λ r. ⌜ r ≡ callsLeft s (history t (now (counts .entry))) w (markedBlocks s (history t (now (counts .entry))) w (marksOf copied)) ⌝ }
 {
     let g = layout::newest_growth(counts, t);
     calls_left_by_marks(g.old, g.added, s, w, copied)

@@ -6,9 +6,9 @@ ghost use Rattle.layout.specs.Limits.{mostGrowths};
 ghost use Rattle.marks.specs.Marks.{zerosAfter};
 
 // Do the counts up to N[t] rise, from at least 1?
-pub fn counts_rise(counts: [usize; 8], t: usize) -> bool
+pub fn counts_rise(counts: &[usize; 8], t: usize) -> bool
     requires { ⌜ t ≤ mostGrowths ⌝ }
-    ensures { λ r. ⌜ r ≡ rising (history t counts) ⌝ }
+    ensures { λ r. ⌜ r ≡ rising (history t (now (counts .entry))) ⌝ }
 {
     let mut last = 0;
     let mut k = 0;
@@ -24,15 +24,14 @@ pub fn counts_rise(counts: [usize; 8], t: usize) -> bool
 }
 
 // Are the counts after N[t] zero?
-pub fn zeros_after(counts: [usize; 8], t: usize) -> bool
-    ensures { λ r. ⌜ r ≡ zerosAfter counts t ⌝ }
+pub fn zeros_after(counts: &[usize; 8], t: usize) -> bool
+    requires { ⌜ t ≤ mostGrowths ⌝ }
+    ensures { λ r. ⌜ r ≡ zerosAfter (now (counts .entry)) t ⌝ }
 {
-    let mut i = 0;
+    let mut i = t + 1;
     while i < 8 {
-        if t < i {
-            if counts[i] != 0 {
-                return false;
-            }
+        if counts[i] != 0 {
+            return false;
         }
         i += 1;
     }

@@ -22,15 +22,15 @@ pub fn at_rest(w: usize, recorded: usize, copied: usize) -> bool
 
 // Growing: a window, and marks that fit it.
 pub fn in_growth(
-    counts: [usize; 8],
+    counts: &[usize; 8],
     t: usize,
     s: usize,
     w: usize,
     recorded: usize,
     copied: usize,
 ) -> bool
-    requires { ⌜ Limits s (history t counts) ⌝ }
-    ensures { λ r. ⌜ r ≡ inGrowth t s (history t counts) w (marksOf recorded) (marksOf copied) ⌝ }
+    requires { ⌜ Limits s (history t (now counts)) ⌝ }
+    ensures { λ r. ⌜ r ≡ inGrowth t s (history t (now (counts .entry))) w (marksOf recorded) (marksOf copied) ⌝ }
 {
     if t == 0 {
         return false;

@@ -69,7 +69,7 @@ pub fn spot(counts: [usize; 8], t: usize, s: usize, x: usize) -> Spot
             row: Row(0),
         };
     }
-    layout::spot_of(counts, t, s, Block(x))
+    layout::spot_of(&counts, t, s, Block(x))
 }
 
 // The block at the spot of block x; 0 if there is no such block.
@@ -78,7 +78,7 @@ pub fn block_there(counts: [usize; 8], t: usize, s: usize, x: usize) -> usize {
         return 0;
     }
     let p = spot(counts, t, s, x);
-    let y = layout::block_at(counts, t, s, p);
+    let y = layout::block_at(&counts, t, s, p);
     y.0
 }
 
@@ -99,7 +99,7 @@ pub fn kind_of(counts: [usize; 8], t: usize, s: usize, x: usize) -> Kind {
     if t == 0 {
         return Kind::Format;
     }
-    let g = layout::newest_growth(counts, t);
+    let g = layout::newest_growth(&counts, t);
     let p = spot(counts, t - 1, s, x);
     match layout::change_of(g.old, g.added, s, x, p) {
         Change::Moved(part) => kind_of_part(part),

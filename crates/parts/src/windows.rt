@@ -20,7 +20,7 @@ pub fn growth_windows(counts: [usize; 8], t: usize, s: usize) -> usize
     if !within(counts, t, s) {
         return 0;
     }
-    let g = layout::newest_growth(counts, t);
+    let g = layout::newest_growth(&counts, t);
     window::window_count(g.old, g.added, s)
 }
 
@@ -29,7 +29,7 @@ pub fn growth_disks(counts: [usize; 8], t: usize, s: usize) -> GrowthDisks {
     if growth_windows(counts, t, s) == 0 {
         return GrowthDisks { old: 0, added: 0 };
     }
-    layout::newest_growth(counts, t)
+    layout::newest_growth(&counts, t)
 }
 
 // The moves of its window w; 0 if there is no such window.
@@ -37,7 +37,7 @@ pub fn window_moves(counts: [usize; 8], t: usize, s: usize, w: usize) -> usize {
     if growth_windows(counts, t, s) <= w {
         return 0;
     }
-    window::moves_of_window(counts, t, s, w)
+    window::moves_of_window(&counts, t, s, w)
 }
 
 // The advance calls left when it begins; 0 if it has no window.
@@ -45,7 +45,7 @@ pub fn growth_calls(counts: [usize; 8], t: usize, s: usize) -> usize {
     if growth_windows(counts, t, s) == 0 {
         return 0;
     }
-    marks::calls_left(counts, t, s, 0, 0)
+    marks::calls_left(&counts, t, s, 0, 0)
 }
 
 // Is the growth from m disks by n within the limits.

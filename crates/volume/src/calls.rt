@@ -152,16 +152,23 @@ impl Volume {
         v.report()
     }
 
-    pub(crate) fn read_refusal(self, x: Block, piece: usize, len: usize) -> usize
+    pub(crate) fn read_refusal(
+        self,
+        counts: &[usize; 8],
+        x: Block,
+        piece: usize,
+        len: usize,
+    ) -> usize
+        requires { ⌜ now counts ≡ self .counts ⌝ }
         ensures { λ r. ⌜ r ≡ refusal (readTable self (x .0) piece len) ⌝ }
     {
-        if !self.is_sound() {
+        if !self.is_sound_by(counts) {
             return 1;
         }
-        if self.is_short(self.disk_count(), len) {
+        if self.is_short(self.disk_count_by(counts), len) {
             return 2;
         }
-        if self.open_blocks() <= x.0 {
+        if self.open_blocks_by(counts) <= x.0 {
             return 3;
         }
         if piece != self.size {
@@ -178,21 +185,21 @@ impl Volume {
             disk: 0,
             row: Row(0),
         };
-        let k = self.read_refusal(x, piece, len);
+        let counts = self.counts;
+        let k = self.read_refusal(&counts, x, piece, len);
         if k != 0 {
             return SpotFound {
                 refusal: k,
                 spot: nowhere,
             };
         }
-        let counts = self.counts;
         let t = self.growths;
         if self.growing == 0 {
-            let spot = layout::spot_of(counts, t, self.rows, x);
+            let spot = layout::spot_of(&counts, t, self.rows, x);
             return SpotFound { refusal: 0, spot };
         }
-        let old = layout::spot_of(counts, t - 1, self.rows, x);
-        let g = layout::newest_growth(counts, t);
+        let old = layout::spot_of(&counts, t - 1, self.rows, x);
+        let g = layout::newest_growth(&counts, t);
         let w = self.window;
         if marks::is_waiting(g.old, g.added, w, self.recorded, self.copied, old) {
             return SpotFound {
@@ -227,11 +234,12 @@ impl Volume {
         ensures { λ r. ⌜ r ≡ readOutcome self (x .0) (now (piece .entry)) (observe (now (medium .entry))) .reply ⌝ }
         ensures { λ _. ⌜ now (piece .exit) ≡ readOutcome self (x .0) (now (piece .entry)) (observe (now (medium .entry))) .piece ⌝ }
     {
-        let k = self.read_refusal(x, piece.len(), medium.len());
+        let counts = self.counts;
+        let k = self.read_refusal(&counts, x, piece.len(), medium.len());
         if k != 0 {
             return self.refuse(k);
         }
-        let p = self.live_spot(x);
+        let p = self.live_spot_by(&counts, x);
         let g = self.geometry();
         medium::fetch_block(medium, g, p, piece);
         Reply {

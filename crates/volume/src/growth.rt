@@ -33,7 +33,7 @@ impl Volume {
     {
         let t = self.growths;
         let counts = self.counts;
-        let g = layout::newest_growth(counts, t);
+        let g = layout::newest_growth(&counts, t);
         let copied = marks::with_mark(g.old, g.added, self.copied, p);
         self.with_growth(t, counts, self.growing, self.window, self.recorded, copied)
     }
@@ -47,10 +47,10 @@ impl Volume {
         let counts = self.counts;
         let w = self.window;
         let copied = self.copied;
-        if !marks::all_copied(counts, t, self.rows, w, copied) {
+        if !marks::all_copied(&counts, t, self.rows, w, copied) {
             return self.with_growth(t, counts, self.growing, w, copied, copied);
         }
-        let g = layout::newest_growth(counts, t);
+        let g = layout::newest_growth(&counts, t);
         if w + 1 == window::window_count(g.old, g.added, self.rows) {
             return self.with_growth(t, counts, 0, 0, 0, 0);
         }
@@ -80,27 +80,28 @@ impl Volume {
     }
 
     // Stores the bytes of block x, which are at its old spot p, at its new spot.
-    pub(crate) fn store_copy(self, medium: &mut [u8], x: Block, p: Spot)
+    pub(crate) fn store_copy(self, counts: &[usize; 8], medium: &mut [u8], x: Block, p: Spot)
         requires { ⌜ (sound self ≡ true) × (self .growing ≢ 0) ⌝ }
+        requires { ⌜ now counts ≡ self .counts ⌝ }
         requires { ⌜ bytesNeeded (geometry self) (disks self) ≤ length (now medium) ⌝ }
         requires { ⌜ (movesNow (tallyOf self) (x .0) ≡ true) × (tallyOf self .copied (x .0) ≡ false) ⌝ }
         requires { ⌜ p ≡ oldSpot (self .rows) (historyOf self) (x .0) ⌝ }
         ensures { λ _. ⌜ now (medium .exit) ≡ apply (geometry self) (copyStore self (x .0) (observe (now (medium .entry)))) (now (medium .entry)) ⌝ }
     {
-        let counts = self.counts;
         let d = layout::newest_growth(counts, self.growths);
         let to = layout::spot_after(d.old, d.added, self.rows, x.0, p);
         let g = self.geometry();
         medium::copy_block(medium, g, p, to);
     }
 
-    pub(crate) fn advance_refusal(self, len: usize) -> usize
+    pub(crate) fn advance_refusal(self, counts: &[usize; 8], len: usize) -> usize
+        requires { ⌜ now counts ≡ self .counts ⌝ }
         ensures { λ r. ⌜ r ≡ refusal (advanceTable self len) ⌝ }
     {
-        if !self.is_sound() {
+        if !self.is_sound_by(counts) {
             return 1;
         }
-        if self.is_short(self.disk_count(), len) {
+        if self.is_short(self.disk_count_by(counts), len) {
             return 2;
         }
         if self.growing == 0 {
@@ -110,27 +111,27 @@ impl Volume {
     }
 
     // The old spot of block x, which a copy is taken from, or the refusal.
-    pub(crate) fn copy_spot(self, x: Block, len: usize) -> SpotFound
+    pub(crate) fn copy_spot(self, counts: &[usize; 8], x: Block, len: usize) -> SpotFound
+        requires { ⌜ now counts ≡ self .counts ⌝ }
         ensures { λ r. ⌜ r ≡ foundAt (refusal (copyTable self (x .0) len)) (oldSpot (self .rows) (historyOf self) (x .0)) ⌝ }
     {
         let nowhere = Spot {
             disk: 0,
             row: Row(0),
         };
-        let k = self.advance_refusal(len);
+        let k = self.advance_refusal(counts, len);
         if k != 0 {
             return SpotFound {
                 refusal: k,
                 spot: nowhere,
             };
         }
-        if self.open_blocks() <= x.0 {
+        if self.open_blocks_by(counts) <= x.0 {
             return SpotFound {
                 refusal: 3,
                 spot: nowhere,
             };
         }
-        let counts = self.counts;
         let t = self.growths;
         let spot = layout::spot_of(counts, t - 1, self.rows, x);
         let g = layout::newest_growth(counts, t);
@@ -155,12 +156,13 @@ impl Volume {
         ensures { λ r. ⌜ r ≡ copyOutcome self (x .0) (observe (now (medium .entry))) .reply ⌝ }
         ensures { λ _. ⌜ now (medium .exit) ≡ apply (geometry self) (copyOutcome self (x .0) (observe (now (medium .entry))) .store) (now (medium .entry)) ⌝ }
     {
-        let found = self.copy_spot(x, medium.len());
+        let counts = self.counts;
+        let found = self.copy_spot(&counts, x, medium.len());
         if found.refusal != 0 {
             return self.refuse(found.refusal);
         }
         let p = found.spot;
-        self.store_copy(medium, x, p);
+        self.store_copy(&counts, medium, x, p);
         let v = self.with_copy(p);
         v.report()
     }
@@ -168,7 +170,8 @@ impl Volume {
     pub(crate) fn checkpoint_refusal(self, len: usize) -> usize
         ensures { λ r. ⌜ r ≡ refusal (checkpointTable self len) ⌝ }
     {
-        let k = self.advance_refusal(len);
+        let counts = self.counts;
+        let k = self.advance_refusal(&counts, len);
         if k != 0 {
             return k;
         }
@@ -199,26 +202,27 @@ impl Volume {
         ensures { λ r. ⌜ r ≡ advanceOutcome self (observe (now (medium .entry))) .reply ⌝ }
         ensures { λ _. ⌜ now (medium .exit) ≡ apply (geometry self) (advanceOutcome self (observe (now (medium .entry))) .store) (now (medium .entry)) ⌝ }
     {
-        let k = self.advance_refusal(medium.len());
+        let counts = self.counts;
+        let k = self.advance_refusal(&counts, medium.len());
         if k != 0 {
             return self.refuse(k);
         }
-        let NextCopy::CopyOf(x, part, p) = self.next_copy() else {
+        let NextCopy::CopyOf(x, part, p) = self.next_copy(&counts) else {
             let v = self.checkpointed();
             v.store_record(medium);
             return v.tell(v.checkpoint_told());
         };
-        self.store_copy(medium, x, p);
+        self.store_copy(&counts, medium, x, p);
         let v = self.with_copy(p);
         v.tell(Advanced::Copied(x, part))
     }
 
     // The block to copy next.
-    pub(crate) fn next_copy(self) -> NextCopy
+    pub(crate) fn next_copy(self, counts: &[usize; 8]) -> NextCopy
         requires { ⌜ (sound self ≡ true) × (self .growing ≢ 0) ⌝ }
+        requires { ⌜ now counts ≡ self .counts ⌝ }
         ensures { λ r. ⌜ r ≡ asNextCopy (self .rows) (historyOf self) (nextBlock (tallyOf self)) ⌝ }
     {
-        let counts = self.counts;
         let copied = self.copied;
         marks::next_copy(counts, self.growths, self.rows, self.window, copied)
     }

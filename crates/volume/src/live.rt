@@ -1,4 +1,5 @@
-// Open blocks, live spots and calls left of a sound state.
+// Open blocks, live spots and calls left of a sound state. Functions that end in `_by` are lent its counts, which a call copies out of the state
+// once: each callee that took the state alone would copy it again.
 ghost use mathlib.Core.Path.{_≡_};
 ghost use mathlib.Core.Bool.{true};
 ghost use Prim.Native.Nat.{_≤_, _<_};
@@ -31,11 +32,18 @@ impl Volume {
     pub fn disk_count(self) -> usize
         ensures { λ r. ⌜ r ≡ disks self ⌝ }
     {
+        let counts = self.counts;
+        self.disk_count_by(&counts)
+    }
+
+    pub(crate) fn disk_count_by(self, counts: &[usize; 8]) -> usize
+        requires { ⌜ now counts ≡ self .counts ⌝ }
+        ensures { λ r. ⌜ r ≡ disks self ⌝ }
+    {
         let t = self.growths;
         if Volume::MOST_GROWTHS < t {
             return 0;
         }
-        let counts = self.counts;
         counts[t]
     }
 
@@ -54,8 +62,16 @@ impl Volume {
         requires { ⌜ sound self ≡ true ⌝ }
         ensures { λ r. ⌜ r ≡ openBlocks (tallyOf self) ⌝ }
     {
-        let t = self.growths;
         let counts = self.counts;
+        self.open_blocks_by(&counts)
+    }
+
+    pub(crate) fn open_blocks_by(self, counts: &[usize; 8]) -> usize
+        requires { ⌜ sound self ≡ true ⌝ }
+        requires { ⌜ now counts ≡ self .counts ⌝ }
+        ensures { λ r. ⌜ r ≡ openBlocks (tallyOf self) ⌝ }
+    {
+        let t = self.growths;
         if self.growing == 0 {
             return counts[t] * self.rows;
         }
@@ -69,6 +85,15 @@ impl Volume {
         ensures { λ r. ⌜ r ≡ liveSpotOf (tallyOf self) (x .0) ⌝ }
     {
         let counts = self.counts;
+        self.live_spot_by(&counts, x)
+    }
+
+    pub(crate) fn live_spot_by(self, counts: &[usize; 8], x: Block) -> Spot
+        requires { ⌜ sound self ≡ true ⌝ }
+        requires { ⌜ now counts ≡ self .counts ⌝ }
+        requires { ⌜ x .0 < openBlocks (tallyOf self) ⌝ }
+        ensures { λ r. ⌜ r ≡ liveSpotOf (tallyOf self) (x .0) ⌝ }
+    {
         let t = self.growths;
         if self.growing == 0 {
             return layout::spot_of(counts, t, self.rows, x);
@@ -80,12 +105,12 @@ impl Volume {
     }
 
     // The live spot of block x, and why it is there.
-    pub(crate) fn live_address(self, x: Block) -> Address
+    pub(crate) fn live_address(self, counts: &[usize; 8], x: Block) -> Address
         requires { ⌜ sound self ≡ true ⌝ }
+        requires { ⌜ now counts ≡ self .counts ⌝ }
         requires { ⌜ x .0 < openBlocks (tallyOf self) ⌝ }
         ensures { λ r. ⌜ r ≡ liveAddressOf (tallyOf self) (x .0) ⌝ }
     {
-        let counts = self.counts;
         let t = self.growths;
         if self.growing == 0 {
             return layout::address_of(counts, t, self.rows, x);
@@ -105,12 +130,12 @@ impl Volume {
     }
 
     // The block that lives at p.
-    pub(crate) fn live_block(self, p: Spot) -> LiveBlock
+    pub(crate) fn live_block(self, counts: &[usize; 8], p: Spot) -> LiveBlock
         requires { ⌜ sound self ≡ true ⌝ }
+        requires { ⌜ now counts ≡ self .counts ⌝ }
         requires { ⌜ Within (self .rows) (historyOf self) p ⌝ }
         ensures { λ r. ⌜ r ≡ asLiveBlock (liveBlockOf (tallyOf self) p) ⌝ }
     {
-        let counts = self.counts;
         if self.growing == 0 {
             return LiveBlock::Lives(layout::block_at(counts, self.growths, self.rows, p));
         }
@@ -128,6 +153,6 @@ impl Volume {
         }
         let counts = self.counts;
         let copied = self.copied;
-        marks::calls_left(counts, self.growths, self.rows, self.window, copied)
+        marks::calls_left(&counts, self.growths, self.rows, self.window, copied)
     }
 }

@@ -12,13 +12,14 @@ use layout::Spot;
 use marks::LiveBlock;
 
 impl Volume {
-    pub(crate) fn address_refusal(self, x: Block) -> usize
+    pub(crate) fn address_refusal(self, counts: &[usize; 8], x: Block) -> usize
+        requires { ⌜ now counts ≡ self .counts ⌝ }
         ensures { λ r. ⌜ r ≡ refusal (addressTable self (x .0)) ⌝ }
     {
-        if !self.is_sound() {
+        if !self.is_sound_by(counts) {
             return 1;
         }
-        if self.open_blocks() <= x.0 {
+        if self.open_blocks_by(counts) <= x.0 {
             return 3;
         }
         0
@@ -28,14 +29,15 @@ impl Volume {
     pub fn address(self, x: Block) -> AddressReply
         ensures { λ r. ⌜ r ≡ addressReply self (x .0) ⌝ }
     {
-        let k = self.address_refusal(x);
+        let counts = self.counts;
+        let k = self.address_refusal(&counts, x);
         if k != 0 {
             return AddressReply {
                 state: self,
                 answer: AddressAnswer::Refused(k),
             };
         }
-        let found = self.live_address(x);
+        let found = self.live_address(&counts, x);
         let spot = found.spot;
         let reason = found.reason;
         AddressReply {
@@ -48,17 +50,18 @@ impl Volume {
     pub(crate) fn holder_answer(self, p: Spot) -> HolderAnswer
         ensures { λ r. ⌜ r ≡ holderReply self p .answer ⌝ }
     {
-        if !self.is_sound() {
+        let counts = self.counts;
+        if !self.is_sound_by(&counts) {
             return HolderAnswer::Refused(1);
         }
-        if self.disk_count() <= p.disk {
+        if self.disk_count_by(&counts) <= p.disk {
             return HolderAnswer::Refused(14);
         }
         let row = p.row;
         if self.rows <= row.0 {
             return HolderAnswer::Refused(14);
         }
-        let LiveBlock::Lives(x) = self.live_block(p) else {
+        let LiveBlock::Lives(x) = self.live_block(&counts, p) else {
             return HolderAnswer::Refused(15);
         };
         HolderAnswer::Has(x)

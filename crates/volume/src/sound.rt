@@ -1,7 +1,13 @@
 // The limits and soundness, tested.
 ghost use mathlib.Core.Path.{_≡_};
-ghost use mathlib.Core.Bool.{true};
-ghost use Rattle.volume.specs.Sound.{sizeHolds, rowsHold, disksHold, limitsHold, stageHolds, sound};
+ghost use mathlib.Core.Bool.{cond, _&&_};
+ghost use lib.Dec.{eqb};
+ghost use lib.ListN.{length};
+ghost use Rattle.layout.specs.History.{history};
+ghost use Rattle.layout.specs.Limits.{Limits};
+ghost use Rattle.marks.specs.Marks.{atRest, inGrowth};
+ghost use Rattle.marks.specs.Words.{marksOf};
+ghost use Rattle.volume.specs.Sound.{sizeHolds, rowsHold, disksHold, sound};
 use super::Volume;
 
 // Is z a block size?
@@ -37,55 +43,95 @@ pub fn disks_hold(n: usize) -> bool
     n <= Volume::MOST_DISKS
 }
 
+// Do these window and marks fit what `growing` says?
+fn stage_holds(
+    counts: &[usize; 8],
+    rows: usize,
+    t: usize,
+    growing: usize,
+    w: usize,
+    recorded: usize,
+    copied: usize,
+) -> bool
+    requires { ⌜ Limits rows (history t (now counts)) ⌝ }
+    ensures { λ r. ⌜ r ≡ cond (eqb growing 0) (atRest w (marksOf recorded) (marksOf copied)) (eqb growing 1 && inGrowth t rows (history t (now (counts .entry))) w (marksOf recorded) (marksOf copied)) ⌝ }
+{
+    if growing == 0 {
+        return marks::at_rest(w, recorded, copied);
+    }
+    if growing != 1 {
+        return false;
+    }
+    marks::in_growth(counts, t, rows, w, recorded, copied)
+}
+
+// Is the state of these numbers sound?
+pub fn are_sound(
+    counts: &[usize; 8],
+    size: usize,
+    rows: usize,
+    t: usize,
+    growing: usize,
+    w: usize,
+    recorded: usize,
+    copied: usize,
+) -> bool
+    requires { ⌜ length (now counts) ≡ 8 ⌝ }
+    ensures { λ r. ⌜ r ≡ sound (record { size = size; rows = rows; growths = t; counts = now (counts .entry); growing = growing; window = w; recorded = recorded; copied = copied }) ⌝ }
+{
+    if !size_holds(size) {
+        return false;
+    }
+    if !rows_hold(rows) {
+        return false;
+    }
+    if Volume::MOST_GROWTHS < t {
+        return false;
+    }
+    if !marks::counts_rise(counts, t) {
+        return false;
+    }
+    if Volume::MOST_DISKS < counts[t] {
+        return false;
+    }
+    if !marks::zeros_after(counts, t) {
+        return false;
+    }
+    stage_holds(counts, rows, t, growing, w, recorded, copied)
+}
+
 impl Volume {
-    pub(crate) fn limits_hold(self) -> bool
-        ensures { λ r. ⌜ r ≡ limitsHold self ⌝ }
-    {
-        if !size_holds(self.size) {
-            return false;
-        }
-        if !rows_hold(self.rows) {
-            return false;
-        }
-        let t = self.growths;
-        if Volume::MOST_GROWTHS < t {
-            return false;
-        }
-        let counts = self.counts;
-        if !marks::counts_rise(counts, t) {
-            return false;
-        }
-        counts[t] <= Volume::MOST_DISKS
-    }
-
-    pub(crate) fn stage_holds(self) -> bool
-        requires { ⌜ limitsHold self ≡ true ⌝ }
-        ensures { λ r. ⌜ r ≡ stageHolds self ⌝ }
-    {
-        let w = self.window;
-        let recorded = self.recorded;
-        let copied = self.copied;
-        if self.growing == 0 {
-            return marks::at_rest(w, recorded, copied);
-        }
-        if self.growing != 1 {
-            return false;
-        }
-        let counts = self.counts;
-        marks::in_growth(counts, self.growths, self.rows, w, recorded, copied)
-    }
-
     // Is the state sound?
     pub fn is_sound(self) -> bool
         ensures { λ r. ⌜ r ≡ sound self ⌝ }
     {
-        if !self.limits_hold() {
-            return false;
-        }
         let counts = self.counts;
-        if !marks::zeros_after(counts, self.growths) {
-            return false;
-        }
-        self.stage_holds()
+        are_sound(
+            &counts,
+            self.size,
+            self.rows,
+            self.growths,
+            self.growing,
+            self.window,
+            self.recorded,
+            self.copied,
+        )
+    }
+
+    // The same by its counts, lent.
+    pub(crate) fn is_sound_by(self, counts: &[usize; 8]) -> bool
+        requires { ⌜ now counts ≡ self .counts ⌝ }
+        ensures { λ r. ⌜ r ≡ sound self ⌝ }
+    {
+        are_sound(
+            counts,
+            self.size,
+            self.rows,
+            self.growths,
+            self.growing,
+            self.window,
+            self.recorded,
+            self.copied,
+        )
     }
 }

@@ -92,10 +92,10 @@ fn cut_moves(m: usize, n: usize, r: usize) -> usize
 }
 
 // The moving blocks of window w of the newest growth.
-pub fn moves_of_window(counts: [usize; 8], t: usize, s: usize, w: usize) -> usize
-    requires { ⌜ Limits s (history t counts) ⌝ }
-    requires { ⌜ (0 < t) × (w < windows (oldCount (history t counts)) (addedCount (history t counts)) s) ⌝ }
-    ensures { λ r. ⌜ r ≡ movesOfWindow s (history t counts) w ⌝ }
+pub fn moves_of_window(counts: &[usize; 8], t: usize, s: usize, w: usize) -> usize
+    requires { ⌜ Limits s (history t (now counts)) ⌝ }
+    requires { ⌜ (0 < t) × (w < windows (oldCount (history t (now counts))) (addedCount (history t (now counts))) s) ⌝ }
+    ensures { λ r. ⌜ r ≡ movesOfWindow s (history t (now (counts .entry))) w ⌝ }
 {
     let g = newest_growth(counts, t);
     let m = g.old;

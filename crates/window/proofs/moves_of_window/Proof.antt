@@ -11,7 +11,7 @@ use Rattle.window.proofs.moves_of_window.Statement.{statement}
 use Rattle.window.proofs.moves_of_window.Tie as tie
 
 newest-growth-requires : tie.Need-newest-growth-requires
-newest-growth-requires c κs = newest-asks _ _ (c .args .counts) (c .pre .1 .0) (c .pre .0)
+newest-growth-requires c κs = newest-asks _ _ (c .args .counts .now) (c .pre .1 .0) (c .pre .0)
 
 -- the growth is within the limits, and its window w starts before row s
 known : (c : tie.After-newest-growth)
@@ -19,7 +19,7 @@ known : (c : tie.After-newest-growth)
     × (c .before .args .w * (c .newest-growth .result .old + c .newest-growth .result .added) < c .before .args .s)
 known c =
     let a = c .before .pre .0 in
-    let o = newest-old _ _ (c .before .args .counts) (c .before .pre .1 .0) a in
+    let o = newest-old _ _ (c .before .args .counts .now) (c .before .pre .1 .0) a in
     (newest-grows _ _ a o _ (c .newest-growth .ensures), window-starts _ _ a o _ (c .newest-growth .ensures) _ (c .before .pre .1 .1))
 
 add-rest : tie.Need-add-rest
@@ -40,7 +40,7 @@ mul-result c = omega (arith, marks-most _ _ (known (c .before) .0 .most))
 returns : tie.Need-returns
 returns c =
     let a = c .before .before .pre .0 in
-    let o = newest-old _ _ (c .before .before .args .counts) (c .before .before .pre .1 .0) a in
+    let o = newest-old _ _ (c .before .before .args .counts .now) (c .before .before .pre .1 .0) a in
     let g = c .before .newest-growth .result in
     whole-moves _ _ a o _ (c .before .newest-growth .ensures) _
     (omega (arith, c .if1 .taken, known (c .before) .1, suc-mul (c .before .before .args .w) (g .old + g .added)))
@@ -51,7 +51,7 @@ cut-moves-requires c κs = (known (c .before) .0, omega arith)
 returns-2 : tie.Need-returns-2
 returns-2 c =
     let a = c .before .before .before .pre .0 in
-    let o = newest-old _ _ (c .before .before .before .args .counts) (c .before .before .before .pre .1 .0) a in
+    let o = newest-old _ _ (c .before .before .before .args .counts .now) (c .before .before .before .pre .1 .0) a in
     c .cut-moves .ensures ∙ cut-is _ _ a o _ (c .before .before .newest-growth .ensures) _ _ (omega (arith, known (c .before .before) .1))
 
 pub moves-of-window-spec : {M : Type 1} → statement M

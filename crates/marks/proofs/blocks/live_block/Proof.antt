@@ -10,18 +10,18 @@ use Rattle.marks.proofs.blocks.live_block.Statement.{statement}
 use Rattle.marks.proofs.blocks.live_block.Tie as tie
 
 newest-growth-requires : tie.Need-newest-growth-requires
-newest-growth-requires c κs = newest-asks _ _ (c .args .counts) (c .pre .1 .0) (c .pre .0)
+newest-growth-requires c κs = newest-asks _ _ (c .args .counts .now) (c .pre .1 .0) (c .pre .0)
 
-read : (c : tie.After-newest-growth) → ReadGrowth (c .before .args .s) (c .before .args .t) (c .before .args .counts) (c .newest-growth .result)
+read : (c : tie.After-newest-growth) → ReadGrowth (c .before .args .s) (c .before .args .t) (c .before .args .counts .now) (c .newest-growth .result)
 read c = record { limits = c .before .pre .0; grown = c .before .pre .1 .0; growth = c .newest-growth .ensures }
 
 -- ---- the spot is on an old disk
 
 on-old : (c : tie.Then1)
-    → c .before .before .before .args .p .disk < oldCount (history (c .before .before .before .args .t) (c .before .before .before .args .counts))
+    → c .before .before .before .args .p .disk < oldCount (history (c .before .before .before .args .t) (c .before .before .before .args .counts .now))
 on-old c = rw (old-read (read (c .before .before))) at (c .if1 .taken)
 
-within-old : (c : tie.Then1) → let a = c .before .before .before .args in Within (a .s) (history (a .t - 1) (a .counts)) (a .p)
+within-old : (c : tie.Then1) → let a = c .before .before .before .args in Within (a .s) (history (a .t - 1) (a .counts .now)) (a .p)
 within-old c = let p = c .before .before .before .pre in spot-before _ _ _ (p .0) (p .1 .0) _ (p .1 .1) (on-old c)
 
 at-new-spot-requires : tie.Need-at-new-spot-requires
@@ -31,7 +31,7 @@ returns : tie.Need-returns
 returns c =
     let b = c .before .before in
     let a = b .before .before .before .args in
-    gone-from-old _ _ _ (b .before .before .before .pre .1 .0) _ _ (record { 0 = blockAt (a .s) (history (a .t - 1) (a .counts)) (a .p) }) (on-old b) refl _
+    gone-from-old _ _ _ (b .before .before .before .pre .1 .0) _ _ (record { 0 = blockAt (a .s) (history (a .t - 1) (a .counts .now)) (a .p) }) (on-old b) refl _
     (c .before .at-new-spot .ensures ∙ left-told (read (b .before .before)) _ _ _ (within-old b)) (c .if2 .taken)
 
 sub-block-at : tie.Need-sub-block-at
@@ -51,7 +51,7 @@ returns-2 c =
 -- ---- it is on an added one
 
 on-added : (c : tie.Else1)
-    → oldCount (history (c .before .before .before .args .t) (c .before .before .before .args .counts)) ≤ c .before .before .before .args .p .disk
+    → oldCount (history (c .before .before .before .args .t) (c .before .before .before .args .counts .now)) ≤ c .before .before .before .args .p .disk
 on-added c = rw (old-read (read (c .before .before))) at (c .if1 .left)
 
 added-index-requires : tie.Need-added-index-requires
@@ -61,7 +61,7 @@ returns-3 : tie.Need-returns-3
 returns-3 c =
     let b = c .before .before .before in
     let a = b .before .before .before .args in
-    not-yet-on-added _ _ _ _ (record { 0 = blockAt (a .s) (history (a .t) (a .counts)) (a .p) }) (on-added b) refl false
+    not-yet-on-added _ _ _ _ (record { 0 = blockAt (a .s) (history (a .t) (a .counts .now)) (a .p) }) (on-added b) refl false
     (added-unmoved _ _ _ _ (added-there (read (b .before .before)) _ (b .before .before .before .pre .1 .1) _ (c .before .added-index .ensures) (c .if3 .taken))) refl
 
 spot-before-requires : tie.Need-spot-before-requires
@@ -73,8 +73,8 @@ spot-before-requires c κs =
 -- the block that it has, at its old spot
 old-there : (c : tie.After-spot-before)
     → let a = c .before .before .before .before .before .before .before .args in
-    Within (a .s) (history (a .t - 1) (a .counts)) (c .spot-before .result)
-    × (blockAt (a .s) (history (a .t - 1) (a .counts)) (c .spot-before .result) ≡ blockAt (a .s) (history (a .t) (a .counts)) (a .p))
+    Within (a .s) (history (a .t - 1) (a .counts .now)) (c .spot-before .result)
+    × (blockAt (a .s) (history (a .t - 1) (a .counts .now)) (c .spot-before .result) ≡ blockAt (a .s) (history (a .t) (a .counts .now)) (a .p))
 old-there c =
     let b = c .before .before .before .before in
     before-there (read (b .before .before)) _ (b .before .before .before .pre .1 .1) _ (c .before .before .added-index .ensures) (c .before .if3 .left) _ (c .spot-before .ensures)
@@ -106,7 +106,7 @@ returns-5 c =
     let b = c .before .before in
     let e = b .before .before .before .before in
     let a = e .before .before .before .args in
-    not-yet-on-added _ _ _ _ (record { 0 = blockAt (a .s) (history (a .t - 1) (a .counts)) (b .spot-before .result) }) (on-added e) (old-there b .1) _
+    not-yet-on-added _ _ _ _ (record { 0 = blockAt (a .s) (history (a .t - 1) (a .counts .now)) (b .spot-before .result) }) (on-added e) (old-there b .1) _
     (c .before .at-new-spot2 .ensures ∙ left-told (read (e .before .before)) _ _ _ (old-there b .0)) (c .if4 .left)
 
 pub live-block-spec : {M : Type 1} → statement M

@@ -7,9 +7,9 @@ use Rattle.marks.proofs.copies.all_copied.Statement.{statement}
 use Rattle.marks.proofs.copies.all_copied.Tie as tie
 
 newest-growth-requires : tie.Need-newest-growth-requires
-newest-growth-requires c κs = newest-asks _ _ (c .args .counts) (c .pre .1 .0) (c .pre .0)
+newest-growth-requires c κs = newest-asks _ _ (c .args .counts .now) (c .pre .1 .0) (c .pre .0)
 
-read : (c : tie.After-newest-growth) → ReadGrowth (c .before .args .s) (c .before .args .t) (c .before .args .counts) (c .newest-growth .result)
+read : (c : tie.After-newest-growth) → ReadGrowth (c .before .args .s) (c .before .args .t) (c .before .args .counts .now) (c .newest-growth .result)
 read c = record { limits = c .before .pre .0; grown = c .before .pre .1 .0; growth = c .newest-growth .ensures }
 
 moving-marks-requires : tie.Need-moving-marks-requires

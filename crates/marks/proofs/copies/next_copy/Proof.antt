@@ -10,9 +10,9 @@ use Rattle.marks.proofs.copies.next_copy.Statement.{statement}
 use Rattle.marks.proofs.copies.next_copy.Tie as tie
 
 newest-growth-requires : tie.Need-newest-growth-requires
-newest-growth-requires c κs = newest-asks _ _ (c .args .counts) (c .pre .1 .0) (c .pre .0)
+newest-growth-requires c κs = newest-asks _ _ (c .args .counts .now) (c .pre .1 .0) (c .pre .0)
 
-read : (c : tie.After-newest-growth) → ReadGrowth (c .before .args .s) (c .before .args .t) (c .before .args .counts) (c .newest-growth .result)
+read : (c : tie.After-newest-growth) → ReadGrowth (c .before .args .s) (c .before .args .t) (c .before .args .counts .now) (c .newest-growth .result)
 read c = record { limits = c .before .pre .0; grown = c .before .pre .1 .0; growth = c .newest-growth .ensures }
 
 first-unmarked-requires : tie.Need-first-unmarked-requires
@@ -28,7 +28,7 @@ returns c = none-told (read (c .before .before)) _ _ _ (c .before .first-unmarke
 found : (c : tie.Else1)
     → let b = c .before .before in
     let a = b .before .args in
-    NextMark (a .s) (a .t) (a .counts) (b .newest-growth .result) (a .w) (marksOf (a .copied)) (c .before .first-unmarked .result)
+    NextMark (a .s) (a .t) (a .counts .now) (b .newest-growth .result) (a .w) (marksOf (a .copied)) (c .before .first-unmarked .result)
 found c = next-mark (read (c .before .before)) _ _ _ (c .before .first-unmarked .ensures) (c .if1 .left)
 
 spot-of-mark-requires : tie.Need-spot-of-mark-requires

@@ -6,10 +6,10 @@ use Rattle.marks.proofs.counts.counts_rise.Statement.{statement}
 use Rattle.marks.proofs.counts.counts_rise.Tie as tie
 
 abbrev Inv-loop : tie.InvT-loop
-Inv-loop t counts last₀ k₀ last k = (k ≤ suc t) × Risen k last counts
+Inv-loop counts t last₀ k₀ last k = (k ≤ suc t) × Risen k last counts
 
 abbrev μ-loop : tie.MeasureT-loop
-μ-loop t counts last₀ k₀ last k = suc t - k
+μ-loop counts t last₀ k₀ last k = suc t - k
 
 loop-holds : tie.Need-loop-holds Inv-loop μ-loop
 loop-holds c = (omega arith, risen-none _)
@@ -17,13 +17,13 @@ loop-holds c = (omega arith, risen-none _)
 mul-count : tie.Need-mul-count Inv-loop μ-loop
 mul-count c = omega arith
 
-array-read-count : tie.Need-array-read-count Inv-loop μ-loop
-array-read-count c = omega arith
+element-copy-out-count : tie.Need-element-copy-out-count Inv-loop μ-loop
+element-copy-out-count c = omega arith
 
 returns : tie.Need-returns Inv-loop μ-loop
 returns c =
-    let l = c .before .before .loop in
-    not-risen (l .k) (l .last) _ _ (l .inv .1) (c .before .loop-test .taken) (c .if1 .taken)
+    let l = c .before .before .before .loop in
+    not-risen (l .k) (l .last) _ _ (l .inv .1) (c .before .before .loop-test .taken) (c .if1 .taken)
 
 add-k : tie.Need-add-k Inv-loop μ-loop
 add-k c = omega arith
@@ -33,7 +33,7 @@ loop-less c = omega arith
 
 loop-again : tie.Need-loop-again Inv-loop μ-loop
 loop-again c =
-    let l = c .before .before .loop in
+    let l = c .before .before .before .loop in
     (omega arith, risen-next (l .k) (l .last) _ (l .inv .1) (c .if1 .left))
 
 returns-2 : tie.Need-returns-2 Inv-loop μ-loop
@@ -49,7 +49,7 @@ counts-rise-spec =
     μ-loop
     loop-holds
     mul-count
-    array-read-count
+    element-copy-out-count
     returns
     add-k
     loop-less

@@ -18,13 +18,13 @@ use Rattle.marks.proofs.stages.in_growth.Tie as tie
 
 -- R of the newest growth, the marks of its moving blocks, and what is tested
 abbrev windowsOf : (c : tie.Start) → ℕ
-windowsOf c = let a = c .args in windows (oldCount (history (a .t) (a .counts))) (addedCount (history (a .t) (a .counts))) (a .s)
+windowsOf c = let a = c .args in windows (oldCount (history (a .t) (a .counts .now))) (addedCount (history (a .t) (a .counts .now))) (a .s)
 
 abbrev movingOf : (c : tie.Start) → List Bool
-movingOf c = let a = c .args in movingMarksIn (a .s) (history (a .t) (a .counts)) (a .w)
+movingOf c = let a = c .args in movingMarksIn (a .s) (history (a .t) (a .counts .now)) (a .w)
 
 abbrev tested : (c : tie.Start) → Bool
-tested c = let a = c .args in inGrowth (a .t) (a .s) (history (a .t) (a .counts)) (a .w) (marksOf (a .recorded)) (marksOf (a .copied))
+tested c = let a = c .args in inGrowth (a .t) (a .s) (history (a .t) (a .counts .now)) (a .w) (marksOf (a .recorded)) (marksOf (a .copied))
 
 -- what the tests of the marks say, the last two and all of them
 abbrev copiedFit : (c : tie.Start) → Bool
@@ -38,9 +38,9 @@ unfolding inGrowth
 returns c = simp (c .if1 .taken)
 
 newest-growth-requires : tie.Need-newest-growth-requires
-newest-growth-requires c κs = newest-asks _ _ (c .before .args .counts) (omega arith) (c .before .pre)
+newest-growth-requires c κs = newest-asks _ _ (c .before .args .counts .now) (omega arith) (c .before .pre)
 
-read : (c : tie.After-newest-growth) → let a = c .before .before .args in ReadGrowth (a .s) (a .t) (a .counts) (c .newest-growth .result)
+read : (c : tie.After-newest-growth) → let a = c .before .before .args in ReadGrowth (a .s) (a .t) (a .counts .now) (c .newest-growth .result)
 read c = record { limits = c .before .before .pre; grown = omega arith; growth = c .newest-growth .ensures }
 
 window-count-requires : tie.Need-window-count-requires

@@ -15,8 +15,8 @@ spot-requires c κs = search needs
 
 block-at-requires : tie.Need-block-at-requires
 block-at-requires c κs =
-    let a = c .before .before .block-count .ensures .0 (omega arith) in
-    (a, c .spot .ensures a)
+    let a = c .before .before .before .block-count .ensures .0 (omega arith) in
+    (a, c .before .spot .ensures a)
 
 returns-2 : tie.Need-returns-2
 returns-2 c = search needs

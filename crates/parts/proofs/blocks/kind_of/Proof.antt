@@ -17,8 +17,8 @@ returns-2 c = search needs
 
 newest-growth-requires : tie.Need-newest-growth-requires
 newest-growth-requires c κs =
-    let a = c .before .before .block-count .ensures .0 (omega arith) in
-    newest-asks _ _ (c .before .before .before .args .counts) (omega arith) a
+    let a = c .before .before .before .block-count .ensures .0 (omega arith) in
+    newest-asks _ _ (c .before .before .before .before .args .t1) (omega arith) a
 
 sub-spot : tie.Need-sub-spot
 sub-spot c = search needs
@@ -28,9 +28,9 @@ spot-requires c κs = search needs
 
 change-of-requires : tie.Need-change-of-requires
 change-of-requires c κs =
-    let start = c .before .before .before .before .before in
-    let a = c .before .before .before .before .block-count .ensures .0 (omega arith) in
-    change-asks _ _ (start .args .counts) (omega arith) a _ (c .before .newest-growth .ensures) _ (start .args .x) _ (omega arith)
+    let start = c .before .before .before .before .before .before in
+    let a = c .before .before .before .before .before .block-count .ensures .0 (omega arith) in
+    change-asks _ _ (start .args .t1) (omega arith) a _ (c .before .newest-growth .ensures) _ (start .args .x) _ (omega arith)
     (c .spot .ensures)
 
 enum-known-part : tie.Need-enum-known-part

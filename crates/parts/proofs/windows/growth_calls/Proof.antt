@@ -12,7 +12,7 @@ returns c = search needs
 
 calls-left-requires : tie.Need-calls-left-requires
 calls-left-requires c κs =
-    let known = c .before .growth-windows .ensures in
+    let known = c .before .before .growth-windows .ensures in
     let k = known .0 (omega arith) in
     (k .1, (k .0, omega (arith, known .1)))
 

@@ -13,8 +13,8 @@ returns c = search needs
 
 newest-growth-requires : tie.Need-newest-growth-requires
 newest-growth-requires c κs =
-    let known = c .before .growth-windows .ensures .0 (omega arith) in
-    newest-asks _ _ (c .before .before .args .counts) (known .0) (known .1)
+    let known = c .before .before .growth-windows .ensures .0 (omega arith) in
+    newest-asks _ _ (c .before .before .before .args .t1) (known .0) (known .1)
 
 returns-2 : tie.Need-returns-2
 returns-2 c = search needs

@@ -10,7 +10,7 @@ use Rattle.parts.proofs.Guards.{growth-within, windows-are}
 use Rattle.parts.proofs.windows.growth_windows.Statement.{statement}
 use Rattle.parts.proofs.windows.growth_windows.Tie as tie
 
-known : (c : tie.Else2) → Limits (c .before .before .before .args .s) (history (c .before .before .before .args .t) (c .before .before .before .args .counts))
+known : (c : tie.Else2) → Limits (c .before .before .before .args .s) (history (c .before .before .before .args .t) (c .before .before .before .args .t1))
 known c = c .before .within .ensures (not-false _ (c .if2 .left))
 
 returns : tie.Need-returns
@@ -23,20 +23,20 @@ returns-2 : tie.Need-returns-2
 returns-2 c = (λ h. absurd (omega arith), omega arith)
 
 newest-growth-requires : tie.Need-newest-growth-requires
-newest-growth-requires c κs = newest-asks _ _ (c .before .before .before .args .counts) (omega arith) (known c)
+newest-growth-requires c κs = newest-asks _ _ (c .before .before .before .before .args .t1) (omega arith) (known (c .before))
 
 window-count-requires : tie.Need-window-count-requires
 window-count-requires c κs =
-    let start = c .before .before .before .before in
-    let a = known (c .before) in
-    (growth-within _ _ (start .args .counts) (omega arith) a _ (c .newest-growth .ensures), a .rows-most)
+    let start = c .before .before .before .before .before in
+    let a = known (c .before .before) in
+    (growth-within _ _ (start .args .t1) (omega arith) a _ (c .newest-growth .ensures), a .rows-most)
 
 returns-3 : tie.Need-returns-3
 returns-3 c =
-    let start = c .before .before .before .before .before in
+    let start = c .before .before .before .before .before .before in
     let h : 0 < start .args .t = omega arith in
-    let a = known (c .before .before) in
-    (λ k. (h, a), windows-are _ _ (start .args .counts) h a _ (c .before .newest-growth .ensures) _ (c .window-count .ensures))
+    let a = known (c .before .before .before) in
+    (λ k. (h, a), windows-are _ _ (start .args .t1) h a _ (c .before .newest-growth .ensures) _ (c .window-count .ensures))
 
 pub growth-windows-spec : {M : Type 1} → statement M
 growth-windows-spec =

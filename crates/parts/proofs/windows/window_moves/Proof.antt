@@ -12,7 +12,7 @@ returns c = search needs
 
 moves-of-window-requires : tie.Need-moves-of-window-requires
 moves-of-window-requires c κs =
-    let known = c .before .growth-windows .ensures in
+    let known = c .before .before .growth-windows .ensures in
     let k = known .0 (omega arith) in
     (k .1, (k .0, omega (arith, known .1)))
 

@@ -28,16 +28,16 @@ refuse-requires c κs = search needs
 returns : tie.Need-returns
 unfolding advanceOutcome observe
 returns c =
-    let v = c .before .before .before .before .args .self in
+    let v = c .before .before .before .before .before .before .args .self in
     let e = c .before .before .advance-refusal .ensures in
     let h = c .before .if1 .taken in
     (refused-reply _ v [] _ _ e h v _ refl (c .refuse .ensures), refused-stores _ v [] _ _ e h _ _)
 
-accepted : (c : tie.Else1) → let a = c .before .before .before .args in AdvanceFacts (a .self) (length (a .medium .now))
+accepted : (c : tie.Else1) → let a = c .before .before .before .before .before .args in AdvanceFacts (a .self) (length (a .medium .now))
 accepted c = advance-accepted _ _ (sym (c .before .advance-refusal .ensures) ∙ c .if1 .left)
 
 next-copy-requires : tie.Need-next-copy-requires
-next-copy-requires c κs = (accepted c .is-sound, accepted c .is-growing)
+next-copy-requires c κs = let a = accepted (c .before) in ((a .is-sound, a .is-growing), refl)
 
 enum-known-x : tie.Need-enum-known-x
 enum-known-x c = search needs
@@ -48,21 +48,21 @@ enum-told c = search needs
 -- ---- no block is left to copy
 
 all-copied : (c : tie.After-enum-told)
-    → let v = c .before .before .before .before .before .before .args .self in asNextCopy (v .rows) (historyOf v) (nextBlock (tallyOf v)) ≡ AllCopied
+    → let v = c .before .before .before .before .before .before .before .before .before .args .self in asNextCopy (v .rows) (historyOf v) (nextBlock (tallyOf v)) ≡ AllCopied
 all-copied c = sym (c .before .before .next-copy .ensures) ∙ c .enum-told .given .1
 
 checkpointed-requires : tie.Need-checkpointed-requires
-checkpointed-requires c κs = let a = accepted (c .before .before .before) in (a .is-sound, a .is-growing)
+checkpointed-requires c κs = let a = accepted (c .before .before .before .before) in (a .is-sound, a .is-growing)
 
 store-record-requires : tie.Need-store-record-requires
-store-record-requires c κs = record-room _ _ _ (accepted (c .before .before .before .before .before) .room)
+store-record-requires c κs = record-room _ _ _ (accepted (c .before .before .before .before .before .before) .room)
 
 checkpoint-told-requires : tie.Need-checkpoint-told-requires
 checkpoint-told-requires c κs = search needs
 
 tell-requires : tie.Need-tell-requires
 tell-requires c κs =
-    let a = accepted (c .before .before .before .before .before .before .before .before .before) in
+    let a = accepted (c .before .before .before .before .before .before .before .before .before .before) in
     rw (c .before .before .before .before .before .checkpointed .ensures) (checkpointed-sound _ (a .is-sound) (a .is-growing))
 
 same-length : tie.Need-same-length
@@ -71,9 +71,9 @@ same-length c = search needs
 returns-2 : tie.Need-returns-2
 unfolding advanceOutcome observe
 returns-2 c =
-    let v = c .before .before .before .before .before .before .before .before .before .before .before .before .before .args .self in
-    let e = c .before .before .before .before .before .before .before .before .before .before .before .advance-refusal .ensures in
-    let h = c .before .before .before .before .before .before .before .before .before .before .if1 .left in
+    let v = c .before .before .before .before .before .before .before .before .before .before .before .before .before .before .before .before .args .self in
+    let e = c .before .before .before .before .before .before .before .before .before .before .before .before .advance-refusal .ensures in
+    let h = c .before .before .before .before .before .before .before .before .before .before .before .if1 .left in
     let d = all-copied (c .before .before .before .before .before .before .before) in
     let n = c .before .before .before .before .before .before .checkpointed .ensures in (
       accepted-reply _ v [] _ _ e h _ (records-told v d _ n _ _ (c .before .checkpoint-told .ensures) _ (c .tell .ensures)),
@@ -83,39 +83,39 @@ returns-2 c =
 -- ---- a block is left to copy
 
 is-next : (c : tie.After-x)
-    → let v = c .before .before .before .before .before .before .args .self in
+    → let v = c .before .before .before .before .before .before .before .before .before .args .self in
     asNextCopy (v .rows) (historyOf v) (nextBlock (tallyOf v)) ≡ CopyOf (c .x .given .0 .0) (c .x .given .0 .1 .0) (c .x .given .0 .1 .1 .0)
 is-next c = sym (c .before .before .next-copy .ensures) ∙ c .x .given .1
 
-facts : (c : tie.After-x) → let a = c .before .before .before .before .before .before .args in CopyFacts (a .self) (c .x .given .0 .0 .0) (length (a .medium .now))
-facts c = next-facts _ _ _ (accepted (c .before .before .before)) (next-is _ _ _ _ (is-next c))
+facts : (c : tie.After-x) → let a = c .before .before .before .before .before .before .before .before .before .args in CopyFacts (a .self) (c .x .given .0 .0 .0) (length (a .medium .now))
+facts c = next-facts _ _ _ (accepted (c .before .before .before .before)) (next-is _ _ _ _ (is-next c))
 
 -- its old spot
 from-old : (c : tie.After-x)
-    → let v = c .before .before .before .before .before .before .args .self in c .x .given .0 .1 .1 .0 ≡ oldSpot (v .rows) (historyOf v) (c .x .given .0 .0 .0)
+    → let v = c .before .before .before .before .before .before .before .before .before .args .self in c .x .given .0 .1 .1 .0 ≡ oldSpot (v .rows) (historyOf v) (c .x .given .0 .0 .0)
 from-old c = next-spot _ _ _ _ (is-next c)
 
 store-copy-requires : tie.Need-store-copy-requires
 store-copy-requires c κs =
-    let b = c .before .before in
+    let b = c .before .before .before in
     let f = facts b in
     let a = f .advances in
-    ((a .is-sound, a .is-growing), (a .room, ((f .moves, f .not-copied), from-old b)))
+    ((a .is-sound, a .is-growing), (refl, (a .room, ((f .moves, f .not-copied), from-old b))))
 
 with-copy-requires : tie.Need-with-copy-requires
 with-copy-requires c κs =
-    let b = c .before .before .before .before .before in
+    let b = c .before .before .before .before .before .before in
     let a = facts b .advances in
     ((a .is-sound, a .is-growing), copied-asks _ _ _ (facts b) _ (from-old b))
 
 copied : (c : tie.After-with-copy)
-    → let b = c .before .before .before .before .before .before in
-    c .with-copy .result ≡ withCopy (b .before .before .before .before .before .before .args .self) (b .x .given .0 .0 .0)
-copied c = c .with-copy .ensures ∙ copied-at _ _ _ (from-old (c .before .before .before .before .before .before))
+    → let b = c .before .before .before .before .before .before .before in
+    c .with-copy .result ≡ withCopy (b .before .before .before .before .before .before .before .before .before .args .self) (b .x .given .0 .0 .0)
+copied c = c .with-copy .ensures ∙ copied-at _ _ _ (from-old (c .before .before .before .before .before .before .before))
 
 tell-requires-2 : tie.Need-tell-requires-2
 tell-requires-2 c κs =
-    let f = facts (c .before .before .before .before .before .before) in
+    let f = facts (c .before .before .before .before .before .before .before) in
     let a = f .advances in
     rw (copied c) (copied-sound _ _ (a .is-sound) (a .is-growing) (f .moves))
 
@@ -125,10 +125,10 @@ same-length-2 c = search needs
 returns-3 : tie.Need-returns-3
 unfolding advanceOutcome observe
 returns-3 c =
-    let v = c .before .before .before .before .before .before .before .before .before .before .before .before .before .args .self in
-    let e = c .before .before .before .before .before .before .before .before .before .before .before .advance-refusal .ensures in
-    let h = c .before .before .before .before .before .before .before .before .before .before .if1 .left in
-    let d = is-next (c .before .before .before .before .before .before .before) in (
+    let v = c .before .before .before .before .before .before .before .before .before .before .before .before .before .before .before .before .before .args .self in
+    let e = c .before .before .before .before .before .before .before .before .before .before .before .before .before .advance-refusal .ensures in
+    let h = c .before .before .before .before .before .before .before .before .before .before .before .before .if1 .left in
+    let d = is-next (c .before .before .before .before .before .before .before .before) in (
       accepted-reply _ v [] _ _ e h _ (copies-told v _ _ _ d _ _ (copied (c .before)) _ (c .tell2 .ensures)),
       accepted-stores _ v [] _ _ e h _ _ _ (copies-stored v _ _ _ d _ _ _ _ (c .before .before .before .before .store-copy .ensures)),
     )

@@ -11,27 +11,27 @@ use Rattle.volume.proofs.CallsCode.{disks-most}
 use Rattle.volume.proofs.Volume.advance_refusal.Statement.{statement}
 use Rattle.volume.proofs.Volume.advance_refusal.Tie as tie
 
-is-sound-requires : tie.Need-is-sound-requires
-is-sound-requires c κs = search needs
+is-sound-by-requires : tie.Need-is-sound-by-requires
+is-sound-by-requires c κs = search needs
 
 is-sound : (c : tie.Else1) → sound (c .before .before .args .self) ≡ true
-is-sound c = sym (c .before .is-sound .ensures) ∙ not-false _ (c .if1 .left)
+is-sound c = sym (c .before .is-sound-by .ensures) ∙ not-false _ (c .if1 .left)
 
 returns : tie.Need-returns
 unfolding refusal advanceTable
-returns c = simp (← c .before .is-sound .ensures, not-true (c .before .is-sound .result) (c .if1 .taken))
+returns c = simp (← c .before .is-sound-by .ensures, not-true (c .before .is-sound-by .result) (c .if1 .taken))
 
-disk-count-requires : tie.Need-disk-count-requires
-disk-count-requires c κs = search needs
+disk-count-by-requires : tie.Need-disk-count-by-requires
+disk-count-by-requires c κs = search needs
 
 is-short-requires : tie.Need-is-short-requires
 is-short-requires c κs =
     let e = is-sound (c .before) in
-    (e, rw (c .disk-count .ensures) (disks-most _ e))
+    (e, rw (c .disk-count-by .ensures) (disks-most _ e))
 
 shortness : (c : tie.After-is-short)
     → let a = c .before .before .before .before .args in tooShort (geometry (a .self)) (disks (a .self)) (a .len) ≡ c .is-short .result
-shortness c = rw (c .before .disk-count .ensures) at (sym (c .is-short .ensures))
+shortness c = rw (c .before .disk-count-by .ensures) at (sym (c .is-short .ensures))
 
 returns-2 : tie.Need-returns-2
 unfolding refusal advanceTable
@@ -61,9 +61,9 @@ pub advance-refusal-spec : {M : Type 1} → statement M
 advance-refusal-spec =
     tie.close
     (tie.spec
-    is-sound-requires
+    is-sound-by-requires
     returns
-    disk-count-requires
+    disk-count-by-requires
     is-short-requires
     returns-2
     returns-3

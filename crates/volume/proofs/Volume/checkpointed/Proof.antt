@@ -12,7 +12,7 @@ use Rattle.volume.proofs.Volume.checkpointed.Tie as tie
 
 all-copied-requires : tie.Need-all-copied-requires
 all-copied-requires c κs =
-    let p = c .before .pre in
+    let p = c .before .before .pre in
     (history-limits _ (p .0), (has-growth _ (p .1) (p .0), window-below _ (p .1) (p .0)))
 
 with-growth-requires : tie.Need-with-growth-requires
@@ -23,15 +23,15 @@ returns c = c .with-growth .ensures ∙ marks-recorded _ _ (c .before .before .a
 
 newest-growth-requires : tie.Need-newest-growth-requires
 newest-growth-requires c κs =
-    let p = c .before .before .before .pre in
+    let p = c .before .before .before .before .before .pre in
     newest-asks _ _ _ (has-growth _ (p .1) (p .0)) (history-limits _ (p .0))
 
 add-if2 : tie.Need-add-if2
-add-if2 c = let p = c .before .before .before .before .pre in omega (arith, window-most _ (p .0) (p .1))
+add-if2 c = let p = c .before .before .before .before .before .before .pre in omega (arith, window-most _ (p .0) (p .1))
 
 window-count-requires : tie.Need-window-count-requires
 window-count-requires c κs =
-    let p = c .before .before .before .before .pre in
+    let p = c .before .before .before .before .before .before .pre in
     let l = history-limits _ (p .0) in
     (newest-grows _ _ l (newest-old _ _ _ (has-growth _ (p .1) (p .0)) l) _ (c .newest-growth .ensures), l .rows-most)
 
@@ -40,21 +40,21 @@ with-growth-requires-2 c κs = search needs
 
 returns-2 : tie.Need-returns-2
 returns-2 c =
-    let a = c .before .before .before .before .before .all-copied .ensures in
-    let f = not-false _ (c .before .before .before .before .if1 .left) in
+    let a = c .before .before .before .before .before .before .all-copied .ensures in
+    let f = not-false _ (c .before .before .before .before .before .if1 .left) in
     let g = c .before .before .before .newest-growth .ensures in
     c .with-growth2 .ensures ∙ growth-finished _ _ a f _ g _ (c .before .before .window-count .ensures) (c .before .if2 .taken)
 
 add-with-growth : tie.Need-add-with-growth
-add-with-growth c = let p = c .before .before .before .before .before .before .pre in omega (arith, window-most _ (p .0) (p .1))
+add-with-growth c = let p = c .before .before .before .before .before .before .before .before .pre in omega (arith, window-most _ (p .0) (p .1))
 
 with-growth-requires-3 : tie.Need-with-growth-requires-3
 with-growth-requires-3 c κs = search needs
 
 returns-3 : tie.Need-returns-3
 returns-3 c =
-    let a = c .before .before .before .before .before .all-copied .ensures in
-    let f = not-false _ (c .before .before .before .before .if1 .left) in
+    let a = c .before .before .before .before .before .before .all-copied .ensures in
+    let f = not-false _ (c .before .before .before .before .before .if1 .left) in
     let g = c .before .before .before .newest-growth .ensures in
     c .with-growth3 .ensures ∙ window-finished _ _ a f _ g _ (c .before .before .window-count .ensures) (c .before .if2 .left)
 

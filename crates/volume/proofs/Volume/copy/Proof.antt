@@ -23,45 +23,45 @@ refuse-requires c κs = search needs
 
 -- the number that was found
 judged : (c : tie.After-copy-spot)
-    → let a = c .before .before .args in c .copy-spot .result .refusal ≡ refusal (copyTable (a .self) (a .x .0) (length (a .medium .now)))
+    → let a = c .before .before .before .before .args in c .copy-spot .result .refusal ≡ refusal (copyTable (a .self) (a .x .0) (length (a .medium .now)))
 judged c = refusal-found _ _ _ (c .copy-spot .ensures)
 
 returns : tie.Need-returns
 unfolding copyOutcome observe
 returns c =
-    let v = c .before .before .before .before .before .args .self in
+    let v = c .before .before .before .before .before .before .before .args .self in
     let e = judged (c .before .before .before) in
     let h = c .before .if1 .taken in
     (refused-reply _ v [] _ _ e h v _ refl (c .refuse .ensures), refused-stores _ v [] _ _ e h _ _)
 
-accepted : (c : tie.Else1) → let a = c .before .before .before .before .args in CopyFacts (a .self) (a .x .0) (length (a .medium .now))
+accepted : (c : tie.Else1) → let a = c .before .before .before .before .before .before .args in CopyFacts (a .self) (a .x .0) (length (a .medium .now))
 accepted c = copy-accepted _ _ _ (sym (judged (c .before .before)) ∙ c .if1 .left)
 
 -- and the old spot
 from-old : (c : tie.Else1)
-    → let a = c .before .before .before .before .args in c .before .before .copy-spot .result .spot ≡ oldSpot (a .self .rows) (historyOf (a .self)) (a .x .0)
+    → let a = c .before .before .before .before .before .before .args in c .before .before .copy-spot .result .spot ≡ oldSpot (a .self .rows) (historyOf (a .self)) (a .x .0)
 from-old c = spot-found _ _ _ (c .before .before .copy-spot .ensures) (c .if1 .left)
 
 store-copy-requires : tie.Need-store-copy-requires
 store-copy-requires c κs =
-    let b = c .before .before in
+    let b = c .before .before .before in
     let f = accepted b in
     let a = f .advances in
-    ((a .is-sound, a .is-growing), (a .room, ((f .moves, f .not-copied), from-old b)))
+    ((a .is-sound, a .is-growing), (refl, (a .room, ((f .moves, f .not-copied), from-old b))))
 
 with-copy-requires : tie.Need-with-copy-requires
 with-copy-requires c κs =
-    let b = c .before .before .before .before .before in
+    let b = c .before .before .before .before .before .before in
     let a = accepted b .advances in
     ((a .is-sound, a .is-growing), copied-asks _ _ _ (accepted b) _ (from-old b))
 
 copied : (c : tie.After-with-copy)
-    → let a = c .before .before .before .before .before .before .before .before .before .before .args in c .with-copy .result ≡ withCopy (a .self) (a .x .0)
-copied c = c .with-copy .ensures ∙ copied-at _ _ _ (from-old (c .before .before .before .before .before .before))
+    → let a = c .before .before .before .before .before .before .before .before .before .before .before .before .before .args in c .with-copy .result ≡ withCopy (a .self) (a .x .0)
+copied c = c .with-copy .ensures ∙ copied-at _ _ _ (from-old (c .before .before .before .before .before .before .before))
 
 report-requires : tie.Need-report-requires
 report-requires c κs =
-    let f = accepted (c .before .before .before .before .before .before) in
+    let f = accepted (c .before .before .before .before .before .before .before) in
     let a = f .advances in
     rw (copied c) (copied-sound _ _ (a .is-sound) (a .is-growing) (f .moves))
 
@@ -71,8 +71,8 @@ same-length c = search needs
 returns-2 : tie.Need-returns-2
 unfolding copyOutcome reporting observe
 returns-2 c =
-    let b = c .before .before .before .before .before .before .before in
-    let v = b .before .before .before .before .args .self in
+    let b = c .before .before .before .before .before .before .before .before in
+    let v = b .before .before .before .before .before .before .args .self in
     let e = judged (b .before .before) in
     let h = b .if1 .left in (
       accepted-reply _ v [] _ _ e h _ (rw (copied (c .before)) at (c .report .ensures)),

@@ -1,11 +1,12 @@
 -- `copy_spot` meets its contract. Assumes nothing.
-use Prim.Native.Nat.{_<_}
+use Prim.Native.Nat.{_-_, _<_}
 use mathlib.Core.Path.{_≡_, sym, _∙_}
 use mathlib.Core.Bool.{Bool, cond}
 use native.Mathlib.Omega.{arith}
 use borrow.Author.Needs.{needs}
 use borrow.Author.Tests.{not-true, not-false}
 use Rattle.base.specs.Refusals.{refusal}
+use Rattle.layout.specs.History.{history, newestGrowth, spotOf}
 use Rattle.layout.specs.Tally.{openBlocks}
 use Rattle.layout.specs.Windows.{movingIn}
 use Rattle.volume.specs.Calls.{copyTable}
@@ -26,46 +27,59 @@ returns c = found-refused _ _ _ (copy-refused _ _ _ (c .before .advance-refusal 
 advances : (c : tie.Else1) → AdvanceFacts (c .before .before .args .self) (c .before .before .args .len)
 advances c = advance-accepted _ _ (sym (c .before .advance-refusal .ensures) ∙ c .if1 .left)
 
-open-blocks-requires : tie.Need-open-blocks-requires
-open-blocks-requires c κs = advances c .is-sound
+open-blocks-by-requires : tie.Need-open-blocks-by-requires
+open-blocks-by-requires c κs = (advances c .is-sound, c .before .before .pre)
 
 returns-2 : tie.Need-returns-2
 returns-2 c =
     let b = c .before .before .before in
-    found-refused _ _ _ (copy-not-open _ _ _ (b .before .advance-refusal .ensures) (b .if1 .left) _ (rw (c .before .before .open-blocks .ensures) at (c .if2 .taken)))
+    found-refused _ _ _ (copy-not-open _ _ _ (b .before .advance-refusal .ensures) (b .if1 .left) _ (rw (c .before .before .open-blocks-by .ensures) at (c .if2 .taken)))
     (λ e. absurd (omega arith))
 
 block-open : (c : tie.Else2) → c .before .before .before .before .before .args .x .0 < openBlocks (tallyOf (c .before .before .before .before .before .args .self))
-block-open c = rw (c .before .before .open-blocks .ensures) at (c .if2 .left)
+block-open c = rw (c .before .before .open-blocks-by .ensures) at (c .if2 .left)
 
 sub-spot-of : tie.Need-sub-spot-of
-sub-spot-of c = let a = advances (c .before .before .before .before) in omega (arith, has-growth _ (a .is-growing) (a .is-sound))
+sub-spot-of c = let a = advances (c .before .before .before) in omega (arith, has-growth _ (a .is-growing) (a .is-sound))
 
 spot-of-requires : tie.Need-spot-of-requires
 spot-of-requires c κs =
-    let a = advances (c .before .before .before .before) in
-    asks-before _ (a .is-growing) (a .is-sound) _ (block-open (c .before))
+    let s = c .before .before .before .before .before in
+    let a = advances (c .before .before .before) in
+    rw (s .pre) (asks-before (s .args .self) (a .is-growing) (a .is-sound) _ (block-open c))
+
+-- what the lent counts, which are the state's, tell
+spot-told : (c : tie.After-spot-of)
+    → let a = c .before .before .before .before .before .before .args in c .spot-of .result ≡ spotOf (a .self .rows) (history (a .self .growths - 1) (a .self .counts)) (a .x .0)
+spot-told c = rw (c .before .before .before .before .before .before .pre) at (c .spot-of .ensures)
 
 newest-growth-requires : tie.Need-newest-growth-requires
-newest-growth-requires c κs = let a = advances (c .before .before .before .before .before) in newest-asked _ (a .is-growing) (a .is-sound)
+newest-growth-requires c κs =
+    let s = c .before .before .before .before .before .before in
+    let a = advances (c .before .before .before .before) in
+    rw (s .pre) (newest-asked (s .args .self) (a .is-growing) (a .is-sound))
+
+growth-told : (c : tie.After-newest-growth)
+    → let v = c .before .before .before .before .before .before .before .args .self in c .newest-growth .result ≡ newestGrowth (history (v .growths) (v .counts))
+growth-told c = rw (c .before .before .before .before .before .before .before .pre) at (c .newest-growth .ensures)
 
 moves-now-requires : tie.Need-moves-now-requires
 moves-now-requires c κs =
-    let a = advances (c .before .before .before .before .before .before) in
-    spot-asks _ (a .is-growing) (a .is-sound) _ (c .newest-growth .ensures) _ (block-open (c .before .before .before)) _ (c .before .spot-of .ensures)
+    let a = advances (c .before .before .before .before .before) in
+    spot-asks _ (a .is-growing) (a .is-sound) _ (growth-told c) _ (block-open (c .before .before)) _ (spot-told (c .before))
 
 -- whether it is a moving block of window w
 moves-told : (c : tie.After-moves-now)
-    → let a = c .before .before .before .before .before .before .before .before .before .args in
+    → let a = c .before .before .before .before .before .before .before .before .args in
     c .moves-now .result ≡ movingIn (a .self .rows) (countsNow (a .self)) (a .self .window) (a .x .0)
 moves-told c =
-    let a = advances (c .before .before .before .before .before .before .before) in
+    let a = advances (c .before .before .before .before .before .before) in
     c .moves-now .ensures
-    ∙ moves-read _ (a .is-growing) (a .is-sound) _ (c .before .newest-growth .ensures) _ (block-open (c .before .before .before .before)) _ (c .before .before .spot-of .ensures)
+    ∙ moves-read _ (a .is-growing) (a .is-sound) _ (growth-told (c .before)) _ (block-open (c .before .before .before)) _ (spot-told (c .before .before))
 
 returns-3 : tie.Need-returns-3
 returns-3 c =
-    let b = c .before .before .before .before .before in
+    let b = c .before .before .before .before in
     let d = b .before .before .before in
     found-refused _ _ _ (copy-not-moving _ _ _ (d .before .advance-refusal .ensures) (d .if1 .left) _ (block-open b) _ (moves-told (c .before)) (not-true _ (c .if3 .taken)))
     (λ e. absurd (omega arith))
@@ -73,17 +87,17 @@ returns-3 c =
 is-marked-requires : tie.Need-is-marked-requires
 is-marked-requires c κs =
     let n = c .before .before in
-    let a = advances (n .before .before .before .before .before .before) in
-    spot-asks _ (a .is-growing) (a .is-sound) _ (n .newest-growth .ensures) _ (block-open (n .before .before .before)) _ (n .before .spot-of .ensures)
+    let a = advances (n .before .before .before .before .before) in
+    spot-asks _ (a .is-growing) (a .is-sound) _ (growth-told n) _ (block-open (n .before .before)) _ (spot-told (n .before))
 
 last-test : (c : tie.After-is-marked) (copied : Bool) → copied ≡ c .is-marked .result
-    → let a = c .before .before .before .before .before .before .before .before .before .before .before .args in cond copied 11 0 ≡ refusal (copyTable (a .self) (a .x .0) (a .len))
+    → let a = c .before .before .before .before .before .before .before .before .before .before .args in cond copied 11 0 ≡ refusal (copyTable (a .self) (a .x .0) (a .len))
 last-test c copied t =
     let n = c .before .before .before in
-    let b = n .before .before .before in
+    let b = n .before .before in
     let d = b .before .before .before in
     let a = advances d in
-    let m = marked-read _ (a .is-growing) (a .is-sound) _ (n .newest-growth .ensures) _ (block-open b) _ (n .before .spot-of .ensures) _ in
+    let m = marked-read _ (a .is-growing) (a .is-sound) _ (growth-told n) _ (block-open b) _ (spot-told (n .before)) _ in
     copy-left _ _ _ (d .before .advance-refusal .ensures) (d .if1 .left) _ (block-open b) _ (moves-told (c .before .before)) (not-false _ (c .before .if3 .left)) copied
     (t ∙ c .is-marked .ensures ∙ m)
 
@@ -93,8 +107,8 @@ returns-4 c = found-refused _ _ _ (last-test (c .before) _ (sym (c .if4 .taken))
 returns-5 : tie.Need-returns-5
 returns-5 c =
     let s = c .before .before .before .before .before in
-    let a = advances (s .before .before .before .before .before) in
-    found-there _ _ _ (last-test (c .before) _ (sym (c .if4 .left))) (spot-is-old _ (a .is-growing) (a .is-sound) _ _ (s .spot-of .ensures))
+    let a = advances (s .before .before .before .before) in
+    found-there _ _ _ (last-test (c .before) _ (sym (c .if4 .left))) (spot-is-old _ (a .is-growing) (a .is-sound) _ _ (spot-told s))
 
 pub copy-spot-spec : {M : Type 1} → statement M
 copy-spot-spec =
@@ -102,7 +116,7 @@ copy-spot-spec =
     (tie.spec
     advance-refusal-requires
     returns
-    open-blocks-requires
+    open-blocks-by-requires
     returns-2
     sub-spot-of
     spot-of-requires

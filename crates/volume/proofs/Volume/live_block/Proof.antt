@@ -7,19 +7,20 @@ use Rattle.volume.proofs.Volume.live_block.Tie as tie
 
 block-at-requires : tie.Need-block-at-requires
 unfolding historyOf
-block-at-requires c κs = let p = c .before .before .before .pre in (history-limits _ (p .0), p .1)
+block-at-requires c κs = let s = c .before .before in rw (s .pre .1 .0) (history-limits (s .args .self) (s .pre .0), s .pre .1 .1)
 
 returns : tie.Need-returns
-returns c = rest-block _ (c .before .if1 .taken) _ _ (c .block-at .ensures)
+returns c = let s = c .before .before .before in rest-block (s .args .self) (c .before .if1 .taken) _ _ (rw (s .pre .1 .0) at (c .block-at .ensures))
 
 live-block-requires : tie.Need-live-block-requires
 unfolding historyOf
 live-block-requires c κs =
-    let p = c .before .before .before .pre in
-    (history-limits _ (p .0), (has-growth _ (c .if1 .left) (p .0), p .1))
+    let s = c .before .before in
+    let v = s .args .self in
+    rw (s .pre .1 .0) (history-limits v (s .pre .0), (has-growth v (c .if1 .left) (s .pre .0), s .pre .1 .1))
 
 returns-2 : tie.Need-returns-2
-returns-2 c = c .live-block .ensures ∙ growing-block _ (c .before .if1 .left) _
+returns-2 c = let s = c .before .before .before in rw (s .pre .1 .0) at (c .live-block .ensures) ∙ growing-block (s .args .self) (c .before .if1 .left) _
 
 pub live-block-spec : {M : Type 1} → statement M
 live-block-spec = tie.close (tie.spec block-at-requires returns live-block-requires returns-2)

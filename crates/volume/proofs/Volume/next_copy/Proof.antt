@@ -7,12 +7,13 @@ use Rattle.volume.proofs.Volume.next_copy.Tie as tie
 
 next-copy-requires : tie.Need-next-copy-requires
 next-copy-requires c κs =
-    let p = c .before .pre in
-    (history-limits _ (p .0), (has-growth _ (p .1) (p .0), window-below _ (p .1) (p .0)))
+    let v = c .args .self in
+    let p = c .pre .0 in
+    rw (c .pre .1) (history-limits v (p .0), (has-growth v (p .1) (p .0), window-below v (p .1) (p .0)))
 
 returns : tie.Need-returns
 unfolding nextBlock tallyOf historyOf
-returns c = c .next-copy .ensures
+returns c = rw (c .before .pre .1) at (c .next-copy .ensures)
 
 pub next-copy-spec : {M : Type 1} → statement M
 next-copy-spec = tie.close (tie.spec next-copy-requires returns)

@@ -19,23 +19,23 @@ refuse-requires c κs = search needs
 returns : tie.Need-returns
 unfolding readOutcome observe
 returns c =
-    let a = c .before .before .before .before .before .args in
+    let a = c .before .before .before .before .before .before .before .args in
     let e = c .before .before .read-refusal .ensures in
     let h = c .before .if1 .taken in
     (refused-reply _ (a .self) (a .piece .now) _ _ e h (a .self) _ refl (c .refuse .ensures), refused-piece _ (a .self) (a .piece .now) _ _ e h)
 
 accepted : (c : tie.Else1)
-    → let a = c .before .before .before .before .args in ReadFacts (a .self) (a .x .0) (length (a .piece .now)) (length (a .medium .now))
+    → let a = c .before .before .before .before .before .before .args in ReadFacts (a .self) (a .x .0) (length (a .piece .now)) (length (a .medium .now))
 accepted c = read-accepted _ _ _ _ (sym (c .before .read-refusal .ensures) ∙ c .if1 .left)
 
-live-spot-requires : tie.Need-live-spot-requires
-live-spot-requires c κs = (accepted c .is-sound, accepted c .block-open)
+live-spot-by-requires : tie.Need-live-spot-by-requires
+live-spot-by-requires c κs = let a = accepted (c .before) in (a .is-sound, (refl, a .block-open))
 
 geometry-requires : tie.Need-geometry-requires
 geometry-requires c κs = search needs
 
 fetch-block-requires : tie.Need-fetch-block-requires
-fetch-block-requires c κs = piece-fits _ _ _ _ (accepted (c .before .before .before)) _ (c .before .geometry .ensures) _ (c .before .before .live-spot .ensures)
+fetch-block-requires c κs = piece-fits _ _ _ _ (accepted (c .before .before .before .before)) _ (c .before .geometry .ensures) _ (c .before .before .live-spot-by .ensures)
 
 same-length : tie.Need-same-length
 same-length c = search needs
@@ -43,11 +43,11 @@ same-length c = search needs
 returns-2 : tie.Need-returns-2
 unfolding readOutcome observe
 returns-2 c =
-    let a = c .before .before .before .before .before .before .before .before .before .before .args in
-    let e = c .before .before .before .before .before .before .before .read-refusal .ensures in
-    let h = c .before .before .before .before .before .before .if1 .left in (
+    let a = c .before .before .before .before .before .before .before .before .before .before .before .before .before .args in
+    let e = c .before .before .before .before .before .before .before .before .read-refusal .ensures in
+    let h = c .before .before .before .before .before .before .before .if1 .left in (
       accepted-reply _ (a .self) (a .piece .now) _ _ e h _ refl,
-      accepted-piece _ (a .self) (a .piece .now) _ _ e h _ (rw (c .before .before .before .before .before .live-spot .ensures, c .before .before .before .before .geometry .ensures) at (c .before .before .fetch-block .ensures)),
+      accepted-piece _ (a .self) (a .piece .now) _ _ e h _ (rw (c .before .before .before .before .before .live-spot-by .ensures, c .before .before .before .before .geometry .ensures) at (c .before .before .fetch-block .ensures)),
     )
 
 pub read-spec : {M : Type 1} → statement M
@@ -57,7 +57,7 @@ read-spec =
     read-refusal-requires
     refuse-requires
     returns
-    live-spot-requires
+    live-spot-by-requires
     geometry-requires
     fetch-block-requires
     same-length

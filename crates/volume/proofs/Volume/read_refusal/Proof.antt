@@ -11,36 +11,36 @@ use Rattle.volume.proofs.SoundLaws.{sound-facts}
 use Rattle.volume.proofs.Volume.read_refusal.Statement.{statement}
 use Rattle.volume.proofs.Volume.read_refusal.Tie as tie
 
-is-sound-requires : tie.Need-is-sound-requires
-is-sound-requires c κs = search needs
+is-sound-by-requires : tie.Need-is-sound-by-requires
+is-sound-by-requires c κs = search needs
 
 is-sound : (c : tie.Else1) → sound (c .before .before .args .self) ≡ true
-is-sound c = sym (c .before .is-sound .ensures) ∙ not-false _ (c .if1 .left)
+is-sound c = sym (c .before .is-sound-by .ensures) ∙ not-false _ (c .if1 .left)
 
 returns : tie.Need-returns
 unfolding refusal readTable
-returns c = simp (← c .before .is-sound .ensures, not-true (c .before .is-sound .result) (c .if1 .taken))
+returns c = simp (← c .before .is-sound-by .ensures, not-true (c .before .is-sound-by .result) (c .if1 .taken))
 
-disk-count-requires : tie.Need-disk-count-requires
-disk-count-requires c κs = search needs
+disk-count-by-requires : tie.Need-disk-count-by-requires
+disk-count-by-requires c κs = search needs
 
 is-short-requires : tie.Need-is-short-requires
 unfolding disks
 is-short-requires c κs =
     let e = is-sound (c .before) in
-    (e, rw (c .disk-count .ensures) (sound-facts _ e .limits .disks-most))
+    (e, rw (c .disk-count-by .ensures) (sound-facts _ e .limits .disks-most))
 
 returns-2 : tie.Need-returns-2
 unfolding refusal readTable
-returns-2 c = simp (is-sound (c .before .before .before), ← c .before .before .disk-count .ensures, ← c .before .is-short .ensures, c .if2 .taken)
+returns-2 c = simp (is-sound (c .before .before .before), ← c .before .before .disk-count-by .ensures, ← c .before .is-short .ensures, c .if2 .taken)
 
 -- the medium is long enough
 is-long : (c : tie.Else2)
     → let a = c .before .before .before .before .before .args in tooShort (geometry (a .self)) (disks (a .self)) (a .len) ≡ false
-is-long c = simp (← c .before .before .disk-count .ensures, ← c .before .is-short .ensures, c .if2 .left)
+is-long c = simp (← c .before .before .disk-count-by .ensures, ← c .before .is-short .ensures, c .if2 .left)
 
-open-blocks-requires : tie.Need-open-blocks-requires
-open-blocks-requires c κs = is-sound (c .before .before .before)
+open-blocks-by-requires : tie.Need-open-blocks-by-requires
+open-blocks-by-requires c κs = (is-sound (c .before .before .before), c .before .before .before .before .before .pre)
 
 returns-3 : tie.Need-returns-3
 unfolding refusal readTable
@@ -48,7 +48,7 @@ returns-3 c =
     simp (
       is-sound (c .before .before .before .before .before .before),
       is-long (c .before .before .before),
-      le-leb _ _ (rw (c .before .before .open-blocks .ensures) at (c .if3 .taken)),
+      le-leb _ _ (rw (c .before .before .open-blocks-by .ensures) at (c .if3 .taken)),
     )
 
 returns-4 : tie.Need-returns-4
@@ -57,7 +57,7 @@ returns-4 c =
     simp (
       is-sound (c .before .before .before .before .before .before .before .before),
       is-long (c .before .before .before .before .before),
-      lt-leb _ _ (rw (c .before .before .before .before .open-blocks .ensures) at (c .before .before .if3 .left)),
+      lt-leb _ _ (rw (c .before .before .before .before .open-blocks-by .ensures) at (c .before .before .if3 .left)),
       ne-eqb _ _ (c .if4 .taken),
     )
 
@@ -67,7 +67,7 @@ returns-5 c =
     simp (
       is-sound (c .before .before .before .before .before .before .before .before),
       is-long (c .before .before .before .before .before),
-      lt-leb _ _ (rw (c .before .before .before .before .open-blocks .ensures) at (c .before .before .if3 .left)),
+      lt-leb _ _ (rw (c .before .before .before .before .open-blocks-by .ensures) at (c .before .before .if3 .left)),
       eq-eqb _ _ (c .if4 .left),
     )
 
@@ -75,12 +75,12 @@ pub read-refusal-spec : {M : Type 1} → statement M
 read-refusal-spec =
     tie.close
     (tie.spec
-    is-sound-requires
+    is-sound-by-requires
     returns
-    disk-count-requires
+    disk-count-by-requires
     is-short-requires
     returns-2
-    open-blocks-requires
+    open-blocks-by-requires
     returns-3
     returns-4
     returns-5)

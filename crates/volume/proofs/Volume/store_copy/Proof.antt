@@ -2,7 +2,7 @@
 use mathlib.Core.Path.{_≡_, _∙_}
 use lib.ListN.{length}
 use borrow.Author.Needs.{needs}
-use Rattle.layout.specs.History.{spotOf}
+use Rattle.layout.specs.History.{history, newestGrowth, spotOf}
 use Rattle.layout.specs.Tally.{liveSpotOf}
 use Rattle.volume.specs.States.{tallyOf}
 use Rattle.volume.proofs.Accepted.{CopyFacts}
@@ -12,29 +12,37 @@ use Rattle.volume.proofs.Volume.store_copy.Statement.{statement}
 use Rattle.volume.proofs.Volume.store_copy.Tie as tie
 
 facts : (c : tie.Start) → CopyFacts (c .args .self) (c .args .x .0) (length (c .args .medium .now))
-facts c = copy-facts _ _ _ (c .pre .0) (c .pre .1 .0, c .pre .1 .1 .0)
+facts c = copy-facts _ _ _ (c .pre .0) (c .pre .1 .1 .0, c .pre .1 .1 .1 .0)
 
 -- the spot that it is copied from is its live one
 from-live : (c : tie.Start) → c .args .p ≡ liveSpotOf (tallyOf (c .args .self)) (c .args .x .0)
-from-live c = spot-before-it _ (c .pre .0 .1) (c .pre .0 .0) _ _ (c .pre .1 .1 .1) ∙ lives-before _ _ _ (facts c)
+from-live c = spot-before-it _ (c .pre .0 .1) (c .pre .0 .0) _ _ (c .pre .1 .1 .1 .1) ∙ lives-before _ _ _ (facts c)
 
 newest-growth-requires : tie.Need-newest-growth-requires
-newest-growth-requires c κs = let p = c .before .before .pre .0 in newest-asked _ (p .1) (p .0)
+newest-growth-requires c κs =
+    let s = c .before in
+    let p = s .pre .0 in
+    rw (s .pre .1 .0) (newest-asked (s .args .self) (p .1) (p .0))
+
+-- what the lent counts, which are the state's, tell
+growth-told : (c : tie.After-newest-growth)
+    → let v = c .before .before .args .self in c .newest-growth .result ≡ newestGrowth (history (v .growths) (v .counts))
+growth-told c = rw (c .before .before .pre .1 .0) at (c .newest-growth .ensures)
 
 spot-after-requires : tie.Need-spot-after-requires
 spot-after-requires c κs =
-    let s = c .before .before .before in
+    let s = c .before .before in
     let p = s .pre .0 in
-    let a = live-asks _ (p .1) (p .0) _ (c .newest-growth .ensures) _ (facts s .block-open) _ (spot-before-it _ (p .1) (p .0) _ _ (s .pre .1 .1 .1)) in
+    let a = live-asks _ (p .1) (p .0) _ (growth-told c) _ (facts s .block-open) _ (spot-before-it _ (p .1) (p .0) _ _ (s .pre .1 .1 .1 .1)) in
     (a .0, (a .1 .0, λ _. a .1 .1))
 
 -- and the one that it is copied to, its new one
 to-new : (c : tie.After-spot-after)
-    → let v = c .before .before .before .before .args .self in c .spot-after .result ≡ spotOf (v .rows) (countsNow v) (c .before .before .before .before .args .x .0)
+    → let v = c .before .before .before .args .self in c .spot-after .result ≡ spotOf (v .rows) (countsNow v) (c .before .before .before .args .x .0)
 to-new c =
-    let s = c .before .before .before .before in
+    let s = c .before .before .before in
     let p = s .pre .0 in
-    new-read _ (p .1) (p .0) _ (c .before .newest-growth .ensures) _ (facts s .block-open) _ (spot-before-it _ (p .1) (p .0) _ _ (s .pre .1 .1 .1)) _ (c .spot-after .ensures)
+    new-read _ (p .1) (p .0) _ (growth-told (c .before)) _ (facts s .block-open) _ (spot-before-it _ (p .1) (p .0) _ _ (s .pre .1 .1 .1 .1)) _ (c .spot-after .ensures)
 
 geometry-requires : tie.Need-geometry-requires
 geometry-requires c κs = search needs
@@ -42,7 +50,7 @@ geometry-requires c κs = search needs
 copy-block-requires : tie.Need-copy-block-requires
 copy-block-requires c κs =
     let b = c .before .before in
-    let s = b .before .before .before .before in
+    let s = b .before .before .before in
     copy-asks _ _ _ (facts s) _ (c .before .geometry .ensures) _ _ (from-live s) (to-new b)
 
 same-length : tie.Need-same-length
@@ -51,7 +59,7 @@ same-length c = search needs
 returns : tie.Need-returns
 returns c =
     let b = c .before .before .before .before .before in
-    let s = b .before .before .before .before in
+    let s = b .before .before .before in
     copy-stored _ _ _ (c .before .before .before .before .geometry .ensures) _ _ (from-live s) (to-new b) _ _ (c .before .before .copy-block .ensures)
 
 pub store-copy-spec : {M : Type 1} → statement M

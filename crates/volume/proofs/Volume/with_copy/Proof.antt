@@ -7,15 +7,15 @@ use Rattle.volume.proofs.Volume.with_copy.Statement.{statement}
 use Rattle.volume.proofs.Volume.with_copy.Tie as tie
 
 newest-growth-requires : tie.Need-newest-growth-requires
-newest-growth-requires c κs = let p = c .before .pre .0 in newest-asked _ (p .1) (p .0)
+newest-growth-requires c κs = let p = c .before .before .pre .0 in newest-asked _ (p .1) (p .0)
 
 read : (c : tie.After-newest-growth)
-    → let v = c .before .before .args .self in ReadGrowth (v .rows) (v .growths) (v .counts) (c .newest-growth .result)
-read c = let p = c .before .before .pre .0 in growth-read _ (p .1) (p .0) _ (c .newest-growth .ensures)
+    → let v = c .before .before .before .args .self in ReadGrowth (v .rows) (v .growths) (v .counts) (c .newest-growth .result)
+read c = let p = c .before .before .before .pre .0 in growth-read _ (p .1) (p .0) _ (c .newest-growth .ensures)
 
 with-mark-requires : tie.Need-with-mark-requires
 unfolding historyOf
-with-mark-requires c κs = (grows-read (read c), rw (old-read (read c), added-read (read c)) (c .before .before .pre .1))
+with-mark-requires c κs = (grows-read (read c), rw (old-read (read c), added-read (read c)) (c .before .before .before .pre .1))
 
 with-growth-requires : tie.Need-with-growth-requires
 with-growth-requires c κs = search needs

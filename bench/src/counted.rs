@@ -1,0 +1,122 @@
+//! The calls whose instructions are counted, and how many times the reference's each may take.
+
+use crate::cases::*;
+use crate::list::{address, holder, recording, soundness};
+use crate::media::Shared;
+use crate::medium::Medium;
+use crate::moves::{self, Moves};
+use crate::order;
+use crate::record;
+use crate::row::{Row, SLICE};
+use crate::transfer::{self, Direction, Transfer};
+use crate::volume::{self, Words};
+use std::cell::RefCell;
+use std::rc::Rc;
+
+/// A row with the number of calls that it makes, all in one slice, and the most that library / reference may be.
+pub struct Counted {
+    pub row: Box<dyn Row>,
+    pub calls: usize,
+    pub most: f64,
+}
+
+/// Rows on each disk, in lookups and with a medium.
+const LOOKUP_ROWS: u64 = 100_000;
+const MEDIUM_ROWS: u64 = 512;
+/// Windows of copy and advance.
+const WINDOWS: u64 = 8;
+
+/// The limits: a call that needs more instructions than this, for each one of the reference's, fails the gate.
+pub fn all() -> Vec<Counted> {
+    let mut rows = lookups();
+    rows.extend([
+        transfer("read", Direction::Read, GROWN, 512, 1.15),
+        transfer("read", Direction::Read, GROWN, 4096, 1.1),
+        transfer("write", Direction::Write, GROWN, 512, 1.15),
+        transfer("write", Direction::Write, GROWN, 4096, 1.1),
+        transfer("read", Direction::Read, GROWING, 512, 1.15),
+        transfer("write", Direction::Write, GROWING, 512, 1.15),
+        moving("copy", moves::Call::Copy, 1.3),
+        moving("advance", moves::Call::Advance, 1.2),
+        recorded("checkpoint", record::Call::Checkpoint, 1.2),
+        recorded("advance that records", record::Call::Advance, 1.2),
+        recorded("restart", record::Call::Restart, 1.0),
+    ]);
+    rows
+}
+
+fn lookups() -> Vec<Counted> {
+    let (s, calls) = (LOOKUP_ROWS, SLICE);
+    let (grown, growing) = (volume::grown(512, s, &COUNTS), half_grown(s));
+    let counted = |row, most| Counted { row, calls, most };
+    let sound = |case, words| soundness(lookup_label("soundness", case, s), words, calls);
+    let at = |case, words, open| address(lookup_label("address", case, s), words, open, calls);
+    let held = |case, words, open| holder(lookup_label("holder", case, s), words, 0..open, calls);
+    vec![
+        counted(sound(GROWN, grown), 1.35),
+        counted(sound(GROWING, growing), 1.35),
+        counted(at(GROWN, grown, 16 * s), 1.25),
+        counted(at(GROWING, growing, 14 * s), 1.15),
+        counted(held(GROWN, grown, 16 * s), 1.15),
+        counted(held(GROWING, growing, 14 * s), 1.15),
+    ]
+}
+
+/// A medium for a state.
+fn medium(words: &Words) -> Shared {
+    Rc::new(RefCell::new(Medium::touched(volume::bytes(words))))
+}
+
+/// Read or write of blocks from all parts of the volume.
+fn transfer(
+    call: &'static str,
+    direction: Direction,
+    case: &'static str,
+    z: u64,
+    most: f64,
+) -> Counted {
+    let s = MEDIUM_ROWS * 512 / z;
+    let (words, open) = match case {
+        GROWING => (half_grown(s), 14 * s),
+        _ => (volume::grown(z, s, &COUNTS), 16 * s),
+    };
+    let calls = transfer::slice_calls(z);
+    let blocks = order::drawn(calls, open);
+    let label = label(call, case, &words);
+    let row = Transfer::new(label, direction, &medium(&words), words, blocks);
+    Counted {
+        row: Box::new(row),
+        calls,
+        most,
+    }
+}
+
+/// The state and the medium of the calls that move blocks or store the record.
+fn growing() -> (Words, Shared) {
+    let words = volume::growing(512, MEDIUM_ROWS, &MOVE_COUNTS, 0);
+    (words, medium(&words))
+}
+
+/// Windows in the middle of the growth.
+fn moving(call: &'static str, kind: moves::Call, most: f64) -> Counted {
+    let (words, medium) = growing();
+    let first = (volume::whole_windows(&words) - WINDOWS) / 2;
+    let label = label(call, GROWING, &words);
+    let row = Moves::new(label, kind, &medium, words, first..first + WINDOWS);
+    let (m, n) = volume::growth(&words);
+    Counted {
+        row: Box::new(row),
+        calls: (WINDOWS * m * n) as usize,
+        most,
+    }
+}
+
+fn recorded(call: &'static str, kind: record::Call, most: f64) -> Counted {
+    let (words, medium) = growing();
+    let label = label(call, GROWING, &words);
+    Counted {
+        row: recording(label, kind, &medium, words, SLICE),
+        calls: SLICE,
+        most,
+    }
+}

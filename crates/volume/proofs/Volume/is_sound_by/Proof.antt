@@ -1,0 +1,17 @@
+-- `is_sound_by` meets its contract. Assumes nothing.
+use mathlib.Core.Path.{_≡_}
+use lib.ListN.{length}
+use borrow.Author.Needs.{needs}
+use Rattle.volume.proofs.Volume.is_sound_by.Statement.{statement}
+use Rattle.volume.proofs.Volume.is_sound_by.Tie as tie
+
+are-sound-requires : tie.Need-are-sound-requires
+are-sound-requires c κs =
+    let e : length (c .args .self .counts) ≡ 8 = search needs in
+    rw (c .pre) e
+
+returns : tie.Need-returns
+returns c = rw (c .before .pre) at (c .are-sound .ensures)
+
+pub is-sound-by-spec : {M : Type 1} → statement M
+is-sound-by-spec = tie.close (tie.spec are-sound-requires returns)
