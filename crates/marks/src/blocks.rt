@@ -1,12 +1,13 @@
 // What the marks of window w say of the blocks of a growth under way, from m disks by n. An old block is known by its
 // old spot.
 ghost use mathlib.Core.Path.{_≡_};
-ghost use mathlib.Core.Bool.{true, false, not, _&&_};
+ghost use mathlib.Core.Bool.{true, false, cond, not, _&&_};
+ghost use mathlib.Core.Logic.{_⊎_};
 ghost use Prim.Native.Nat.{_+_, _/_, _<_, _≤_};
 ghost use lib.Dec.{eqb};
 ghost use lib.ListN.{getD};
 ghost use Rattle.layout.specs.Growth.{movesFrom};
-ghost use Rattle.layout.specs.History.{Within, history};
+ghost use Rattle.layout.specs.History.{Within, history, oldCount, addedCount};
 ghost use Rattle.layout.specs.Limits.{Limits, Grows, mostRows};
 ghost use Rattle.layout.specs.Live.{liveBlock};
 ghost use Rattle.layout.specs.Tally.{recordedBy};
@@ -73,8 +74,8 @@ fn at_new_spot(m: usize, n: usize, w: usize, recorded: usize, p: Spot) -> bool
     is_marked_at(m, n, w, recorded, p)
 }
 
-// The live spot of block x, where p is its old spot.
-pub fn live_from(m: usize, n: usize, s: usize, w: usize, recorded: usize, x: Block, p: Spot) -> Spot
+// The live spot of block x in a growth under way, where p is its old spot.
+fn live_from(m: usize, n: usize, s: usize, w: usize, recorded: usize, x: Block, p: Spot) -> Spot
     requires { ⌜ Grows m n ⌝ }
     requires { ⌜ (s ≤ mostRows) × (p .disk < m) ⌝ }
     ensures { λ r. ⌜ r ≡ liveFrom m n s w (marksOf recorded) (x .0) p ⌝ }
@@ -83,6 +84,28 @@ pub fn live_from(m: usize, n: usize, s: usize, w: usize, recorded: usize, x: Blo
         return layout::spot_after(m, n, s, x.0, p);
     }
     p
+}
+
+// The live spot of block x, where p is its old spot in a growth under way, its only one with none.
+pub fn live_spot(
+    counts: &[usize; 8],
+    t: usize,
+    s: usize,
+    growing: usize,
+    w: usize,
+    recorded: usize,
+    x: Block,
+    p: Spot,
+) -> Spot
+    requires { ⌜ Limits s (history t (now counts)) ⌝ }
+    requires { ⌜ (growing ≡ 0) ⊎ ((0 < t) × (p .disk < oldCount (history t (now counts)))) ⌝ }
+    ensures { λ r. ⌜ r ≡ cond (eqb growing 0) p (liveFrom (oldCount (history t (now (counts .entry)))) (addedCount (history t (now (counts .entry)))) s w (marksOf recorded) (x .0) p) ⌝ }
+{
+    if growing == 0 {
+        return p;
+    }
+    let g = layout::newest_growth(counts, t);
+    live_from(g.old, g.added, s, w, recorded, x, p)
 }
 
 // The live spot of block x in growth k and why it is there, where `old` has its old spot and why it was there.

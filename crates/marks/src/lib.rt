@@ -13,7 +13,7 @@ pub use blocks::address_from;
 pub use blocks::is_marked;
 pub use blocks::is_waiting;
 pub use blocks::live_block;
-pub use blocks::live_from;
+pub use blocks::live_spot;
 pub use copies::all_copied;
 pub use copies::calls_left;
 pub use copies::moves_now;

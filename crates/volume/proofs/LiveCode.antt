@@ -1,13 +1,13 @@
 -- What the code that looks up open blocks, live spots and calls left of a state meets, at rest and while a growth runs. Assumes nothing.
 use Prim.Native.Nat.{ℕ, _-_, _*_, _≤_, _<_, _^_}
-use mathlib.Core.Path.{_≡_, sym, ap, _∙_}
-use mathlib.Core.Bool.{Bool, true, false, not, _&&_}
+use mathlib.Core.Path.{_≡_, refl, sym, ap, _∙_}
+use mathlib.Core.Bool.{Bool, true, false, cond, not, _&&_}
 use mathlib.Core.List.{List}
-use mathlib.Core.Logic.{_≢_}
+use mathlib.Core.Logic.{_≢_, _⊎_, inl, inr}
 use native.Mathlib.Nat.{mul-le-mul}
 use native.Mathlib.Decide.{ℕ-discrete}
 use native.Mathlib.Omega.{arith}
-use lib.Dec.{ltb}
+use lib.Dec.{eqb, ltb}
 use lib.ListN.{length, getD}
 use borrow.Author.Tests.{eq-eqb, ne-eqb}
 use Rattle.base.proofs.Booleans.{by-test}
@@ -42,7 +42,7 @@ use Rattle.volume.proofs.SoundLaws.{sound-facts}
 abbrev pub countsNow : (v : Volume) → List ℕ
 countsNow v = history (v .growths) (v .counts)
 
-abbrev countsBefore : (v : Volume) → List ℕ
+abbrev pub countsBefore : (v : Volume) → List ℕ
 countsBefore v = history (v .growths - 1) (v .counts)
 
 -- ---- a sound state
@@ -273,3 +273,58 @@ open-most v e =
       | yes g ↦ rw (← rest-open v g) (blocks-most v e)
       | no g ↦ rw (← growing-open v g e) (old-blocks-most v g e)
     ]
+
+-- The spot of an open block before the growth under way or, with none, its only one: growing is 0 or 1, so it is that after t - growing growths.
+abbrev pub countsOld : (v : Volume) → List ℕ
+countsOld v = history (v .growths - v .growing) (v .counts)
+
+old-at-rest : (v : Volume) → v .growing ≡ 0 → countsOld v ≡ countsNow v
+old-at-rest v g = let k : v .growths - v .growing ≡ v .growths = omega (arith, g) in ap (λ (t : ℕ). history t (v .counts)) k
+
+module _ (v : Volume) (e : sound v ≡ true) where
+  pub old-in-growth : v .growing ≢ 0 → countsOld v ≡ countsBefore v
+  old-in-growth g =
+      let k : v .growths - v .growing ≡ v .growths - 1 = omega (arith, sound-facts v e .while-growing g .growing-one) in
+      ap (λ (t : ℕ). history t (v .counts)) k
+
+  pub growing-most : v .growing ≤ v .growths
+  growing-most =
+      elim (ℕ-discrete (v .growing) 0) [
+        | yes g ↦ omega (arith, g)
+        | no g ↦ omega (arith, sound-facts v e .while-growing g .growing-one, has-growth v g e)
+      ]
+
+  module _ (x : ℕ) (h : x < openBlocks (tallyOf v)) where
+    pub open-asks : Limits (v .rows) (countsOld v) × (x < diskCount (countsOld v) * v .rows)
+    open-asks =
+        elim (ℕ-discrete (v .growing) 0) [
+          | yes g ↦ rw (old-at-rest v g) (rest-asks v g x e h)
+          | no g ↦ rw (old-in-growth g) (asks-before v g e x h)
+        ]
+
+    module _ (p : Spot) (f : p ≡ spotOf (v .rows) (countsOld v) x) where
+      pub spot-in-growth : v .growing ≢ 0 → p ≡ spotOf (v .rows) (countsBefore v) x
+      spot-in-growth g = rw (old-in-growth g) at f
+
+      -- what finding its live spot asks, and that it is found
+      pub spot-known : Limits (v .rows) (countsNow v) × ((v .growing ≡ 0) ⊎ ((0 < v .growths) × (p .disk < oldCount (countsNow v))))
+      spot-known =
+          elim (ℕ-discrete (v .growing) 0) [
+            | yes g ↦ (history-limits v e, inl g)
+            | no g ↦
+                let d = newestGrowth (countsNow v) in
+                let r = growth-read v g e d refl in
+                (history-limits v e, inr (has-growth v g e, rw (← old-read r) (spot-asks v g e d refl x h p (spot-in-growth g) .1)))
+          ]
+
+      pub live-told : (r : Spot)
+          → r ≡ cond (eqb (v .growing) 0) p (liveFrom (oldCount (countsNow v)) (addedCount (countsNow v)) (v .rows) (v .window) (marksOf (v .recorded)) x p)
+          → r ≡ liveSpotOf (tallyOf v) x
+      live-told r k =
+          elim (ℕ-discrete (v .growing) 0) [
+            | yes g ↦ (simp (eq-eqb (v .growing) 0 g) at k) ∙ (rw (old-at-rest v g) at f) ∙ rest-spot v g x
+            | no g ↦
+                let d = newestGrowth (countsNow v) in
+                let n = growth-read v g e d refl in
+                (simp (ne-eqb (v .growing) 0 g) at k) ∙ (rw (old-read n, added-read n) at (live-read v g e d refl x h p (spot-in-growth g)))
+          ]

@@ -194,20 +194,27 @@ impl Volume {
             };
         }
         let t = self.growths;
-        if self.growing == 0 {
-            let spot = layout::spot_of(&counts, t, self.rows, x);
-            return SpotFound { refusal: 0, spot };
-        }
-        let old = layout::spot_of(&counts, t - 1, self.rows, x);
-        let g = layout::newest_growth(&counts, t);
+        let old = layout::spot_of(&counts, t - self.growing, self.rows, x);
         let w = self.window;
-        if marks::is_waiting(g.old, g.added, w, self.recorded, self.copied, old) {
-            return SpotFound {
-                refusal: 7,
-                spot: nowhere,
-            };
+        if self.growing != 0 {
+            let g = layout::newest_growth(&counts, t);
+            if marks::is_waiting(g.old, g.added, w, self.recorded, self.copied, old) {
+                return SpotFound {
+                    refusal: 7,
+                    spot: nowhere,
+                };
+            }
         }
-        let spot = marks::live_from(g.old, g.added, self.rows, w, self.recorded, x, old);
+        let spot = marks::live_spot(
+            &counts,
+            t,
+            self.rows,
+            self.growing,
+            w,
+            self.recorded,
+            x,
+            old,
+        );
         SpotFound { refusal: 0, spot }
     }
 
@@ -239,7 +246,19 @@ impl Volume {
         if k != 0 {
             return self.refuse(k);
         }
-        let p = self.live_spot_by(&counts, x);
+        let t = self.growths;
+        let old = layout::spot_of(&counts, t - self.growing, self.rows, x);
+        let w = self.window;
+        let p = marks::live_spot(
+            &counts,
+            t,
+            self.rows,
+            self.growing,
+            w,
+            self.recorded,
+            x,
+            old,
+        );
         let g = self.geometry();
         medium::fetch_block(medium, g, p, piece);
         Reply {

@@ -85,23 +85,19 @@ impl Volume {
         ensures { λ r. ⌜ r ≡ liveSpotOf (tallyOf self) (x .0) ⌝ }
     {
         let counts = self.counts;
-        self.live_spot_by(&counts, x)
-    }
-
-    pub(crate) fn live_spot_by(self, counts: &[usize; 8], x: Block) -> Spot
-        requires { ⌜ sound self ≡ true ⌝ }
-        requires { ⌜ now counts ≡ self .counts ⌝ }
-        requires { ⌜ x .0 < openBlocks (tallyOf self) ⌝ }
-        ensures { λ r. ⌜ r ≡ liveSpotOf (tallyOf self) (x .0) ⌝ }
-    {
         let t = self.growths;
-        if self.growing == 0 {
-            return layout::spot_of(counts, t, self.rows, x);
-        }
-        let old = layout::spot_of(counts, t - 1, self.rows, x);
-        let g = layout::newest_growth(counts, t);
+        let old = layout::spot_of(&counts, t - self.growing, self.rows, x);
         let w = self.window;
-        marks::live_from(g.old, g.added, self.rows, w, self.recorded, x, old)
+        marks::live_spot(
+            &counts,
+            t,
+            self.rows,
+            self.growing,
+            w,
+            self.recorded,
+            x,
+            old,
+        )
     }
 
     // The live spot of block x, and why it is there.

@@ -1,13 +1,16 @@
 -- `write_spot` meets its contract. Assumes nothing.
 use mathlib.Core.Path.{_≡_, sym, _∙_}
+use mathlib.Core.Bool.{false}
+use mathlib.Core.Logic.{inl, inr}
 use native.Mathlib.Omega.{arith}
 use borrow.Author.Needs.{needs}
+use Rattle.layout.specs.History.{spotOf}
 use Rattle.layout.specs.Tally.{waiting}
 use Rattle.volume.specs.States.{tallyOf}
 use Rattle.volume.proofs.Accepted.{ReadFacts, read-accepted}
 use Rattle.volume.proofs.BlockCode.{refused-as-read, refused-waiting}
 use Rattle.volume.proofs.Judged.{found-refused, found-there}
-use Rattle.volume.proofs.LiveCode.{rest-asks, rest-spot, rest-waiting, has-growth, asks-before, newest-asked, spot-asks, live-asks, waiting-read, live-read}
+use Rattle.volume.proofs.LiveCode.{countsBefore, rest-waiting, newest-asked, spot-asks, waiting-read, growing-most, open-asks, spot-in-growth, spot-known, live-told}
 use Rattle.volume.proofs.Volume.write_spot.Statement.{statement}
 use Rattle.volume.proofs.Volume.write_spot.Tie as tie
 
@@ -20,62 +23,71 @@ returns c = found-refused _ _ _ (sym (refused-as-read _ _ _ _ _ (c .before .read
 accepted : (c : tie.Else1) → let a = c .before .before .before .before .args in ReadFacts (a .self) (a .x .0) (a .piece) (a .len)
 accepted c = read-accepted _ _ _ _ (sym (c .before .read-refusal .ensures) ∙ c .if1 .left)
 
--- ---- at rest
+sub-spot-of : tie.Need-sub-spot-of
+sub-spot-of c = growing-most _ (accepted (c .before .before) .is-sound)
 
 spot-of-requires : tie.Need-spot-of-requires
-spot-of-requires c κs = let a = accepted (c .before .before .before) in rest-asks _ (c .before .if2 .taken) _ (a .is-sound) (a .block-open)
-
-returns-2 : tie.Need-returns-2
-returns-2 c =
-    let b = c .before .before .before .before in
-    let a = b .before .before .before .before .args in
-    let g = c .before .before .if2 .taken in
-    let e = refused-waiting _ _ _ _ _ (b .before .read-refusal .ensures) (b .if1 .left) in
-    found-there _ _ _ (sym (e ∙ simp (← rest-waiting (a .self) g (a .x .0)))) (c .spot-of .ensures ∙ rest-spot _ g _)
+spot-of-requires c κs = let a = accepted (c .before .before) in open-asks _ (a .is-sound) _ (a .block-open)
 
 -- ---- while a growth runs
 
-sub-spot-of : tie.Need-sub-spot-of
-sub-spot-of c = omega (arith, has-growth _ (c .before .if2 .left) (accepted (c .before .before .before) .is-sound))
-
-spot-of-requires-2 : tie.Need-spot-of-requires-2
-spot-of-requires-2 c κs = let a = accepted (c .before .before .before) in asks-before _ (c .before .if2 .left) (a .is-sound) _ (a .block-open)
-
 newest-growth-requires : tie.Need-newest-growth-requires
-newest-growth-requires c κs = newest-asked _ (c .before .before .before .if2 .left) (accepted (c .before .before .before .before .before) .is-sound)
+newest-growth-requires c κs =
+    newest-asked _ (c .before .if2 .taken) (accepted (c .before .before .before .before .before .before) .is-sound)
+
+-- the old spot
+was-at : (c : tie.Then2)
+    → let a = c .before .before .before .before .before .before .before .before .before .args in
+    c .before .before .spot-of .result ≡ spotOf (a .self .rows) (countsBefore (a .self)) (a .x .0)
+was-at c =
+    let a = accepted (c .before .before .before .before .before) in
+    spot-in-growth _ (a .is-sound) _ (a .block-open) _ (c .before .before .spot-of .ensures) (c .if2 .taken)
 
 is-waiting-requires : tie.Need-is-waiting-requires
 is-waiting-requires c κs =
-    let a = accepted (c .before .before .before .before .before .before) in
-    spot-asks _ (c .before .before .before .before .if2 .left) (a .is-sound) _ (c .newest-growth .ensures) _ (a .block-open) _ (c .before .before .spot-of2 .ensures)
+    let b = c .before .before in
+    let a = accepted (b .before .before .before .before .before) in
+    spot-asks _ (b .if2 .taken) (a .is-sound) _ (c .newest-growth .ensures) _ (a .block-open) _ (was-at b)
 
-waits : (c : tie.After-is-waiting)
-    → let a = c .before .before .before .before .before .before .before .before .before .before .before .args in c .is-waiting .result ≡ waiting (tallyOf (a .self)) (a .x .0)
-waits c =
-    let n = c .before in
-    let a = accepted (n .before .before .before .before .before .before) in
-    waiting-read _ (n .before .before .before .before .if2 .left) (a .is-sound) _ (n .newest-growth .ensures) _ (a .block-open) _ (n .before .before .spot-of2 .ensures) _ (c .is-waiting .ensures)
+returns-2 : tie.Need-returns-2
+returns-2 c =
+    let n = c .before .before in
+    let b = n .before .before in
+    let r = b .before .before .before .before .before in
+    let a = accepted r in
+    let w = waiting-read _ (b .if2 .taken) (a .is-sound) _ (n .newest-growth .ensures) _ (a .block-open) _ (was-at b) _ (c .before .is-waiting .ensures) in
+    let e = refused-waiting _ _ _ _ _ (r .before .read-refusal .ensures) (r .if1 .left) in
+    found-refused _ _ _ (sym (e ∙ simp (← w, c .if3 .taken))) (λ z. absurd (omega arith))
+
+-- ---- the live spot
+
+live-spot-requires : tie.Need-live-spot-requires
+live-spot-requires c κs =
+    let b = c .before .before .before in
+    let a = accepted (b .before .before .before) in
+    spot-known _ (a .is-sound) _ (a .block-open) _ (b .spot-of .ensures)
+
+-- the block does not wait
+not-waiting : (c : tie.Joined2)
+    → let a = c .before .before .before .before .before .before .before .before .before .args in waiting (tallyOf (a .self)) (a .x .0) ≡ false
+not-waiting c =
+    elim (c .if2 .came) [
+      | inl w ↦
+          let b : tie.Then2 = record { before = c .before; if2 = w .0 } in
+          let a = accepted (b .before .before .before .before .before) in
+          sym (waiting-read _ (w .0 .taken) (a .is-sound) _ (w .2 .ensures) _ (a .block-open) _ (was-at b) _ (w .3 .ensures)) ∙ w .4 .left
+      | inr w ↦ sym (rest-waiting _ (w .left) _)
+    ]
 
 returns-3 : tie.Need-returns-3
 returns-3 c =
-    let b = c .before .before .before .before .before .before .before .before in
-    let e = refused-waiting _ _ _ _ _ (b .before .read-refusal .ensures) (b .if1 .left) in
-    found-refused _ _ _ (sym (e ∙ simp (← waits (c .before), c .if3 .taken))) (λ z. absurd (omega arith))
-
-live-from-requires : tie.Need-live-from-requires
-live-from-requires c κs =
-    let n = c .before .before in
-    let a = accepted (n .before .before .before .before .before .before) in
-    live-asks _ (n .before .before .before .before .if2 .left) (a .is-sound) _ (n .newest-growth .ensures) _ (a .block-open) _ (n .before .before .spot-of2 .ensures)
-
-returns-4 : tie.Need-returns-4
-returns-4 c =
-    let n = c .before .before .before in
-    let b = n .before .before .before .before .before .before in
-    let a = accepted b in
-    let e = refused-waiting _ _ _ _ _ (b .before .read-refusal .ensures) (b .if1 .left) in
-    found-there _ _ _ (sym (e ∙ simp (← waits (c .before .before), c .before .if3 .left)))
-    (c .live-from .ensures ∙ live-read _ (n .before .before .before .before .if2 .left) (a .is-sound) _ (n .newest-growth .ensures) _ (a .block-open) _ (n .before .before .spot-of2 .ensures))
+    let j = c .before .before in
+    let b = j .before .before in
+    let r = b .before .before .before in
+    let a = accepted r in
+    let e = refused-waiting _ _ _ _ _ (r .before .read-refusal .ensures) (r .if1 .left) in
+    found-there _ _ _ (sym (e ∙ simp (not-waiting j)))
+    (live-told _ (a .is-sound) _ (a .block-open) _ (b .spot-of .ensures) _ (c .live-spot .ensures))
 
 pub write-spot-spec : {M : Type 1} → statement M
 write-spot-spec =
@@ -83,12 +95,10 @@ write-spot-spec =
     (tie.spec
     read-refusal-requires
     returns
-    spot-of-requires
-    returns-2
     sub-spot-of
-    spot-of-requires-2
+    spot-of-requires
     newest-growth-requires
     is-waiting-requires
-    returns-3
-    live-from-requires
-    returns-4)
+    returns-2
+    live-spot-requires
+    returns-3)
