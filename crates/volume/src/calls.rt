@@ -194,9 +194,11 @@ impl Volume {
             };
         }
         let t = self.growths;
-        let old = layout::spot_of(&counts, t - self.growing, self.rows, x);
+        let s = self.rows;
+        let growing = self.growing;
         let w = self.window;
-        if self.growing != 0 {
+        let old = layout::spot_of(&counts, t - growing, s, x);
+        if growing != 0 {
             let g = layout::newest_growth(&counts, t);
             if marks::is_waiting(g.old, g.added, w, self.recorded, self.copied, old) {
                 return SpotFound {
@@ -205,16 +207,7 @@ impl Volume {
                 };
             }
         }
-        let spot = marks::live_spot(
-            &counts,
-            t,
-            self.rows,
-            self.growing,
-            w,
-            self.recorded,
-            x,
-            old,
-        );
+        let spot = marks::live_spot(&counts, t, s, growing, w, self.recorded, x, old);
         SpotFound { refusal: 0, spot }
     }
 
@@ -247,18 +240,11 @@ impl Volume {
             return self.refuse(k);
         }
         let t = self.growths;
-        let old = layout::spot_of(&counts, t - self.growing, self.rows, x);
+        let s = self.rows;
+        let growing = self.growing;
         let w = self.window;
-        let p = marks::live_spot(
-            &counts,
-            t,
-            self.rows,
-            self.growing,
-            w,
-            self.recorded,
-            x,
-            old,
-        );
+        let old = layout::spot_of(&counts, t - growing, s, x);
+        let p = marks::live_spot(&counts, t, s, growing, w, self.recorded, x, old);
         let g = self.geometry();
         medium::fetch_block(medium, g, p, piece);
         Reply {

@@ -86,18 +86,11 @@ impl Volume {
     {
         let counts = self.counts;
         let t = self.growths;
-        let old = layout::spot_of(&counts, t - self.growing, self.rows, x);
+        let s = self.rows;
+        let growing = self.growing;
         let w = self.window;
-        marks::live_spot(
-            &counts,
-            t,
-            self.rows,
-            self.growing,
-            w,
-            self.recorded,
-            x,
-            old,
-        )
+        let old = layout::spot_of(&counts, t - growing, s, x);
+        marks::live_spot(&counts, t, s, growing, w, self.recorded, x, old)
     }
 
     // The live spot of block x, and why it is there.

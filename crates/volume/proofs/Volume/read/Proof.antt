@@ -32,22 +32,22 @@ accepted : (c : tie.Else1)
 accepted c = read-accepted _ _ _ _ (sym (c .before .read-refusal .ensures) ∙ c .if1 .left)
 
 sub-spot-of : tie.Need-sub-spot-of
-sub-spot-of c = growing-most _ (accepted (c .before .before) .is-sound)
+sub-spot-of c = growing-most _ (accepted (c .before) .is-sound)
 
 spot-of-requires : tie.Need-spot-of-requires
-spot-of-requires c κs = let a = accepted (c .before .before) in open-asks _ (a .is-sound) _ (a .block-open)
+spot-of-requires c κs = let a = accepted (c .before) in open-asks _ (a .is-sound) _ (a .block-open)
 
 live-spot-requires : tie.Need-live-spot-requires
 live-spot-requires c κs =
-    let a = accepted (c .before .before .before .before) in
+    let a = accepted (c .before .before .before) in
     spot-known _ (a .is-sound) _ (a .block-open) _ (c .before .spot-of .ensures)
 
 -- the spot that it is fetched from is the live one
 from-live : (c : tie.After-live-spot)
-    → let a = c .before .before .before .before .before .before .before .before .before .before .before .args in
+    → let a = c .before .before .before .before .before .before .before .before .before .before .args in
     c .live-spot .result ≡ liveSpotOf (tallyOf (a .self)) (a .x .0)
 from-live c =
-    let a = accepted (c .before .before .before .before .before) in
+    let a = accepted (c .before .before .before .before) in
     live-told _ (a .is-sound) _ (a .block-open) _ (c .before .before .spot-of .ensures) _ (c .live-spot .ensures)
 
 geometry-requires : tie.Need-geometry-requires
@@ -55,7 +55,7 @@ geometry-requires c κs = search needs
 
 fetch-block-requires : tie.Need-fetch-block-requires
 fetch-block-requires c κs =
-    piece-fits _ _ _ _ (accepted (c .before .before .before .before .before .before .before)) _ (c .before .geometry .ensures) _ (from-live (c .before .before))
+    piece-fits _ _ _ _ (accepted (c .before .before .before .before .before .before)) _ (c .before .geometry .ensures) _ (from-live (c .before .before))
 
 same-length : tie.Need-same-length
 same-length c = search needs
@@ -63,7 +63,7 @@ same-length c = search needs
 returns-2 : tie.Need-returns-2
 unfolding readOutcome observe
 returns-2 c =
-    let b = c .before .before .before .before .before .before .before .before .before .before in
+    let b = c .before .before .before .before .before .before .before .before .before in
     let a = b .before .before .before .before .before .before .args in
     let e = b .before .read-refusal .ensures in
     let h = b .if1 .left in (

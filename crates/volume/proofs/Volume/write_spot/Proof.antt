@@ -24,36 +24,36 @@ accepted : (c : tie.Else1) → let a = c .before .before .before .before .args i
 accepted c = read-accepted _ _ _ _ (sym (c .before .read-refusal .ensures) ∙ c .if1 .left)
 
 sub-spot-of : tie.Need-sub-spot-of
-sub-spot-of c = growing-most _ (accepted (c .before .before) .is-sound)
+sub-spot-of c = growing-most _ (accepted (c .before) .is-sound)
 
 spot-of-requires : tie.Need-spot-of-requires
-spot-of-requires c κs = let a = accepted (c .before .before) in open-asks _ (a .is-sound) _ (a .block-open)
+spot-of-requires c κs = let a = accepted (c .before) in open-asks _ (a .is-sound) _ (a .block-open)
 
 -- ---- while a growth runs
 
 newest-growth-requires : tie.Need-newest-growth-requires
 newest-growth-requires c κs =
-    newest-asked _ (c .before .if2 .taken) (accepted (c .before .before .before .before .before .before) .is-sound)
+    newest-asked _ (c .before .if2 .taken) (accepted (c .before .before .before .before) .is-sound)
 
 -- the old spot
 was-at : (c : tie.Then2)
-    → let a = c .before .before .before .before .before .before .before .before .before .args in
-    c .before .before .spot-of .result ≡ spotOf (a .self .rows) (countsBefore (a .self)) (a .x .0)
+    → let a = c .before .before .before .before .before .before .before .args in
+    c .before .spot-of .result ≡ spotOf (a .self .rows) (countsBefore (a .self)) (a .x .0)
 was-at c =
-    let a = accepted (c .before .before .before .before .before) in
-    spot-in-growth _ (a .is-sound) _ (a .block-open) _ (c .before .before .spot-of .ensures) (c .if2 .taken)
+    let a = accepted (c .before .before .before) in
+    spot-in-growth _ (a .is-sound) _ (a .block-open) _ (c .before .spot-of .ensures) (c .if2 .taken)
 
 is-waiting-requires : tie.Need-is-waiting-requires
 is-waiting-requires c κs =
     let b = c .before .before in
-    let a = accepted (b .before .before .before .before .before) in
+    let a = accepted (b .before .before .before) in
     spot-asks _ (b .if2 .taken) (a .is-sound) _ (c .newest-growth .ensures) _ (a .block-open) _ (was-at b)
 
 returns-2 : tie.Need-returns-2
 returns-2 c =
     let n = c .before .before in
     let b = n .before .before in
-    let r = b .before .before .before .before .before in
+    let r = b .before .before .before in
     let a = accepted r in
     let w = waiting-read _ (b .if2 .taken) (a .is-sound) _ (n .newest-growth .ensures) _ (a .block-open) _ (was-at b) _ (c .before .is-waiting .ensures) in
     let e = refused-waiting _ _ _ _ _ (r .before .read-refusal .ensures) (r .if1 .left) in
@@ -63,18 +63,18 @@ returns-2 c =
 
 live-spot-requires : tie.Need-live-spot-requires
 live-spot-requires c κs =
-    let b = c .before .before .before in
-    let a = accepted (b .before .before .before) in
+    let b = c .before .before in
+    let a = accepted (b .before .before) in
     spot-known _ (a .is-sound) _ (a .block-open) _ (b .spot-of .ensures)
 
 -- the block does not wait
 not-waiting : (c : tie.Joined2)
-    → let a = c .before .before .before .before .before .before .before .before .before .args in waiting (tallyOf (a .self)) (a .x .0) ≡ false
+    → let a = c .before .before .before .before .before .before .before .args in waiting (tallyOf (a .self)) (a .x .0) ≡ false
 not-waiting c =
     elim (c .if2 .came) [
       | inl w ↦
           let b : tie.Then2 = record { before = c .before; if2 = w .0 } in
-          let a = accepted (b .before .before .before .before .before) in
+          let a = accepted (b .before .before .before) in
           sym (waiting-read _ (w .0 .taken) (a .is-sound) _ (w .2 .ensures) _ (a .block-open) _ (was-at b) _ (w .3 .ensures)) ∙ w .4 .left
       | inr w ↦ sym (rest-waiting _ (w .left) _)
     ]
@@ -82,8 +82,8 @@ not-waiting c =
 returns-3 : tie.Need-returns-3
 returns-3 c =
     let j = c .before .before in
-    let b = j .before .before in
-    let r = b .before .before .before in
+    let b = j .before in
+    let r = b .before .before in
     let a = accepted r in
     let e = refused-waiting _ _ _ _ _ (r .before .read-refusal .ensures) (r .if1 .left) in
     found-there _ _ _ (sym (e ∙ simp (not-waiting j)))
