@@ -177,9 +177,16 @@ module _ {s t : ℕ} {l : List ℕ} {g : GrowthDisks} {w : ℕ} {marks : List Bo
     unfolding blockOfMark
     its-block x k = k ∙ rw (e, history-before t l (f .read .grown), old-read (f .read), added-read (f .read))
 
+    its-mark-is : (x : ℕ) → x ≡ blockAt s (history (t - 1) l) p → markOf s (history t l) x ≡ j
+    its-mark-is x k =
+        let r = f .read in
+        let below = rw (old-read r, added-read r) at (f .below) in
+        let row = rw (old-read r, added-read r) at (f .row) in
+        rw (its-block x k) (marks-law s (history t l) (r .limits) (some-old r) .mark-moves w j below row .2)
+
     pub next-told : (x : Block) (part : Part) → x .0 ≡ blockAt s (history (t - 1) l) p
         → part ≡ partOf (g .old) (g .added) (p .row .0 % (g .old + g .added))
-        → CopyOf x part p ≡ asNextCopy s (history t l) (nextOfWindow s (history t l) w (markedBlocks s (history t l) w marks))
+        → CopyOf x part p j ≡ asNextCopy s (history t l) (nextOfWindow s (history t l) w (markedBlocks s (history t l) w marks))
     unfolding asNextCopy partMoved
     next-told x part k q =
-        rw (f .next, ← its-block (x .0) k, its-old-spot (x .0) k, ← old-read (f .read), ← added-read (f .read), q)
+        rw (f .next, ← its-block (x .0) k, its-old-spot (x .0) k, its-mark-is (x .0) k, ← old-read (f .read), ← added-read (f .read), q)

@@ -11,7 +11,7 @@ use Rattle.layout.specs.declared.Reason.the-variants.{MovedBy}
 use Rattle.layout.specs.declared.Spot.{Spot}
 use Rattle.layout.specs.Growth.{partOf, rowInWindow, movesFrom, spotAfter}
 use Rattle.layout.specs.History.{oldCount, addedCount}
-use Rattle.layout.specs.Windows.{windows, windowOfRow, markOfSpot, rowExists, oldSpot, partMoved}
+use Rattle.layout.specs.Windows.{windows, windowOfRow, markOfSpot, rowExists, oldSpot, markOf, partMoved}
 use Rattle.marks.specs.declared.LiveBlock.{LiveBlock}
 use Rattle.marks.specs.declared.LiveBlock.the-variants.{Lives, Nothing}
 use Rattle.marks.specs.declared.NextCopy.{NextCopy}
@@ -94,7 +94,7 @@ asLiveBlock (some x) = Lives (record { 0 = x })
 unfoldable pub firstUnmarked : (m n s w : ℕ) (marks : List Bool) → ℕ
 firstUnmarked m n s w marks = first (λ j. rowExists m n s w j && not (getD marks j false)) (m * n)
 
--- the block to copy next with its part and its old spot, or none, as the code answers it
+-- the block to copy next with its part, its old spot and its mark, or none, as the code answers it
 unfoldable pub asNextCopy : (s : ℕ) (h : List ℕ) (found : Option ℕ) → NextCopy
 asNextCopy s h none = AllCopied
-asNextCopy s h (some x) = CopyOf (record { 0 = x }) (partMoved s h x) (oldSpot s h x)
+asNextCopy s h (some x) = CopyOf (record { 0 = x }) (partMoved s h x) (oldSpot s h x) (markOf s h x)

@@ -37,7 +37,7 @@ fn is_marked_at(m: usize, n: usize, w: usize, marks: usize, p: Spot) -> bool
 }
 
 // Is the block at the old spot p a moving block of window w with its mark set?
-pub fn is_marked(m: usize, n: usize, w: usize, marks: usize, p: Spot) -> bool
+fn is_marked(m: usize, n: usize, w: usize, marks: usize, p: Spot) -> bool
     requires { ⌜ Grows m n ⌝ }
     requires { ⌜ p .disk < m ⌝ }
     ensures { λ r. ⌜ r ≡ markedAt m n w (marksOf marks) p ⌝ }

@@ -1,19 +1,19 @@
 // What is left to copy in window w of a growth under way.
 ghost use mathlib.Core.Path.{_≡_};
-ghost use mathlib.Core.Bool.{true, false, not, _&&_};
+ghost use mathlib.Core.Bool.{false, cond, not, _&&_};
+ghost use mathlib.Core.Logic.{_⊎_};
 ghost use Prim.Native.Nat.{_<_, _≤_, _*_};
-ghost use lib.ListN.{getD, set};
+ghost use lib.Dec.{eqb};
+ghost use lib.ListN.{getD};
 ghost use Rattle.base.specs.Below.{count};
-ghost use Rattle.layout.specs.Growth.{movesFrom};
 ghost use Rattle.layout.specs.History.{history, oldCount, addedCount};
 ghost use Rattle.layout.specs.Limits.{Limits, Grows, mostRows};
-ghost use Rattle.layout.specs.Windows.{windows, markOfSpot, rowExists, markedBlocks, nextOfWindow, allCopied, callsLeft, callsLeftByMarks};
+ghost use Rattle.layout.specs.Windows.{windows, rowExists, markedBlocks, nextOfWindow, allCopied, callsLeft, callsLeftByMarks};
 ghost use Rattle.marks.specs.Marks.{movesAt, firstUnmarked, asNextCopy};
-ghost use Rattle.marks.specs.Words.{marksOf, wordOf};
+ghost use Rattle.marks.specs.Words.{marksOf};
 use super::NextCopy;
 use super::words::is_within;
 use super::words::moving_marks;
-use super::words::with_bit;
 use super::words::without;
 use layout::Spot;
 
@@ -28,16 +28,6 @@ pub fn moves_now(m: usize, n: usize, w: usize, p: Spot) -> bool
     }
     let row = p.row;
     row.0 / (m + n) == w
-}
-
-// The marks with that of the moving block at the old spot p set.
-pub fn with_mark(m: usize, n: usize, marks: usize, p: Spot) -> usize
-    requires { ⌜ Grows m n ⌝ }
-    requires { ⌜ (p .disk < m) × (movesFrom m n p ≡ true) ⌝ }
-    ensures { λ r. ⌜ r ≡ wordOf (set (marksOf marks) (markOfSpot m n p) true) ⌝ }
-{
-    let j = window::mark_of_spot(m, n, p);
-    with_bit(marks, j)
 }
 
 // Are all moving blocks of window w copied?
@@ -82,7 +72,7 @@ pub fn next_copy(counts: &[usize; 8], t: usize, s: usize, w: usize, copied: usiz
     let row = p.row;
     let part = layout::part_of(m, n, row.0 % (m + n));
     let x = layout::block_at(counts, t - 1, s, p);
-    NextCopy::CopyOf(x, part, p)
+    NextCopy::CopyOf(x, part, p, j)
 }
 
 // The moving blocks of window w without a mark.
@@ -108,12 +98,22 @@ fn calls_left_by_marks(m: usize, n: usize, s: usize, w: usize, marks: usize) -> 
     here + later + all - w
 }
 
-// U + R - w of the newest growth, where window w's copied blocks are those with a mark.
-pub fn calls_left(counts: &[usize; 8], t: usize, s: usize, w: usize, copied: usize) -> usize
+// U + R - w of the newest growth, where window w's copied blocks are those with a mark; 0 with no growth under way.
+pub fn calls_left(
+    counts: &[usize; 8],
+    t: usize,
+    s: usize,
+    growing: usize,
+    w: usize,
+    copied: usize,
+) -> usize
     requires { ⌜ Limits s (history t (now counts)) ⌝ }
-    requires { ⌜ (0 < t) × (w < windows (oldCount (history t (now counts))) (addedCount (history t (now counts))) s) ⌝ }
-    ensures { λ r. ⌜ r ≡ callsLeft s (history t (now (counts .entry))) w (markedBlocks s (history t (now (counts .entry))) w (marksOf copied)) ⌝ }
+    requires { ⌜ (growing ≡ 0) ⊎ ((0 < t) × (w < windows (oldCount (history t (now counts))) (addedCount (history t (now counts))) s)) ⌝ }
+    ensures { λ r. ⌜ r ≡ cond (eqb growing 0) 0 (callsLeft s (history t (now (counts .entry))) w (markedBlocks s (history t (now (counts .entry))) w (marksOf copied))) ⌝ }
 {
+    if growing == 0 {
+        return 0;
+    }
     let g = layout::newest_growth(counts, t);
     calls_left_by_marks(g.old, g.added, s, w, copied)
 }

@@ -10,7 +10,6 @@ mod stages;
 mod words;
 
 pub use blocks::address_from;
-pub use blocks::is_marked;
 pub use blocks::is_waiting;
 pub use blocks::live_block;
 pub use blocks::live_spot;
@@ -18,7 +17,6 @@ pub use copies::all_copied;
 pub use copies::calls_left;
 pub use copies::moves_now;
 pub use copies::next_copy;
-pub use copies::with_mark;
 pub use counts::counts_rise;
 pub use counts::zeros_after;
 use layout::Block;
@@ -26,8 +24,10 @@ use layout::Part;
 use layout::Spot;
 pub use stages::at_rest;
 pub use stages::in_growth;
+pub use words::has_mark;
 pub use words::is_within;
 pub use words::marks_of;
+pub use words::with_mark;
 pub use words::word_of;
 
 // The block that lives at a spot, or that none does.
@@ -36,8 +36,8 @@ pub enum LiveBlock {
     Nothing,
 }
 
-// The block of window w to copy next, with its part and its old spot, or that all are copied.
+// The block of window w to copy next, with its part, its old spot and its mark, or that all are copied.
 pub enum NextCopy {
-    CopyOf(Block, Part, Spot),
+    CopyOf(Block, Part, Spot, usize),
     AllCopied,
 }

@@ -25,9 +25,9 @@ pub fn has_mark(marks: usize, j: usize) -> bool
 }
 
 // The marks with mark j set.
-pub fn with_bit(marks: usize, j: usize) -> usize
+pub fn with_mark(marks: usize, j: usize) -> usize
     requires { ⌜ j < 64 ⌝ }
-    ensures { λ r. ⌜ marksOf r ≡ set (marksOf marks) j true ⌝ }
+    ensures { λ r. ⌜ r ≡ wordOf (set (marksOf marks) j true) ⌝ }
 {
     marks | (1usize << j)
 }

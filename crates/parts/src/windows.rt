@@ -45,7 +45,7 @@ pub fn growth_calls(counts: [usize; 8], t: usize, s: usize) -> usize {
     if growth_windows(counts, t, s) == 0 {
         return 0;
     }
-    marks::calls_left(&counts, t, s, 0, 0)
+    marks::calls_left(&counts, t, s, 1, 0, 0)
 }
 
 // Is the growth from m disks by n within the limits.

@@ -15,18 +15,18 @@ use Rattle.layout.specs.declared.Block.{Block}
 use Rattle.layout.specs.declared.GrowthDisks.{GrowthDisks}
 use Rattle.layout.specs.declared.Part.{Part}
 use Rattle.layout.specs.declared.Spot.{Spot}
-use Rattle.layout.specs.Growth.{movesFrom}
 use Rattle.layout.specs.History.{history, oldCount, addedCount, newestGrowth, spotOf}
 use Rattle.layout.specs.Limits.{mostRows}
 use Rattle.layout.specs.Tally.{openBlocks, liveSpotOf, callsLeftOf, movesNow, targetOf, nextBlock, windowFull, lastWindow}
 use Rattle.layout.specs.Windows.{windows, oldSpot, moving, windowOf, movingIn, markOf, markedBlocks, partMoved, allCopied}
-use Rattle.layout.proofs.Theorems.{some-added}
+use Rattle.layout.proofs.Theorems.{some-added, marks-fit}
 use Rattle.layout.proofs.WindowsCode.{windows-most}
 use Rattle.marks.specs.declared.NextCopy.{NextCopy}
 use Rattle.marks.specs.declared.NextCopy.the-variants.{CopyOf, AllCopied}
-use Rattle.marks.specs.Marks.{within, asNextCopy}
+use Rattle.marks.specs.Marks.{markCount, within, asNextCopy}
 use Rattle.marks.specs.Words.{marksOf}
 use Rattle.marks.proofs.BlocksCode.{history-before}
+use Rattle.marks.proofs.MarkSets.{marks-law}
 use Rattle.medium.specs.declared.Geometry.{Geometry}
 use Rattle.medium.specs.Medium.{mostCopied, bytesNeeded, Observations, observe, recordStore, blockStore, apply, Inside}
 use Rattle.volume.specs.declared.Advanced.{Advanced}
@@ -37,12 +37,12 @@ use Rattle.volume.specs.declared.Volume.{Volume}
 use Rattle.volume.specs.Calls.{Outcome, telling, judged, tooShort, copyTable, copyStore, checkpointTable, checkpointStore, advanceTable, checkpointTold, advancing}
 use Rattle.volume.specs.Records.{recordOf}
 use Rattle.volume.specs.Sound.{sound}
-use Rattle.volume.specs.States.{geometry, historyOf, disks, tallyOf, withGrowth, withCopy, withCopyAt, checkpointed}
+use Rattle.volume.specs.States.{geometry, historyOf, disks, tallyOf, withGrowth, withMark, withCopy, checkpointed}
 use Rattle.volume.proofs.Accepted.{CopyFacts}
 use Rattle.volume.proofs.CallsCode.{record-stored}
 use Rattle.volume.proofs.CopyLaws.{moves-open, source-spot}
 use Rattle.volume.proofs.Judged.{refused-when, accepted-when}
-use Rattle.volume.proofs.LiveCode.{countsNow, has-growth, spot-before-it, spot-asks}
+use Rattle.volume.proofs.LiveCode.{countsNow, history-limits, has-growth}
 use Rattle.volume.proofs.LookUpLaws.{live-inside}
 use Rattle.volume.proofs.SoundLaws.{sound-facts, some-old}
 use Rattle.volume.proofs.StoresFit.{copy-inside}
@@ -154,21 +154,20 @@ pub copy-stored : (v : Volume) (x : ℕ) (k : Geometry) → k ≡ geometry v
 unfolding copyStore targetOf tallyOf historyOf
 copy-stored v x k same from to a b m after made = rw (same, a, b) at made
 
--- ---- the state with a block copied, by its old spot
+-- ---- the state with a block copied, by its mark
 
-pub copied-at : (v : Volume) (x : ℕ) (p : Spot) → p ≡ oldSpot (v .rows) (historyOf v) x → withCopyAt v p ≡ withCopy v x
-unfolding withCopyAt withCopy markOf
-copied-at v x p e = rw e
+pub copied-at : (v : Volume) (x j : ℕ) → j ≡ markOf (v .rows) (historyOf v) x → withMark v j ≡ withCopy v x
+unfolding withCopy
+copied-at v x j e = rw e
 
-pub copied-asks : (v : Volume) (x len : ℕ) → CopyFacts v x len → (p : Spot) → p ≡ oldSpot (v .rows) (historyOf v) x
-    → (p .disk < oldCount (historyOf v)) × (movesFrom (oldCount (historyOf v)) (addedCount (historyOf v)) p ≡ true)
-unfolding newestGrowth historyOf moving
-copied-asks v x len f p e =
+pub copied-asks : (v : Volume) (x len : ℕ) → CopyFacts v x len → (j : ℕ) → j ≡ markOf (v .rows) (historyOf v) x → j < markCount
+unfolding historyOf
+copied-asks v x len f j e =
     let a = f .advances in
-    let s = spot-before-it v (a .is-growing) (a .is-sound) x p e in (
-      spot-asks v (a .is-growing) (a .is-sound) (newestGrowth (countsNow v)) refl x (f .block-open) p s .1,
-      rw e (and-right (ltb x (oldCount (countsNow v) * v .rows)) _ (now-moving v x (f .moves))),
-    )
+    let l = history-limits v (a .is-sound) in
+    let o = some-old v (a .is-sound) (a .is-growing) in
+    let b = marks-law (v .rows) (countsNow v) l o .mark-within x (now-moving v x (f .moves)) in
+    rw e (omega (arith, b, marks-fit (v .rows) (countsNow v) l o))
 
 -- ---- the state that a checkpoint records
 
@@ -206,18 +205,18 @@ window-most v e runs =
     let k = windows-most (oldCount (historyOf v)) (addedCount (historyOf v)) (v .rows) (some-added (v .rows) (historyOf v) (f .limits .rise) o) in
     omega (arith, k, f .while-growing runs .window-below, f .limits .rows-most)
 
--- ---- what the two arms of `let NextCopy::CopyOf(x, part, p)` know
+-- ---- what the two arms of `let NextCopy::CopyOf(x, part, p, j)` know
 
 next-none : (s : ℕ) (h : List ℕ) (found : Option ℕ) → asNextCopy s h found ≡ AllCopied → found ≡ none
 unfolding asNextCopy
 next-none s h none e = refl
 next-none s h (some x) e = cc
 
-next-some : (s : ℕ) (h : List ℕ) (found : Option ℕ) (x : Block) (part : Part) (p : Spot) → asNextCopy s h found ≡ CopyOf x part p
-    → (found ≡ some (x .0)) × (part ≡ partMoved s h (x .0)) × (p ≡ oldSpot s h (x .0))
+next-some : (s : ℕ) (h : List ℕ) (found : Option ℕ) (x : Block) (part : Part) (p : Spot) (j : ℕ) → asNextCopy s h found ≡ CopyOf x part p j
+    → (found ≡ some (x .0)) × (part ≡ partMoved s h (x .0)) × (p ≡ oldSpot s h (x .0)) × (j ≡ markOf s h (x .0))
 unfolding asNextCopy
-next-some s h none x part p e = (cc, cc, cc)
-next-some s h (some y) x part p e = (cc, cc, cc)
+next-some s h none x part p j e = (cc, cc, cc, cc)
+next-some s h (some y) x part p j e = (cc, cc, cc, cc)
 
 -- the reply and the store of an advance
 module _ (v : Volume) where
@@ -242,15 +241,19 @@ module _ (v : Volume) where
     unfolding telling checkpointStore
     records-stored g m after made = rw records (record-stored w (checkpointed v) g m after n made)
 
-  module _ (x : Block) (part : Part) (p : Spot) (e : nextCopy ≡ CopyOf x part p) where
-    copy-next : (nextBlock (tallyOf v) ≡ some (x .0)) × (part ≡ partMoved (v .rows) (historyOf v) (x .0)) × (p ≡ oldSpot (v .rows) (historyOf v) (x .0))
-    copy-next = next-some (v .rows) (historyOf v) (nextBlock (tallyOf v)) x part p e
+  module _ (x : Block) (part : Part) (p : Spot) (j : ℕ) (e : nextCopy ≡ CopyOf x part p j) where
+    copy-next : (nextBlock (tallyOf v) ≡ some (x .0)) × (part ≡ partMoved (v .rows) (historyOf v) (x .0))
+        × (p ≡ oldSpot (v .rows) (historyOf v) (x .0)) × (j ≡ markOf (v .rows) (historyOf v) (x .0))
+    copy-next = next-some (v .rows) (historyOf v) (nextBlock (tallyOf v)) x part p j e
 
     pub next-is : nextBlock (tallyOf v) ≡ some (x .0)
     next-is = copy-next .0
 
     pub next-spot : p ≡ oldSpot (v .rows) (historyOf v) (x .0)
     next-spot = copy-next .2
+
+    pub next-mark : j ≡ markOf (v .rows) (historyOf v) (x .0)
+    next-mark = copy-next .3
 
     module _ (o : Observations) where
       copies : advanced o ≡ telling (withCopy v (x .0)) (Copied x part) (copyStore v (x .0) o)

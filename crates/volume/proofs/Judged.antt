@@ -66,20 +66,21 @@ module _ (table : List (ℕ × Bool)) (v : Volume) (piece : List ℕ) (accepted 
   pub accepted-piece : (after : List ℕ) → after ≡ accepted .piece → after ≡ accepting .piece
   accepted-piece after made = rw (accepted-when table (λ k. refused v k piece) accepted k e h) made
 
--- ---- a refusal, or the spot that a call works on
+-- ---- a refusal, or the spot that a call works on and a mark
 
-pub found-refused : (k r : ℕ) (p : Spot) → k ≡ r → k ≢ 0 → _≡_ {A = SpotFound} (record { refusal = k; spot = record { disk = 0; row = record { 0 = 0 } } }) (foundAt r p)
+pub found-refused : (k r : ℕ) (p : Spot) (j : ℕ) → k ≡ r → k ≢ 0
+    → _≡_ {A = SpotFound} (record { refusal = k; spot = record { disk = 0; row = record { 0 = 0 } }; mark = 0 }) (foundAt r p j)
 unfolding foundAt
-found-refused k r p e h = rw (← e, ne-eqb k 0 h)
+found-refused k r p j e h = rw (← e, ne-eqb k 0 h)
 
-pub found-there : (r : ℕ) (q p : Spot) → 0 ≡ r → q ≡ p → _≡_ {A = SpotFound} (record { refusal = 0; spot = q }) (foundAt r p)
+pub found-there : (r : ℕ) (q p : Spot) (i j : ℕ) → 0 ≡ r → q ≡ p → i ≡ j → _≡_ {A = SpotFound} (record { refusal = 0; spot = q; mark = i }) (foundAt r p j)
 unfolding foundAt
-found-there r q p e f = rw (← e, f)
+found-there r q p i j e f g = rw (← e, f, g)
 
-pub refusal-found : (f : SpotFound) (k : ℕ) (p : Spot) → f ≡ foundAt k p → f .refusal ≡ k
+pub refusal-found : (f : SpotFound) (k : ℕ) (p : Spot) (j : ℕ) → f ≡ foundAt k p j → f .refusal ≡ k
 unfolding foundAt
-refusal-found f k p e = rw e
+refusal-found f k p j e = rw e
 
-pub spot-found : (f : SpotFound) (k : ℕ) (p : Spot) → f ≡ foundAt k p → f .refusal ≡ 0 → f .spot ≡ p
+pub spot-found : (f : SpotFound) (k : ℕ) (p : Spot) (j : ℕ) → f ≡ foundAt k p j → f .refusal ≡ 0 → (f .spot ≡ p) × (f .mark ≡ j)
 unfolding foundAt
-spot-found f k p e z = let q : k ≡ 0 = sym (refusal-found f k p e) ∙ z in rw (e, q)
+spot-found f k p j e z = let q : k ≡ 0 = sym (refusal-found f k p j e) ∙ z in (rw (e, q), rw (e, q))

@@ -10,18 +10,18 @@ use native.Mathlib.Omega.{arith}
 use lib.Dec.{eqb, ltb}
 use lib.ListN.{length, getD}
 use borrow.Author.Tests.{eq-eqb, ne-eqb}
-use Rattle.base.proofs.Booleans.{by-test}
+use Rattle.base.proofs.Booleans.{and-left, by-test}
 use Rattle.layout.specs.declared.Address.{Address}
 use Rattle.layout.specs.declared.Block.{Block}
 use Rattle.layout.specs.declared.GrowthDisks.{GrowthDisks}
 use Rattle.layout.specs.declared.Spot.{Spot}
-use Rattle.layout.specs.Growth.{spotAfter}
+use Rattle.layout.specs.Growth.{movesFrom, spotAfter}
 use Rattle.layout.specs.History.{history, diskCount, earlier, oldCount, addedCount, newestGrowth, rising, spotOf, blockAt}
 use Rattle.layout.specs.Limits.{Limits, Grows, mostDisks, mostGrowths, mostRows}
 use Rattle.layout.specs.Live.{atNewSpot, liveSpot, liveBlock}
 use Rattle.layout.specs.Reasons.{addressOf}
 use Rattle.layout.specs.Tally.{notGrowing, growing, openBlocks, recordedBy, movedBlocks, liveSpotOf, liveBlockOf, growthsOf, liveReasonOf, liveAddressOf, waiting, callsLeftOf}
-use Rattle.layout.specs.Windows.{windows, oldSpot, movingIn, markedBlocks, callsLeft}
+use Rattle.layout.specs.Windows.{windows, windowOfRow, markOfSpot, markOf, oldSpot, movingIn, markedBlocks, callsLeft}
 use Rattle.layout.proofs.HistoryCode.{history-disks, history-length, growths-most}
 use Rattle.layout.proofs.NewestCode.{newest-asks}
 use Rattle.layout.proofs.Theorems.{spot-after-newest}
@@ -226,6 +226,25 @@ module _ (v : Volume) (g : v .growing ≢ 0) (e : sound v ≡ true) where
       marked-read marks =
           rw (old-read growth-read, added-read growth-read, its-spot) (marked-at-spot (v .rows) (countsNow v) (v .window) x below marks)
 
+      -- of a moving block of window w: what reading its mark asks, the mark, and whether it is set
+      pub mark-asks : movesAt (d .old) (d .added) (v .window) p ≡ true
+          → Grows (d .old) (d .added) × ((p .disk < d .old) × (movesFrom (d .old) (d .added) p ≡ true))
+      unfolding movesAt
+      mark-asks k = (grows-read growth-read, (disk-below, and-left (movesFrom (d .old) (d .added) p) (eqb (windowOfRow (d .old) (d .added) (p .row)) (v .window)) k))
+
+      module _ (j : ℕ) (i : j ≡ markOfSpot (d .old) (d .added) p) where
+        pub mark-read : j ≡ markOf (v .rows) (historyOf v) x
+        unfolding markOf historyOf
+        mark-read = rw (old-read growth-read, added-read growth-read, its-spot) at i
+
+        pub mark-set-read : movesAt (d .old) (d .added) (v .window) p ≡ true → (marks : List Bool) (r : Bool) → r ≡ getD marks j false
+            → r ≡ markedBlocks (v .rows) (countsNow v) (v .window) marks x
+        unfolding markedAt
+        mark-set-read k marks r u =
+            let m : (movesAt (d .old) (d .added) (v .window) p && getD marks (markOfSpot (d .old) (d .added) p) false)
+            ≡ markedBlocks (v .rows) (countsNow v) (v .window) marks x = marked-read marks in
+            rw i at u ∙ (rw k at m)
+
       pub waiting-read : (r : Bool)
           → r ≡ (markedAt (d .old) (d .added) (v .window) (marksOf (v .copied)) p && not (markedAt (d .old) (d .added) (v .window) (marksOf (v .recorded)) p))
           → r ≡ waiting (tallyOf v) x
@@ -272,6 +291,25 @@ open-most v e =
     elim (ℕ-discrete (v .growing) 0) [
       | yes g ↦ rw (← rest-open v g) (blocks-most v e)
       | no g ↦ rw (← growing-open v g e) (old-blocks-most v g e)
+    ]
+
+-- what counting the calls left asks, and that they are told
+module _ (v : Volume) (e : sound v ≡ true) where
+  pub calls-asks : Limits (v .rows) (countsNow v)
+      × ((v .growing ≡ 0) ⊎ ((0 < v .growths) × (v .window < windows (oldCount (countsNow v)) (addedCount (countsNow v)) (v .rows))))
+  calls-asks =
+      elim (ℕ-discrete (v .growing) 0) [
+        | yes g ↦ (history-limits v e, inl g)
+        | no g ↦ (history-limits v e, inr (has-growth v g e, window-below v g e))
+      ]
+
+pub calls-told : (v : Volume) (n : ℕ)
+    → n ≡ cond (eqb (v .growing) 0) 0 (callsLeft (v .rows) (countsNow v) (v .window) (markedBlocks (v .rows) (countsNow v) (v .window) (marksOf (v .copied))))
+    → n ≡ callsLeftOf (tallyOf v)
+calls-told v n k =
+    elim (ℕ-discrete (v .growing) 0) [
+      | yes g ↦ (simp (eq-eqb (v .growing) 0 g) at k) ∙ rest-calls v g
+      | no g ↦ (simp (ne-eqb (v .growing) 0 g) at k) ∙ growing-calls v g
     ]
 
 -- The spot of an open block before the growth under way or, with none, its only one: growing is 0 or 1, so it is that after t - growing growths.

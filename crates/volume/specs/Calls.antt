@@ -51,9 +51,9 @@ telling v did store = record { reply = record { state = v; answer = Told did (ca
 abbrev pub judged : {A : Type 0} (table : List (ℕ × Bool)) (refusing : ℕ → A) (accepted : A) → A
 judged table refusing accepted = cond (eqb (refusal table) 0) accepted (refusing (refusal table))
 
--- a refusal, or the spot that a call works on, as the code answers it
-unfoldable pub foundAt : (k : ℕ) (p : Spot) → SpotFound
-foundAt k p = record { refusal = k; spot = cond (eqb k 0) p (record { disk = 0; row = record { 0 = 0 } }) }
+-- a refusal, or the spot that a call works on and a mark, as the code answers it
+unfoldable pub foundAt : (k : ℕ) (p : Spot) (j : ℕ) → SpotFound
+foundAt k p j = record { refusal = k; spot = cond (eqb k 0) p (record { disk = 0; row = record { 0 = 0 } }); mark = cond (eqb k 0) j 0 }
 
 -- "2: medium too short for the record and N[t] disks"
 unfoldable pub tooShort : (g : Geometry) (n byteCount : ℕ) → Bool

@@ -5,10 +5,9 @@ use mathlib.Core.Bool.{true, cond}
 use mathlib.Core.List.{List}
 use lib.Dec.{eqb}
 use lib.ListN.{set, replicate}
-use Rattle.layout.specs.declared.Spot.{Spot}
-use Rattle.layout.specs.History.{history, diskCount, oldCount, addedCount}
+use Rattle.layout.specs.History.{history, diskCount}
 use Rattle.layout.specs.Tally.{Mode, notGrowing, growing, Tally, windowFull, lastWindow}
-use Rattle.layout.specs.Windows.{markOfSpot, markOf, markedBlocks}
+use Rattle.layout.specs.Windows.{markOf, markedBlocks}
 use Rattle.marks.specs.Words.{marksOf, wordOf}
 use Rattle.medium.specs.declared.Geometry.{Geometry}
 use Rattle.volume.specs.declared.Volume.{Volume}
@@ -86,15 +85,12 @@ inStage v stage w recorded copied = withGrowth v (v .growths) (v .counts) stage 
 unfoldable pub recordedOnly : (v : Volume) → Volume
 recordedOnly v = inStage v (v .growing) (v .window) (v .recorded) (v .recorded)
 
--- "sets the copied mark" of block x
-unfoldable pub withCopy : (v : Volume) (x : ℕ) → Volume
-withCopy v x = inStage v (v .growing) (v .window) (v .recorded) (wordOf (set (marksOf (v .copied)) (markOf (v .rows) (historyOf v) x) true))
+-- "sets the copied mark": mark j, and that of block x
+abbrev pub withMark : (v : Volume) (j : ℕ) → Volume
+withMark v j = inStage v (v .growing) (v .window) (v .recorded) (wordOf (set (marksOf (v .copied)) j true))
 
--- the same of the moving block with the old spot p
-unfoldable pub withCopyAt : (v : Volume) (p : Spot) → Volume
-withCopyAt v p =
-    inStage v (v .growing) (v .window) (v .recorded)
-    (wordOf (set (marksOf (v .copied)) (markOfSpot (oldCount (historyOf v)) (addedCount (historyOf v)) p) true))
+unfoldable pub withCopy : (v : Volume) (x : ℕ) → Volume
+withCopy v x = withMark v (markOf (v .rows) (historyOf v) x)
 
 -- "with recorded set to copied. If window w is then full, that same store has w+1 and no marks, or, after the last window, growing 0 and
 -- w 0."

@@ -35,7 +35,16 @@ impl Volume {
         requires { ⌜ sound self ≡ true ⌝ }
         ensures { λ r. ⌜ r ≡ record { state = self; answer = Answer.CallsLeft (callsLeftOf (tallyOf self)) } ⌝ }
     {
-        let left = self.calls_left();
+        let counts = self.counts;
+        let t = self.growths;
+        let left = marks::calls_left(
+            &counts,
+            t,
+            self.rows,
+            self.growing,
+            self.window,
+            self.copied,
+        );
         Reply {
             state: self,
             answer: Answer::CallsLeft(left),
@@ -179,7 +188,7 @@ impl Volume {
 
     // The live spot of block x, which a piece is saved to, or the refusal.
     pub(crate) fn write_spot(self, x: Block, piece: usize, len: usize) -> SpotFound
-        ensures { λ r. ⌜ r ≡ foundAt (refusal (writeTable self (x .0) piece len)) (liveSpotOf (tallyOf self) (x .0)) ⌝ }
+        ensures { λ r. ⌜ r ≡ foundAt (refusal (writeTable self (x .0) piece len)) (liveSpotOf (tallyOf self) (x .0)) 0 ⌝ }
     {
         let nowhere = Spot {
             disk: 0,
@@ -191,6 +200,7 @@ impl Volume {
             return SpotFound {
                 refusal: k,
                 spot: nowhere,
+                mark: 0,
             };
         }
         let t = self.growths;
@@ -204,11 +214,16 @@ impl Volume {
                 return SpotFound {
                     refusal: 7,
                     spot: nowhere,
+                    mark: 0,
                 };
             }
         }
         let spot = marks::live_spot(&counts, t, s, growing, w, self.recorded, x, old);
-        SpotFound { refusal: 0, spot }
+        SpotFound {
+            refusal: 0,
+            spot,
+            mark: 0,
+        }
     }
 
     // Saves a piece as block x.

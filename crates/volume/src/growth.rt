@@ -5,15 +5,13 @@ ghost use mathlib.Core.Logic.{_≢_};
 ghost use Prim.Native.Nat.{_≤_, _<_};
 ghost use lib.ListN.{length};
 ghost use Rattle.base.specs.Refusals.{refusal};
-ghost use Rattle.layout.specs.Growth.{movesFrom};
-ghost use Rattle.layout.specs.History.{oldCount, addedCount};
 ghost use Rattle.layout.specs.Tally.{movesNow, nextBlock, callsLeftOf};
-ghost use Rattle.layout.specs.Windows.{oldSpot};
-ghost use Rattle.marks.specs.Marks.{asNextCopy};
+ghost use Rattle.layout.specs.Windows.{oldSpot, markOf};
+ghost use Rattle.marks.specs.Marks.{markCount, asNextCopy};
 ghost use Rattle.medium.specs.Medium.{bytesNeeded, observe, apply};
 ghost use Rattle.volume.specs.Calls.{foundAt, copyTable, copyStore, copyOutcome, checkpointTable, checkpointOutcome, advanceTable, checkpointTold, advanceOutcome};
 ghost use Rattle.volume.specs.Sound.{sound};
-ghost use Rattle.volume.specs.States.{geometry, historyOf, disks, tallyOf, withCopyAt, checkpointed};
+ghost use Rattle.volume.specs.States.{geometry, historyOf, disks, tallyOf, withMark, checkpointed};
 use super::Advanced;
 use super::Answer;
 use super::Reply;
@@ -25,17 +23,21 @@ use layout::Spot;
 use marks::NextCopy;
 
 impl Volume {
-    // The state with the moving block at the old spot p copied.
-    pub(crate) fn with_copy(self, p: Spot) -> Volume
-        requires { ⌜ (sound self ≡ true) × (self .growing ≢ 0) ⌝ }
-        requires { ⌜ (p .disk < oldCount (historyOf self)) × (movesFrom (oldCount (historyOf self)) (addedCount (historyOf self)) p ≡ true) ⌝ }
-        ensures { λ r. ⌜ r ≡ withCopyAt self p ⌝ }
+    // The state with mark j copied.
+    pub(crate) fn with_mark(self, j: usize) -> Volume
+        requires { ⌜ j < markCount ⌝ }
+        ensures { λ r. ⌜ r ≡ withMark self j ⌝ }
     {
-        let t = self.growths;
         let counts = self.counts;
-        let g = layout::newest_growth(&counts, t);
-        let copied = marks::with_mark(g.old, g.added, self.copied, p);
-        self.with_growth(t, counts, self.growing, self.window, self.recorded, copied)
+        let copied = marks::with_mark(self.copied, j);
+        self.with_growth(
+            self.growths,
+            counts,
+            self.growing,
+            self.window,
+            self.recorded,
+            copied,
+        )
     }
 
     // The state that a checkpoint records.
@@ -62,7 +64,16 @@ impl Volume {
         requires { ⌜ sound self ≡ true ⌝ }
         ensures { λ r. ⌜ r ≡ record { state = self; answer = Answer.Told did (callsLeftOf (tallyOf self)) } ⌝ }
     {
-        let left = self.calls_left();
+        let counts = self.counts;
+        let t = self.growths;
+        let left = marks::calls_left(
+            &counts,
+            t,
+            self.rows,
+            self.growing,
+            self.window,
+            self.copied,
+        );
         Reply {
             state: self,
             answer: Answer::Told(did, left),
@@ -110,10 +121,10 @@ impl Volume {
         0
     }
 
-    // The old spot of block x, which a copy is taken from, or the refusal.
+    // The old spot of block x, which a copy is taken from, and its mark, or the refusal.
     pub(crate) fn copy_spot(self, counts: &[usize; 8], x: Block, len: usize) -> SpotFound
         requires { ⌜ now counts ≡ self .counts ⌝ }
-        ensures { λ r. ⌜ r ≡ foundAt (refusal (copyTable self (x .0) len)) (oldSpot (self .rows) (historyOf self) (x .0)) ⌝ }
+        ensures { λ r. ⌜ r ≡ foundAt (refusal (copyTable self (x .0) len)) (oldSpot (self .rows) (historyOf self) (x .0)) (markOf (self .rows) (historyOf self) (x .0)) ⌝ }
     {
         let nowhere = Spot {
             disk: 0,
@@ -124,12 +135,14 @@ impl Volume {
             return SpotFound {
                 refusal: k,
                 spot: nowhere,
+                mark: 0,
             };
         }
         if self.open_blocks_by(counts) <= x.0 {
             return SpotFound {
                 refusal: 3,
                 spot: nowhere,
+                mark: 0,
             };
         }
         let t = self.growths;
@@ -139,16 +152,22 @@ impl Volume {
             return SpotFound {
                 refusal: 10,
                 spot: nowhere,
+                mark: 0,
             };
         }
-        let done = self.copied;
-        if marks::is_marked(g.old, g.added, self.window, done, spot) {
+        let mark = window::mark_of_spot(g.old, g.added, spot);
+        if marks::has_mark(self.copied, mark) {
             return SpotFound {
                 refusal: 11,
                 spot: nowhere,
+                mark: 0,
             };
         }
-        SpotFound { refusal: 0, spot }
+        SpotFound {
+            refusal: 0,
+            spot,
+            mark,
+        }
     }
 
     // Copies block x to its new spot.
@@ -163,7 +182,7 @@ impl Volume {
         }
         let p = found.spot;
         self.store_copy(&counts, medium, x, p);
-        let v = self.with_copy(p);
+        let v = self.with_mark(found.mark);
         v.report()
     }
 
@@ -207,13 +226,13 @@ impl Volume {
         if k != 0 {
             return self.refuse(k);
         }
-        let NextCopy::CopyOf(x, part, p) = self.next_copy(&counts) else {
+        let NextCopy::CopyOf(x, part, p, j) = self.next_copy(&counts) else {
             let v = self.checkpointed();
             v.store_record(medium);
             return v.tell(v.checkpoint_told());
         };
         self.store_copy(&counts, medium, x, p);
-        let v = self.with_copy(p);
+        let v = self.with_mark(j);
         v.tell(Advanced::Copied(x, part))
     }
 

@@ -51,10 +51,11 @@ pub struct Reply {
     pub answer: Answer,
 }
 
-// A refusal, or 0 and the spot that a call works on.
+// A refusal, or 0 and the spot that a call works on, for copy with the mark of its block.
 struct SpotFound {
     refusal: usize,
     spot: Spot,
+    mark: usize,
 }
 
 // The answer of address: refused with a number, or the live spot and why the block is there.

@@ -1,11 +1,11 @@
-// Open blocks, live spots and calls left of a sound state. Functions that end in `_by` are lent its counts, which a call copies out of the state
+// Open blocks and live spots of a sound state. Functions that end in `_by` are lent its counts, which a call copies out of the state
 // once: each callee that took the state alone would copy it again.
 ghost use mathlib.Core.Path.{_≡_};
 ghost use mathlib.Core.Bool.{true};
 ghost use Prim.Native.Nat.{_≤_, _<_};
 ghost use Rattle.layout.specs.History.{Within};
 ghost use Rattle.layout.specs.Limits.{mostDisks};
-ghost use Rattle.layout.specs.Tally.{openBlocks, liveSpotOf, liveBlockOf, liveAddressOf, callsLeftOf};
+ghost use Rattle.layout.specs.Tally.{openBlocks, liveSpotOf, liveBlockOf, liveAddressOf};
 ghost use Rattle.marks.specs.Marks.{asLiveBlock};
 ghost use Rattle.volume.specs.Calls.{tooShort};
 ghost use Rattle.volume.specs.Sound.{sound};
@@ -130,18 +130,5 @@ impl Volume {
         }
         let recorded = self.recorded;
         marks::live_block(counts, self.growths, self.rows, self.window, recorded, p)
-    }
-
-    // The advance calls left.
-    pub(crate) fn calls_left(self) -> usize
-        requires { ⌜ sound self ≡ true ⌝ }
-        ensures { λ r. ⌜ r ≡ callsLeftOf (tallyOf self) ⌝ }
-    {
-        if self.growing == 0 {
-            return 0;
-        }
-        let counts = self.counts;
-        let copied = self.copied;
-        marks::calls_left(&counts, self.growths, self.rows, self.window, copied)
     }
 }

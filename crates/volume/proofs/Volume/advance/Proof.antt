@@ -4,7 +4,7 @@ use mathlib.Core.List.{[]}
 use lib.ListN.{length}
 use borrow.Author.Needs.{needs}
 use Rattle.layout.specs.Tally.{nextBlock}
-use Rattle.layout.specs.Windows.{oldSpot}
+use Rattle.layout.specs.Windows.{oldSpot, markOf}
 use Rattle.marks.specs.declared.NextCopy.the-variants.{CopyOf, AllCopied}
 use Rattle.marks.specs.Marks.{asNextCopy}
 use Rattle.medium.specs.Medium.{observe}
@@ -13,7 +13,7 @@ use Rattle.volume.specs.States.{historyOf, tallyOf, withCopy}
 use Rattle.volume.proofs.Accepted.{AdvanceFacts, CopyFacts, advance-accepted}
 use Rattle.volume.proofs.ByteBounds.{record-room}
 use Rattle.volume.proofs.CopyLaws.{next-facts}
-use Rattle.volume.proofs.GrowthCode.{next-is, next-spot, copied-at, copied-asks, records-told, records-stored, copies-told, copies-stored}
+use Rattle.volume.proofs.GrowthCode.{next-is, next-spot, next-mark, copied-at, copied-asks, records-told, records-stored, copies-told, copies-stored}
 use Rattle.volume.proofs.Judged.{refused-reply, refused-stores, accepted-reply, accepted-stores}
 use Rattle.volume.proofs.StatesSound.{copied-sound, checkpointed-sound}
 use Rattle.volume.proofs.Volume.advance.Statement.{statement}
@@ -84,16 +84,21 @@ returns-2 c =
 
 is-next : (c : tie.After-x)
     → let v = c .before .before .before .before .before .before .before .before .before .args .self in
-    asNextCopy (v .rows) (historyOf v) (nextBlock (tallyOf v)) ≡ CopyOf (c .x .given .0 .0) (c .x .given .0 .1 .0) (c .x .given .0 .1 .1 .0)
+    asNextCopy (v .rows) (historyOf v) (nextBlock (tallyOf v)) ≡ CopyOf (c .x .given .0 .0) (c .x .given .0 .1 .0) (c .x .given .0 .1 .1 .0) (c .x .given .0 .1 .1 .1 .0)
 is-next c = sym (c .before .before .next-copy .ensures) ∙ c .x .given .1
 
 facts : (c : tie.After-x) → let a = c .before .before .before .before .before .before .before .before .before .args in CopyFacts (a .self) (c .x .given .0 .0 .0) (length (a .medium .now))
-facts c = next-facts _ _ _ (accepted (c .before .before .before .before)) (next-is _ _ _ _ (is-next c))
+facts c = next-facts _ _ _ (accepted (c .before .before .before .before)) (next-is _ _ _ _ _ (is-next c))
 
 -- its old spot
 from-old : (c : tie.After-x)
     → let v = c .before .before .before .before .before .before .before .before .before .args .self in c .x .given .0 .1 .1 .0 ≡ oldSpot (v .rows) (historyOf v) (c .x .given .0 .0 .0)
-from-old c = next-spot _ _ _ _ (is-next c)
+from-old c = next-spot _ _ _ _ _ (is-next c)
+
+-- and its mark
+its-mark : (c : tie.After-x)
+    → let v = c .before .before .before .before .before .before .before .before .before .args .self in c .x .given .0 .1 .1 .1 .0 ≡ markOf (v .rows) (historyOf v) (c .x .given .0 .0 .0)
+its-mark c = next-mark _ _ _ _ _ (is-next c)
 
 store-copy-requires : tie.Need-store-copy-requires
 store-copy-requires c κs =
@@ -102,16 +107,15 @@ store-copy-requires c κs =
     let a = f .advances in
     ((a .is-sound, a .is-growing), (refl, (a .room, ((f .moves, f .not-copied), from-old b))))
 
-with-copy-requires : tie.Need-with-copy-requires
-with-copy-requires c κs =
+with-mark-requires : tie.Need-with-mark-requires
+with-mark-requires c κs =
     let b = c .before .before .before .before .before .before in
-    let a = facts b .advances in
-    ((a .is-sound, a .is-growing), copied-asks _ _ _ (facts b) _ (from-old b))
+    copied-asks _ _ _ (facts b) _ (its-mark b)
 
-copied : (c : tie.After-with-copy)
+copied : (c : tie.After-with-mark)
     → let b = c .before .before .before .before .before .before .before in
-    c .with-copy .result ≡ withCopy (b .before .before .before .before .before .before .before .before .before .args .self) (b .x .given .0 .0 .0)
-copied c = c .with-copy .ensures ∙ copied-at _ _ _ (from-old (c .before .before .before .before .before .before .before))
+    c .with-mark .result ≡ withCopy (b .before .before .before .before .before .before .before .before .before .args .self) (b .x .given .0 .0 .0)
+copied c = c .with-mark .ensures ∙ copied-at _ _ _ (its-mark (c .before .before .before .before .before .before .before))
 
 tell-requires-2 : tie.Need-tell-requires-2
 tell-requires-2 c κs =
@@ -129,8 +133,8 @@ returns-3 c =
     let e = c .before .before .before .before .before .before .before .before .before .before .before .before .before .advance-refusal .ensures in
     let h = c .before .before .before .before .before .before .before .before .before .before .before .before .if1 .left in
     let d = is-next (c .before .before .before .before .before .before .before .before) in (
-      accepted-reply _ v [] _ _ e h _ (copies-told v _ _ _ d _ _ (copied (c .before)) _ (c .tell2 .ensures)),
-      accepted-stores _ v [] _ _ e h _ _ _ (copies-stored v _ _ _ d _ _ _ _ (c .before .before .before .before .store-copy .ensures)),
+      accepted-reply _ v [] _ _ e h _ (copies-told v _ _ _ _ d _ _ (copied (c .before)) _ (c .tell2 .ensures)),
+      accepted-stores _ v [] _ _ e h _ _ _ (copies-stored v _ _ _ _ d _ _ _ _ (c .before .before .before .before .store-copy .ensures)),
     )
 
 pub advance-spec : {M : Type 1} → statement M
@@ -150,7 +154,7 @@ advance-spec =
     same-length
     returns-2
     store-copy-requires
-    with-copy-requires
+    with-mark-requires
     tell-requires-2
     same-length-2
     returns-3)

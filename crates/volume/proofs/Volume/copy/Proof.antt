@@ -4,7 +4,7 @@ use mathlib.Core.List.{[]}
 use lib.ListN.{length}
 use borrow.Author.Needs.{needs}
 use Rattle.base.specs.Refusals.{refusal}
-use Rattle.layout.specs.Windows.{oldSpot}
+use Rattle.layout.specs.Windows.{oldSpot, markOf}
 use Rattle.medium.specs.Medium.{observe}
 use Rattle.volume.specs.Calls.{reporting, copyTable, copyOutcome}
 use Rattle.volume.specs.States.{historyOf, withCopy}
@@ -24,7 +24,7 @@ refuse-requires c κs = search needs
 -- the number that was found
 judged : (c : tie.After-copy-spot)
     → let a = c .before .before .before .before .args in c .copy-spot .result .refusal ≡ refusal (copyTable (a .self) (a .x .0) (length (a .medium .now)))
-judged c = refusal-found _ _ _ (c .copy-spot .ensures)
+judged c = refusal-found _ _ _ _ (c .copy-spot .ensures)
 
 returns : tie.Need-returns
 unfolding copyOutcome observe
@@ -40,7 +40,12 @@ accepted c = copy-accepted _ _ _ (sym (judged (c .before .before)) ∙ c .if1 .l
 -- and the old spot
 from-old : (c : tie.Else1)
     → let a = c .before .before .before .before .before .before .args in c .before .before .copy-spot .result .spot ≡ oldSpot (a .self .rows) (historyOf (a .self)) (a .x .0)
-from-old c = spot-found _ _ _ (c .before .before .copy-spot .ensures) (c .if1 .left)
+from-old c = spot-found _ _ _ _ (c .before .before .copy-spot .ensures) (c .if1 .left) .0
+
+-- and the mark
+its-mark : (c : tie.Else1)
+    → let a = c .before .before .before .before .before .before .args in c .before .before .copy-spot .result .mark ≡ markOf (a .self .rows) (historyOf (a .self)) (a .x .0)
+its-mark c = spot-found _ _ _ _ (c .before .before .copy-spot .ensures) (c .if1 .left) .1
 
 store-copy-requires : tie.Need-store-copy-requires
 store-copy-requires c κs =
@@ -49,15 +54,14 @@ store-copy-requires c κs =
     let a = f .advances in
     ((a .is-sound, a .is-growing), (refl, (a .room, ((f .moves, f .not-copied), from-old b))))
 
-with-copy-requires : tie.Need-with-copy-requires
-with-copy-requires c κs =
+with-mark-requires : tie.Need-with-mark-requires
+with-mark-requires c κs =
     let b = c .before .before .before .before .before .before in
-    let a = accepted b .advances in
-    ((a .is-sound, a .is-growing), copied-asks _ _ _ (accepted b) _ (from-old b))
+    copied-asks _ _ _ (accepted b) _ (its-mark b)
 
-copied : (c : tie.After-with-copy)
-    → let a = c .before .before .before .before .before .before .before .before .before .before .before .before .before .args in c .with-copy .result ≡ withCopy (a .self) (a .x .0)
-copied c = c .with-copy .ensures ∙ copied-at _ _ _ (from-old (c .before .before .before .before .before .before .before))
+copied : (c : tie.After-with-mark)
+    → let a = c .before .before .before .before .before .before .before .before .before .before .before .before .before .args in c .with-mark .result ≡ withCopy (a .self) (a .x .0)
+copied c = c .with-mark .ensures ∙ copied-at _ _ _ (its-mark (c .before .before .before .before .before .before .before))
 
 report-requires : tie.Need-report-requires
 report-requires c κs =
@@ -87,7 +91,7 @@ copy-spec =
     refuse-requires
     returns
     store-copy-requires
-    with-copy-requires
+    with-mark-requires
     report-requires
     same-length
     returns-2)

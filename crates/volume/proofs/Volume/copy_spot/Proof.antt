@@ -1,7 +1,7 @@
 -- `copy_spot` meets its contract. Assumes nothing.
 use Prim.Native.Nat.{_-_, _<_}
 use mathlib.Core.Path.{_≡_, sym, _∙_}
-use mathlib.Core.Bool.{Bool, cond}
+use mathlib.Core.Bool.{Bool, true, cond}
 use native.Mathlib.Omega.{arith}
 use borrow.Author.Needs.{needs}
 use borrow.Author.Tests.{not-true, not-false}
@@ -9,12 +9,14 @@ use Rattle.base.specs.Refusals.{refusal}
 use Rattle.layout.specs.History.{history, newestGrowth, spotOf}
 use Rattle.layout.specs.Tally.{openBlocks}
 use Rattle.layout.specs.Windows.{movingIn}
+use Rattle.marks.specs.Marks.{movesAt}
+use Rattle.marks.proofs.BlocksCode.{mark-fits}
 use Rattle.volume.specs.Calls.{copyTable}
 use Rattle.volume.specs.States.{tallyOf}
 use Rattle.volume.proofs.Accepted.{AdvanceFacts, advance-accepted}
 use Rattle.volume.proofs.GrowthCode.{copy-refused, copy-not-open, copy-not-moving, copy-left}
 use Rattle.volume.proofs.Judged.{found-refused, found-there}
-use Rattle.volume.proofs.LiveCode.{countsNow, has-growth, asks-before, newest-asked, spot-is-old, spot-asks, moves-read, marked-read}
+use Rattle.volume.proofs.LiveCode.{countsNow, has-growth, asks-before, newest-asked, spot-is-old, spot-asks, moves-read, mark-asks, mark-read, mark-set-read}
 use Rattle.volume.proofs.Volume.copy_spot.Statement.{statement}
 use Rattle.volume.proofs.Volume.copy_spot.Tie as tie
 
@@ -22,7 +24,7 @@ advance-refusal-requires : tie.Need-advance-refusal-requires
 advance-refusal-requires c κs = search needs
 
 returns : tie.Need-returns
-returns c = found-refused _ _ _ (copy-refused _ _ _ (c .before .advance-refusal .ensures) (c .if1 .taken) _) (c .if1 .taken)
+returns c = found-refused _ _ _ _ (copy-refused _ _ _ (c .before .advance-refusal .ensures) (c .if1 .taken) _) (c .if1 .taken)
 
 advances : (c : tie.Else1) → AdvanceFacts (c .before .before .args .self) (c .before .before .args .len)
 advances c = advance-accepted _ _ (sym (c .before .advance-refusal .ensures) ∙ c .if1 .left)
@@ -33,7 +35,7 @@ open-blocks-by-requires c κs = (advances c .is-sound, c .before .before .pre)
 returns-2 : tie.Need-returns-2
 returns-2 c =
     let b = c .before .before .before in
-    found-refused _ _ _ (copy-not-open _ _ _ (b .before .advance-refusal .ensures) (b .if1 .left) _ (rw (c .before .before .open-blocks-by .ensures) at (c .if2 .taken)))
+    found-refused _ _ _ _ (copy-not-open _ _ _ (b .before .advance-refusal .ensures) (b .if1 .left) _ (rw (c .before .before .open-blocks-by .ensures) at (c .if2 .taken)))
     (λ e. absurd (omega arith))
 
 block-open : (c : tie.Else2) → c .before .before .before .before .before .args .x .0 < openBlocks (tallyOf (c .before .before .before .before .before .args .self))
@@ -81,34 +83,48 @@ returns-3 : tie.Need-returns-3
 returns-3 c =
     let b = c .before .before .before .before in
     let d = b .before .before .before in
-    found-refused _ _ _ (copy-not-moving _ _ _ (d .before .advance-refusal .ensures) (d .if1 .left) _ (block-open b) _ (moves-told (c .before)) (not-true _ (c .if3 .taken)))
+    found-refused _ _ _ _ (copy-not-moving _ _ _ (d .before .advance-refusal .ensures) (d .if1 .left) _ (block-open b) _ (moves-told (c .before)) (not-true _ (c .if3 .taken)))
     (λ e. absurd (omega arith))
 
-is-marked-requires : tie.Need-is-marked-requires
-is-marked-requires c κs =
+-- it is one, and so it has a mark
+moves : (c : tie.Else3)
+    → let n = c .before .before in
+    movesAt (n .newest-growth .result .old) (n .newest-growth .result .added) (n .before .before .before .before .before .before .before .args .self .window) (n .before .spot-of .result) ≡ true
+moves c = sym (c .before .moves-now .ensures) ∙ not-false _ (c .if3 .left)
+
+mark-of-spot-requires : tie.Need-mark-of-spot-requires
+mark-of-spot-requires c κs =
     let n = c .before .before in
     let a = advances (n .before .before .before .before .before) in
-    spot-asks _ (a .is-growing) (a .is-sound) _ (growth-told n) _ (block-open (n .before .before)) _ (spot-told (n .before))
+    mark-asks _ (a .is-growing) (a .is-sound) _ (growth-told n) _ (block-open (n .before .before)) _ (spot-told (n .before)) (moves c)
 
-last-test : (c : tie.After-is-marked) (copied : Bool) → copied ≡ c .is-marked .result
-    → let a = c .before .before .before .before .before .before .before .before .before .before .args in cond copied 11 0 ≡ refusal (copyTable (a .self) (a .x .0) (a .len))
-last-test c copied t =
+has-mark-requires : tie.Need-has-mark-requires
+has-mark-requires c κs =
     let n = c .before .before .before in
+    let a = advances (n .before .before .before .before .before) in
+    let m = mark-asks _ (a .is-growing) (a .is-sound) _ (growth-told n) _ (block-open (n .before .before)) _ (spot-told (n .before)) (moves (c .before)) in
+    rw (c .mark-of-spot .ensures) (mark-fits _ _ _ (m .0) (m .1))
+
+last-test : (c : tie.After-has-mark) (copied : Bool) → copied ≡ c .has-mark .result
+    → let a = c .before .before .before .before .before .before .before .before .before .before .before .args in cond copied 11 0 ≡ refusal (copyTable (a .self) (a .x .0) (a .len))
+last-test c copied t =
+    let n = c .before .before .before .before in
     let b = n .before .before in
     let d = b .before .before .before in
     let a = advances d in
-    let m = marked-read _ (a .is-growing) (a .is-sound) _ (growth-told n) _ (block-open b) _ (spot-told (n .before)) _ in
-    copy-left _ _ _ (d .before .advance-refusal .ensures) (d .if1 .left) _ (block-open b) _ (moves-told (c .before .before)) (not-false _ (c .before .if3 .left)) copied
-    (t ∙ c .is-marked .ensures ∙ m)
+    let m = mark-set-read _ (a .is-growing) (a .is-sound) _ (growth-told n) _ (block-open b) _ (spot-told (n .before)) _ (c .before .mark-of-spot .ensures) (moves (c .before .before)) _ _ (c .has-mark .ensures) in
+    copy-left _ _ _ (d .before .advance-refusal .ensures) (d .if1 .left) _ (block-open b) _ (moves-told (c .before .before .before)) (not-false _ (c .before .before .if3 .left)) copied
+    (t ∙ m)
 
 returns-4 : tie.Need-returns-4
-returns-4 c = found-refused _ _ _ (last-test (c .before) _ (sym (c .if4 .taken))) (λ e. absurd (omega arith))
+returns-4 c = found-refused _ _ _ _ (last-test (c .before) _ (sym (c .if4 .taken))) (λ e. absurd (omega arith))
 
 returns-5 : tie.Need-returns-5
 returns-5 c =
-    let s = c .before .before .before .before .before in
-    let a = advances (s .before .before .before .before) in
-    found-there _ _ _ (last-test (c .before) _ (sym (c .if4 .left))) (spot-is-old _ (a .is-growing) (a .is-sound) _ _ (spot-told s))
+    let n = c .before .before .before .before .before in
+    let a = advances (n .before .before .before .before .before) in
+    found-there _ _ _ _ _ (last-test (c .before) _ (sym (c .if4 .left))) (spot-is-old _ (a .is-growing) (a .is-sound) _ _ (spot-told (n .before)))
+    (mark-read _ (a .is-growing) (a .is-sound) _ (growth-told n) _ (block-open (n .before .before)) _ (spot-told (n .before)) _ (c .before .before .mark-of-spot .ensures))
 
 pub copy-spot-spec : {M : Type 1} → statement M
 copy-spot-spec =
@@ -123,6 +139,7 @@ copy-spot-spec =
     newest-growth-requires
     moves-now-requires
     returns-3
-    is-marked-requires
+    mark-of-spot-requires
+    has-mark-requires
     returns-4
     returns-5)

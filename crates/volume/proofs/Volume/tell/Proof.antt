@@ -1,13 +1,13 @@
 -- `tell` meets its contract. Assumes nothing.
-use borrow.Author.Needs.{needs}
+use Rattle.volume.proofs.LiveCode.{calls-asks, calls-told}
 use Rattle.volume.proofs.Volume.tell.Statement.{statement}
 use Rattle.volume.proofs.Volume.tell.Tie as tie
 
 calls-left-requires : tie.Need-calls-left-requires
-calls-left-requires c κs = search needs
+calls-left-requires c κs = calls-asks _ (c .before .before .pre)
 
 returns : tie.Need-returns
-returns c = rw (c .calls-left .ensures)
+returns c = rw (calls-told (c .before .before .before .args .self) _ (c .calls-left .ensures))
 
 pub tell-spec : {M : Type 1} → statement M
 tell-spec = tie.close (tie.spec calls-left-requires returns)

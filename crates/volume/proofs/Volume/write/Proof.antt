@@ -23,7 +23,7 @@ refuse-requires c κs = search needs
 judged : (c : tie.After-write-spot)
     → let a = c .before .before .before .args in
     c .write-spot .result .refusal ≡ refusal (writeTable (a .self) (a .x .0) (length (a .piece .now)) (length (a .medium .now)))
-judged c = refusal-found _ _ _ (c .write-spot .ensures)
+judged c = refusal-found _ _ _ _ (c .write-spot .ensures)
 
 returns : tie.Need-returns
 unfolding writeOutcome observe
@@ -40,7 +40,7 @@ accepted c = write-accepted _ _ _ _ (sym (judged (c .before .before)) ∙ c .if1
 -- and the live spot
 lives : (c : tie.Else1)
     → let a = c .before .before .before .before .before .args in c .before .before .write-spot .result .spot ≡ liveSpotOf (tallyOf (a .self)) (a .x .0)
-lives c = spot-found _ _ _ (c .before .before .write-spot .ensures) (c .if1 .left)
+lives c = spot-found _ _ _ _ (c .before .before .write-spot .ensures) (c .if1 .left) .0
 
 geometry-requires : tie.Need-geometry-requires
 geometry-requires c κs = search needs

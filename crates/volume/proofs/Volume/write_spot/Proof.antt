@@ -1,5 +1,5 @@
 -- `write_spot` meets its contract. Assumes nothing.
-use mathlib.Core.Path.{_≡_, sym, _∙_}
+use mathlib.Core.Path.{_≡_, refl, sym, _∙_}
 use mathlib.Core.Bool.{false}
 use mathlib.Core.Logic.{inl, inr}
 use native.Mathlib.Omega.{arith}
@@ -18,7 +18,7 @@ read-refusal-requires : tie.Need-read-refusal-requires
 read-refusal-requires c κs = search needs
 
 returns : tie.Need-returns
-returns c = found-refused _ _ _ (sym (refused-as-read _ _ _ _ _ (c .before .read-refusal .ensures) (c .if1 .taken))) (c .if1 .taken)
+returns c = found-refused _ _ _ _ (sym (refused-as-read _ _ _ _ _ (c .before .read-refusal .ensures) (c .if1 .taken))) (c .if1 .taken)
 
 accepted : (c : tie.Else1) → let a = c .before .before .before .before .args in ReadFacts (a .self) (a .x .0) (a .piece) (a .len)
 accepted c = read-accepted _ _ _ _ (sym (c .before .read-refusal .ensures) ∙ c .if1 .left)
@@ -57,7 +57,7 @@ returns-2 c =
     let a = accepted r in
     let w = waiting-read _ (b .if2 .taken) (a .is-sound) _ (n .newest-growth .ensures) _ (a .block-open) _ (was-at b) _ (c .before .is-waiting .ensures) in
     let e = refused-waiting _ _ _ _ _ (r .before .read-refusal .ensures) (r .if1 .left) in
-    found-refused _ _ _ (sym (e ∙ simp (← w, c .if3 .taken))) (λ z. absurd (omega arith))
+    found-refused _ _ _ _ (sym (e ∙ simp (← w, c .if3 .taken))) (λ z. absurd (omega arith))
 
 -- ---- the live spot
 
@@ -86,8 +86,8 @@ returns-3 c =
     let r = b .before .before in
     let a = accepted r in
     let e = refused-waiting _ _ _ _ _ (r .before .read-refusal .ensures) (r .if1 .left) in
-    found-there _ _ _ (sym (e ∙ simp (not-waiting j)))
-    (live-told _ (a .is-sound) _ (a .block-open) _ (b .spot-of .ensures) _ (c .live-spot .ensures))
+    found-there _ _ _ _ _ (sym (e ∙ simp (not-waiting j)))
+    (live-told _ (a .is-sound) _ (a .block-open) _ (b .spot-of .ensures) _ (c .live-spot .ensures)) refl
 
 pub write-spot-spec : {M : Type 1} → statement M
 write-spot-spec =
