@@ -1,4 +1,5 @@
 -- `growth_calls` meets its contract. Assumes nothing.
+use mathlib.Core.Logic.{inr}
 use native.Mathlib.Omega.{arith}
 use borrow.Author.Needs.{needs}
 use Rattle.parts.proofs.windows.growth_calls.Statement.{statement}
@@ -14,7 +15,7 @@ calls-left-requires : tie.Need-calls-left-requires
 calls-left-requires c κs =
     let known = c .before .before .growth-windows .ensures in
     let k = known .0 (omega arith) in
-    (k .1, (k .0, omega (arith, known .1)))
+    (k .1, inr (k .0, omega (arith, known .1)))
 
 returns-2 : tie.Need-returns-2
 returns-2 c = search needs
