@@ -1,6 +1,6 @@
-//! The aims, and whether this run meets them.
+//! The aims for times, and whether this run meets them. Those for instructions stand in `counted.rs`.
 
-use crate::cases::{CACHED, GROWN, LARGE, MOVING, OLD_BLOCKS};
+use crate::cases::{CACHED, LARGE};
 use crate::row::Line;
 use crate::table::grouped;
 
@@ -12,10 +12,7 @@ const NO_GROWTH: f64 = 1.5;
 const PICTURE: u64 = 4096 * 2160 * 4;
 
 pub fn print(lines: &[Line]) {
-    transfer(lines, 65_536, 0.9);
-    transfer(lines, 4096, 0.6);
-    address(lines);
-    advance(lines);
+    transfer(lines, 65_536, 0.95);
     growth(lines);
     pictures(lines);
 }
@@ -52,33 +49,6 @@ fn transfer(lines: &[Line], z: u64, least: f64) {
         grouped(z)
     );
     verdict(&aim, met, &figures);
-}
-
-fn address(lines: &[Line]) {
-    let (mut met, mut figures) = (true, Vec::new());
-    for case in [GROWN, OLD_BLOCKS] {
-        for line in of(lines, "address", case) {
-            let time = line.library();
-            let ratio = time / line.reference().expect("a reference");
-            met &= ratio <= 1.3 && time < 240.0;
-            figures.push(format!("{case}: {ratio:.2} times, {time:.0} ns"));
-        }
-    }
-    let aim = "address at t = 7 at most 1.3 times the reference and under 240 ns";
-    verdict(aim, met, &figures);
-}
-
-fn advance(lines: &[Line]) {
-    for line in of(lines, "advance", MOVING) {
-        let (time, memcpy) = (line.library(), line.memcpy().expect("a memcpy"));
-        let most = 1.3 * memcpy + 400.0;
-        let aim = format!(
-            "advance at Z = {} at most 1.3 times memcpy plus 400 ns",
-            grouped(line.label.z)
-        );
-        let figures = [format!("{time:.0} of {most:.0} ns")];
-        verdict(&aim, time <= most, &figures);
-    }
 }
 
 /// The rows that compare values of s come in the order of s.

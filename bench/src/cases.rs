@@ -9,6 +9,7 @@ pub const OLD_BLOCKS: &str = "t = 7, old blocks";
 pub const ADDED: &str = "t = 7, added blocks";
 pub const NOT_ADDED: &str = "t = 7, not added";
 pub const GROWING: &str = "growing";
+pub const LAST_WINDOW: &str = "growing, last window";
 pub const CACHED: &str = "t = 7, cached";
 pub const LARGE: &str = "t = 7, large";
 pub const MOVING: &str = "growing, large";
@@ -51,8 +52,12 @@ pub fn compared(label: Label) -> Label {
 
 /// Half way through the last growth, with half the marks of the window recorded.
 pub fn half_grown(s: u64) -> Words {
-    let windows = s.div_ceil(16);
-    let mut words = volume::growing(512, s, &COUNTS, windows / 2);
+    in_window(s, s.div_ceil(16) / 2)
+}
+
+/// In window w of the last growth, with half the marks of a whole window recorded.
+pub fn in_window(s: u64, w: u64) -> Words {
+    let mut words = volume::growing(512, s, &COUNTS, w);
     let (m, n) = volume::growth(&words);
     let marks = volume::marks(m * n / 2);
     (words[volume::RECORDED], words[volume::COPIED]) = (marks, marks);

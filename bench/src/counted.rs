@@ -48,6 +48,8 @@ pub fn all() -> Vec<Counted> {
 fn lookups() -> Vec<Counted> {
     let (s, calls) = (LOOKUP_ROWS, SLICE);
     let (grown, growing) = (volume::grown(512, s, &COUNTS), half_grown(s));
+    // The last window, of half its rows.
+    let ending = in_window(s + 8, s / 16);
     let counted = |row, most| Counted { row, calls, most };
     let sound = |case, words| soundness(lookup_label("soundness", case, s), words, calls);
     let at = |case, words, open| address(lookup_label("address", case, s), words, open, calls);
@@ -55,6 +57,7 @@ fn lookups() -> Vec<Counted> {
     vec![
         counted(sound(GROWN, grown), 1.35),
         counted(sound(GROWING, growing), 1.35),
+        counted(sound(LAST_WINDOW, ending), 1.35),
         counted(at(GROWN, grown, 16 * s), 1.25),
         counted(at(GROWING, growing, 14 * s), 1.15),
         counted(held(GROWN, grown, 16 * s), 1.15),
