@@ -1,11 +1,9 @@
 // The calls that work on a medium.
 ghost use mathlib.Core.Path.{_≡_};
-ghost use mathlib.Core.Bool.{true};
 ghost use Rattle.base.specs.Refusals.{refusal};
-ghost use Rattle.layout.specs.Tally.{liveSpotOf, callsLeftOf};
+ghost use Rattle.layout.specs.Tally.{liveSpotOf};
 ghost use Rattle.medium.specs.Medium.{observe, apply};
 ghost use Rattle.volume.specs.Calls.{foundAt, formatTable, formatOutcome, restartOutcome, sectorOutcome, growTable, growOutcome, writeTable, writeOutcome, readTable, readOutcome};
-ghost use Rattle.volume.specs.Sound.{sound};
 ghost use Rattle.volume.specs.States.{geometry, tallyOf};
 use super::Answer;
 use super::Reply;
@@ -30,21 +28,10 @@ impl Volume {
         }
     }
 
-    // The state with its advance calls left.
-    pub(crate) fn report(self) -> Reply
-        requires { ⌜ sound self ≡ true ⌝ }
-        ensures { λ r. ⌜ r ≡ record { state = self; answer = Answer.CallsLeft (callsLeftOf (tallyOf self)) } ⌝ }
+    // The state with so many advance calls left.
+    pub(crate) fn report(self, left: usize) -> Reply
+        ensures { λ r. ⌜ r ≡ record { state = self; answer = Answer.CallsLeft left } ⌝ }
     {
-        let counts = self.counts;
-        let t = self.growths;
-        let left = marks::calls_left(
-            &counts,
-            t,
-            self.rows,
-            self.growing,
-            self.window,
-            self.copied,
-        );
         Reply {
             state: self,
             answer: Answer::CallsLeft(left),
@@ -104,7 +91,9 @@ impl Volume {
         if !v.is_sound() {
             return Volume::zeros().refuse(13);
         }
-        v.report()
+        let counts = v.counts;
+        let left = marks::calls_left(&counts, v.growths, v.rows, v.growing, v.window, v.copied);
+        v.report(left)
     }
 
     // Takes the state from the record, after a power cut or at any time.
@@ -158,7 +147,9 @@ impl Volume {
         }
         let v = self.grown(count);
         v.store_record(medium);
-        v.report()
+        let counts = v.counts;
+        let left = marks::calls_left(&counts, v.growths, v.rows, v.growing, v.window, v.copied);
+        v.report(left)
     }
 
     pub(crate) fn read_refusal(

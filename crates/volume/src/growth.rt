@@ -5,7 +5,7 @@ ghost use mathlib.Core.Logic.{_≢_};
 ghost use Prim.Native.Nat.{_≤_, _<_};
 ghost use lib.ListN.{length};
 ghost use Rattle.base.specs.Refusals.{refusal};
-ghost use Rattle.layout.specs.Tally.{movesNow, nextBlock, callsLeftOf};
+ghost use Rattle.layout.specs.Tally.{movesNow, nextBlock};
 ghost use Rattle.layout.specs.Windows.{oldSpot, markOf};
 ghost use Rattle.marks.specs.Marks.{markCount, asNextCopy};
 ghost use Rattle.medium.specs.Medium.{bytesNeeded, observe, apply};
@@ -59,21 +59,10 @@ impl Volume {
         self.with_growth(t, counts, self.growing, w + 1, 0, 0)
     }
 
-    // The state with what an advance did and its advance calls left.
-    pub(crate) fn tell(self, did: Advanced) -> Reply
-        requires { ⌜ sound self ≡ true ⌝ }
-        ensures { λ r. ⌜ r ≡ record { state = self; answer = Answer.Told did (callsLeftOf (tallyOf self)) } ⌝ }
+    // The state with what an advance did and so many advance calls left.
+    pub(crate) fn tell(self, did: Advanced, left: usize) -> Reply
+        ensures { λ r. ⌜ r ≡ record { state = self; answer = Answer.Told did left } ⌝ }
     {
-        let counts = self.counts;
-        let t = self.growths;
-        let left = marks::calls_left(
-            &counts,
-            t,
-            self.rows,
-            self.growing,
-            self.window,
-            self.copied,
-        );
         Reply {
             state: self,
             answer: Answer::Told(did, left),
@@ -183,7 +172,8 @@ impl Volume {
         let p = found.spot;
         self.store_copy(&counts, medium, x, p);
         let v = self.with_mark(found.mark);
-        v.report()
+        let left = marks::calls_left(&counts, v.growths, v.rows, v.growing, v.window, v.copied);
+        v.report(left)
     }
 
     pub(crate) fn checkpoint_refusal(self, len: usize) -> usize
@@ -213,7 +203,9 @@ impl Volume {
         }
         let v = self.checkpointed();
         v.store_record(medium);
-        v.report()
+        let counts = v.counts;
+        let left = marks::calls_left(&counts, v.growths, v.rows, v.growing, v.window, v.copied);
+        v.report(left)
     }
 
     // Copies the next block or, when none is left in the window, records the copies.
@@ -229,11 +221,14 @@ impl Volume {
         let NextCopy::CopyOf(x, part, p, j) = self.next_copy(&counts) else {
             let v = self.checkpointed();
             v.store_record(medium);
-            return v.tell(v.checkpoint_told());
+            let next = v.counts;
+            let left = marks::calls_left(&next, v.growths, v.rows, v.growing, v.window, v.copied);
+            return v.tell(v.checkpoint_told(), left);
         };
         self.store_copy(&counts, medium, x, p);
         let v = self.with_mark(j);
-        v.tell(Advanced::Copied(x, part))
+        let left = marks::calls_left(&counts, v.growths, v.rows, v.growing, v.window, v.copied);
+        v.tell(Advanced::Copied(x, part), left)
     }
 
     // The block to copy next.

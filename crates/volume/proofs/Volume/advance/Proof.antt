@@ -3,19 +3,20 @@ use mathlib.Core.Path.{_≡_, refl, sym, _∙_}
 use mathlib.Core.List.{[]}
 use lib.ListN.{length}
 use borrow.Author.Needs.{needs}
-use Rattle.layout.specs.Tally.{nextBlock}
+use Rattle.layout.specs.Tally.{callsLeftOf, nextBlock}
 use Rattle.layout.specs.Windows.{oldSpot, markOf}
 use Rattle.marks.specs.declared.NextCopy.the-variants.{CopyOf, AllCopied}
 use Rattle.marks.specs.Marks.{asNextCopy}
 use Rattle.medium.specs.Medium.{observe}
 use Rattle.volume.specs.Calls.{advanceOutcome}
-use Rattle.volume.specs.States.{historyOf, tallyOf, withCopy}
+use Rattle.volume.specs.States.{historyOf, tallyOf, withGrowth, withCopy}
 use Rattle.volume.proofs.Accepted.{AdvanceFacts, CopyFacts, advance-accepted}
 use Rattle.volume.proofs.ByteBounds.{record-room}
 use Rattle.volume.proofs.CopyLaws.{next-facts}
 use Rattle.volume.proofs.GrowthCode.{next-is, next-spot, next-mark, copied-at, copied-asks, records-told, records-stored, copies-told, copies-stored}
 use Rattle.volume.proofs.Judged.{refused-reply, refused-stores, accepted-reply, accepted-stores}
 use Rattle.volume.proofs.StatesSound.{copied-sound, checkpointed-sound}
+use Rattle.volume.proofs.LiveCode.{calls-asks, calls-told}
 use Rattle.volume.proofs.Volume.advance.Statement.{statement}
 use Rattle.volume.proofs.Volume.advance.Tie as tie
 
@@ -57,13 +58,17 @@ checkpointed-requires c κs = let a = accepted (c .before .before .before .befor
 store-record-requires : tie.Need-store-record-requires
 store-record-requires c κs = record-room _ _ _ (accepted (c .before .before .before .before .before .before) .room)
 
+calls-left-requires : tie.Need-calls-left-requires
+calls-left-requires c κs =
+    let d = c .before .before .before .before .before .before in
+    let a = accepted (d .before .before .before .before .before) in
+    calls-asks (d .checkpointed .result) (rw (d .checkpointed .ensures) (checkpointed-sound _ (a .is-sound) (a .is-growing)))
+
 checkpoint-told-requires : tie.Need-checkpoint-told-requires
 checkpoint-told-requires c κs = search needs
 
 tell-requires : tie.Need-tell-requires
-tell-requires c κs =
-    let a = accepted (c .before .before .before .before .before .before .before .before .before .before) in
-    rw (c .before .before .before .before .before .checkpointed .ensures) (checkpointed-sound _ (a .is-sound) (a .is-growing))
+tell-requires c κs = search needs
 
 same-length : tie.Need-same-length
 same-length c = search needs
@@ -71,13 +76,15 @@ same-length c = search needs
 returns-2 : tie.Need-returns-2
 unfolding advanceOutcome observe
 returns-2 c =
-    let v = c .before .before .before .before .before .before .before .before .before .before .before .before .before .before .before .before .args .self in
-    let e = c .before .before .before .before .before .before .before .before .before .before .before .before .advance-refusal .ensures in
-    let h = c .before .before .before .before .before .before .before .before .before .before .before .if1 .left in
-    let d = all-copied (c .before .before .before .before .before .before .before) in
-    let n = c .before .before .before .before .before .before .checkpointed .ensures in (
-      accepted-reply _ v [] _ _ e h _ (records-told v d _ n _ _ (c .before .checkpoint-told .ensures) _ (c .tell .ensures)),
-      accepted-stores _ v [] _ _ e h _ _ _ (records-stored v d _ n _ _ _ _ (c .before .before .before .before .store-record .ensures)),
+    let v = c .before .before .before .before .before .before .before .before .before .before .before .before .before .before .before .before .before .before .before .args .self in
+    let e = c .before .before .before .before .before .before .before .before .before .before .before .before .before .before .before .advance-refusal .ensures in
+    let h = c .before .before .before .before .before .before .before .before .before .before .before .before .before .before .if1 .left in
+    let d = all-copied (c .before .before .before .before .before .before .before .before .before .before) in
+    let w = c .before .before .before .before .before .before .before .before .before .checkpointed in
+    let n = w .ensures in
+    let t = rw (calls-told (w .result) _ (c .before .before .calls-left .ensures)) at (c .tell .ensures) in (
+      accepted-reply _ v [] _ _ e h _ (records-told v d _ n _ _ (c .before .checkpoint-told .ensures) _ t),
+      accepted-stores _ v [] _ _ e h _ _ _ (records-stored v d _ n _ _ _ _ (c .before .before .before .before .before .before .before .store-record .ensures)),
     )
 
 -- ---- a block is left to copy
@@ -117,11 +124,24 @@ copied : (c : tie.After-with-mark)
     c .with-mark .result ≡ withCopy (b .before .before .before .before .before .before .before .before .before .args .self) (b .x .given .0 .0 .0)
 copied c = c .with-mark .ensures ∙ copied-at _ _ _ (its-mark (c .before .before .before .before .before .before .before))
 
-tell-requires-2 : tie.Need-tell-requires-2
-tell-requires-2 c κs =
-    let f = facts (c .before .before .before .before .before .before .before) in
+calls-left-requires-2 : tie.Need-calls-left-requires-2
+unfolding withCopy withGrowth
+calls-left-requires-2 c κs =
+    let b = c .before .before .before .before .before .before .before .before in
+    let f = facts b in
     let a = f .advances in
-    rw (copied c) (copied-sound _ _ (a .is-sound) (a .is-growing) (f .moves))
+    rw (copied (c .before)) (calls-asks (withCopy (b .before .before .before .before .before .before .before .before .before .args .self) (b .x .given .0 .0 .0)) (copied-sound _ _ (a .is-sound) (a .is-growing) (f .moves)))
+
+-- what is reported
+left-told : (c : tie.After-calls-left2)
+    → let b = c .before .before .before .before .before .before .before .before .before in c .calls-left2 .result ≡ callsLeftOf (tallyOf (withCopy (b .before .before .before .before .before .before .before .before .before .args .self) (b .x .given .0 .0 .0)))
+unfolding withCopy withGrowth
+left-told c =
+    let b = c .before .before .before .before .before .before .before .before .before in
+    calls-told (withCopy (b .before .before .before .before .before .before .before .before .before .args .self) (b .x .given .0 .0 .0)) _ (rw (copied (c .before .before)) at (c .calls-left2 .ensures))
+
+tell-requires-2 : tie.Need-tell-requires-2
+tell-requires-2 c κs = search needs
 
 same-length-2 : tie.Need-same-length-2
 same-length-2 c = search needs
@@ -129,12 +149,12 @@ same-length-2 c = search needs
 returns-3 : tie.Need-returns-3
 unfolding advanceOutcome observe
 returns-3 c =
-    let v = c .before .before .before .before .before .before .before .before .before .before .before .before .before .before .before .before .before .args .self in
-    let e = c .before .before .before .before .before .before .before .before .before .before .before .before .before .advance-refusal .ensures in
-    let h = c .before .before .before .before .before .before .before .before .before .before .before .before .if1 .left in
-    let d = is-next (c .before .before .before .before .before .before .before .before) in (
-      accepted-reply _ v [] _ _ e h _ (copies-told v _ _ _ _ d _ _ (copied (c .before)) _ (c .tell2 .ensures)),
-      accepted-stores _ v [] _ _ e h _ _ _ (copies-stored v _ _ _ _ d _ _ _ _ (c .before .before .before .before .store-copy .ensures)),
+    let v = c .before .before .before .before .before .before .before .before .before .before .before .before .before .before .before .before .before .before .before .args .self in
+    let e = c .before .before .before .before .before .before .before .before .before .before .before .before .before .before .before .advance-refusal .ensures in
+    let h = c .before .before .before .before .before .before .before .before .before .before .before .before .before .before .if1 .left in
+    let d = is-next (c .before .before .before .before .before .before .before .before .before .before) in (
+      accepted-reply _ v [] _ _ e h _ (copies-told v _ _ _ _ d _ _ (copied (c .before .before .before)) _ (rw (left-told (c .before), ← copied (c .before .before .before)) at (c .tell2 .ensures))),
+      accepted-stores _ v [] _ _ e h _ _ _ (copies-stored v _ _ _ _ d _ _ _ _ (c .before .before .before .before .before .before .store-copy .ensures)),
     )
 
 pub advance-spec : {M : Type 1} → statement M
@@ -149,12 +169,14 @@ advance-spec =
     enum-told
     checkpointed-requires
     store-record-requires
+    calls-left-requires
     checkpoint-told-requires
     tell-requires
     same-length
     returns-2
     store-copy-requires
     with-mark-requires
+    calls-left-requires-2
     tell-requires-2
     same-length-2
     returns-3)

@@ -10,6 +10,7 @@ use Rattle.volume.proofs.ByteBounds.{record-room}
 use Rattle.volume.proofs.CallsCode.{record-stored}
 use Rattle.volume.proofs.Judged.{refused-reply, refused-stores, accepted-reply, accepted-stores}
 use Rattle.volume.proofs.StatesSound.{checkpointed-sound}
+use Rattle.volume.proofs.LiveCode.{calls-asks, calls-told}
 use Rattle.volume.proofs.Volume.checkpoint.Statement.{statement}
 use Rattle.volume.proofs.Volume.checkpoint.Tie as tie
 
@@ -36,10 +37,14 @@ checkpointed-requires c κs = (accepted c .is-sound, accepted c .is-growing)
 store-record-requires : tie.Need-store-record-requires
 store-record-requires c κs = record-room _ _ _ (accepted (c .before .before) .room)
 
+calls-left-requires : tie.Need-calls-left-requires
+calls-left-requires c κs =
+    let d = c .before .before .before .before .before .before in
+    let a = accepted (d .before) in
+    calls-asks (d .checkpointed .result) (rw (d .checkpointed .ensures) (checkpointed-sound _ (a .is-sound) (a .is-growing)))
+
 report-requires : tie.Need-report-requires
-report-requires c κs =
-    let a = accepted (c .before .before .before .before .before) in
-    rw (c .before .before .before .before .checkpointed .ensures) (checkpointed-sound _ (a .is-sound) (a .is-growing))
+report-requires c κs = search needs
 
 same-length : tie.Need-same-length
 same-length c = search needs
@@ -47,12 +52,13 @@ same-length c = search needs
 returns-2 : tie.Need-returns-2
 unfolding checkpointOutcome checkpointStore reporting observe
 returns-2 c =
-    let v = c .before .before .before .before .before .before .before .before .before .args .self in
-    let e = c .before .before .before .before .before .before .before .checkpoint-refusal .ensures in
-    let h = c .before .before .before .before .before .before .if1 .left in
-    let n = c .before .before .before .before .before .checkpointed .ensures in (
-      accepted-reply _ v [] _ _ e h _ (rw n at (c .report .ensures)),
-      accepted-stores _ v [] _ _ e h _ _ _ (record-stored _ _ _ _ _ n (c .before .before .before .store-record .ensures)),
+    let v = c .before .before .before .before .before .before .before .before .before .before .before .before .args .self in
+    let e = c .before .before .before .before .before .before .before .before .before .before .checkpoint-refusal .ensures in
+    let h = c .before .before .before .before .before .before .before .before .before .if1 .left in
+    let d = c .before .before .before .before .before .before .before .before .checkpointed in
+    let n = d .ensures in (
+      accepted-reply _ v [] _ _ e h _ (rw (calls-told (d .result) _ (c .before .calls-left .ensures), n) at (c .report .ensures)),
+      accepted-stores _ v [] _ _ e h _ _ _ (record-stored _ _ _ _ _ n (c .before .before .before .before .before .before .store-record .ensures)),
     )
 
 pub checkpoint-spec : {M : Type 1} → statement M
@@ -64,6 +70,7 @@ checkpoint-spec =
     returns
     checkpointed-requires
     store-record-requires
+    calls-left-requires
     report-requires
     same-length
     returns-2)

@@ -4,14 +4,16 @@ use mathlib.Core.List.{[]}
 use lib.ListN.{length}
 use borrow.Author.Needs.{needs}
 use Rattle.base.specs.Refusals.{refusal}
+use Rattle.layout.specs.Tally.{callsLeftOf}
 use Rattle.layout.specs.Windows.{oldSpot, markOf}
 use Rattle.medium.specs.Medium.{observe}
 use Rattle.volume.specs.Calls.{reporting, copyTable, copyOutcome}
-use Rattle.volume.specs.States.{historyOf, withCopy}
+use Rattle.volume.specs.States.{historyOf, tallyOf, withGrowth, withCopy}
 use Rattle.volume.proofs.Accepted.{CopyFacts, copy-accepted}
 use Rattle.volume.proofs.GrowthCode.{copied-at, copied-asks}
 use Rattle.volume.proofs.Judged.{refused-reply, refused-stores, accepted-reply, accepted-stores, refusal-found, spot-found}
 use Rattle.volume.proofs.StatesSound.{copied-sound}
+use Rattle.volume.proofs.LiveCode.{calls-asks, calls-told}
 use Rattle.volume.proofs.Volume.copy.Statement.{statement}
 use Rattle.volume.proofs.Volume.copy.Tie as tie
 
@@ -63,11 +65,22 @@ copied : (c : tie.After-with-mark)
     → let a = c .before .before .before .before .before .before .before .before .before .before .before .before .before .args in c .with-mark .result ≡ withCopy (a .self) (a .x .0)
 copied c = c .with-mark .ensures ∙ copied-at _ _ _ (its-mark (c .before .before .before .before .before .before .before))
 
+calls-left-requires : tie.Need-calls-left-requires
+unfolding withCopy withGrowth
+calls-left-requires c κs =
+    let b = c .before .before .before .before .before .before .before .before in
+    let v = b .before .before .before .before .before .before .args in
+    let a = accepted b .advances in
+    rw (copied (c .before)) (calls-asks (withCopy (v .self) (v .x .0)) (copied-sound _ _ (a .is-sound) (a .is-growing) (accepted b .moves)))
+
+-- what is reported
+left-told : (c : tie.After-calls-left)
+    → let v = c .before .before .before .before .before .before .before .before .before .before .before .before .before .before .before .args in c .calls-left .result ≡ callsLeftOf (tallyOf (withCopy (v .self) (v .x .0)))
+unfolding withCopy withGrowth
+left-told c = let v = c .before .before .before .before .before .before .before .before .before .before .before .before .before .before .before .args in calls-told (withCopy (v .self) (v .x .0)) _ (rw (copied (c .before .before)) at (c .calls-left .ensures))
+
 report-requires : tie.Need-report-requires
-report-requires c κs =
-    let f = accepted (c .before .before .before .before .before .before .before) in
-    let a = f .advances in
-    rw (copied c) (copied-sound _ _ (a .is-sound) (a .is-growing) (f .moves))
+report-requires c κs = search needs
 
 same-length : tie.Need-same-length
 same-length c = search needs
@@ -75,12 +88,12 @@ same-length c = search needs
 returns-2 : tie.Need-returns-2
 unfolding copyOutcome reporting observe
 returns-2 c =
-    let b = c .before .before .before .before .before .before .before .before in
+    let b = c .before .before .before .before .before .before .before .before .before .before in
     let v = b .before .before .before .before .before .before .args .self in
     let e = judged (b .before .before) in
     let h = b .if1 .left in (
-      accepted-reply _ v [] _ _ e h _ (rw (copied (c .before)) at (c .report .ensures)),
-      accepted-stores _ v [] _ _ e h _ _ _ (c .before .before .before .before .store-copy .ensures),
+      accepted-reply _ v [] _ _ e h _ (rw (copied (c .before .before .before), left-told (c .before)) at (c .report .ensures)),
+      accepted-stores _ v [] _ _ e h _ _ _ (c .before .before .before .before .before .before .store-copy .ensures),
     )
 
 pub copy-spec : {M : Type 1} → statement M
@@ -92,6 +105,7 @@ copy-spec =
     returns
     store-copy-requires
     with-mark-requires
+    calls-left-requires
     report-requires
     same-length
     returns-2)

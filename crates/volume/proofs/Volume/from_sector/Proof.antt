@@ -15,6 +15,7 @@ use Rattle.volume.specs.Sound.{sound}
 use Rattle.volume.specs.States.{zeros}
 use Rattle.volume.proofs.SectorCode.{unread, read-back, below-record, record-or-not}
 use Rattle.volume.proofs.Judged.{refused-reply, accepted-reply}
+use Rattle.volume.proofs.LiveCode.{calls-asks, calls-told}
 use Rattle.volume.proofs.Volume.from_sector.Statement.{statement}
 use Rattle.volume.proofs.Volume.from_sector.Tie as tie
 
@@ -92,16 +93,19 @@ returns-3 c =
 state-sound : (c : tie.Else3) → sound (c .before .before .from-record .result) ≡ true
 state-sound c = sym (c .before .is-sound .ensures) ∙ not-false _ (c .if3 .left)
 
+calls-left-requires : tie.Need-calls-left-requires
+calls-left-requires c κs = calls-asks _ (state-sound (c .before .before))
+
 report-requires : tie.Need-report-requires
-report-requires c κs = state-sound c
+report-requires c κs = search needs
 
 returns-4 : tie.Need-returns-4
 unfolding sectorOutcome reporting observe
 returns-4 c =
-    let m = c .before .before .before .before .before .before .before .before .before .before .before .before .args .sector .now in
-    let f = read-back _ true (well-formed (c .before .before .before .before .before .before)) (rw (state (c .before .before .before)) at (state-sound (c .before))) in
-    let e = record-or-not m true (long (c .before .before .before .before .before .before .before .before .before .before)) f in
-    let r = rw (state (c .before .before .before)) at (c .report .ensures) in
+    let m = c .before .before .before .before .before .before .before .before .before .before .before .before .before .before .before .args .sector .now in
+    let f = read-back _ true (well-formed (c .before .before .before .before .before .before .before .before .before)) (rw (state (c .before .before .before .before .before .before)) at (state-sound (c .before .before .before .before))) in
+    let e = record-or-not m true (long (c .before .before .before .before .before .before .before .before .before .before .before .before .before)) f in
+    let r = rw (calls-told (c .before .before .before .before .before .before .from-record .result) _ (c .before .calls-left .ensures), state (c .before .before .before .before .before .before)) at (c .report .ensures) in
     accepted-reply _ zeros [] (reporting (stateRead (take recordBytes m)) noStore) _ e refl _ r
 
 pub from-sector-spec : {M : Type 1} → statement M
@@ -123,5 +127,6 @@ from-sector-spec =
     zeros-requires-3
     refuse-requires-3
     returns-3
+    calls-left-requires
     report-requires
     returns-4)

@@ -11,6 +11,7 @@ use Rattle.volume.proofs.ByteBounds.{record-room}
 use Rattle.volume.proofs.CallsCode.{record-stored}
 use Rattle.volume.proofs.Judged.{refused-reply, refused-stores, accepted-reply, accepted-stores}
 use Rattle.volume.proofs.StatesSound.{grown-sound}
+use Rattle.volume.proofs.LiveCode.{calls-asks, calls-told}
 use Rattle.volume.proofs.Volume.grow.Statement.{statement}
 use Rattle.volume.proofs.Volume.grow.Tie as tie
 
@@ -38,8 +39,13 @@ grown-requires c κs = grow-accepted _ _ _ (clear c) .one-more
 store-record-requires : tie.Need-store-record-requires
 store-record-requires c κs = record-room _ _ _ (grow-accepted _ _ _ (clear (c .before .before)) .room)
 
+calls-left-requires : tie.Need-calls-left-requires
+calls-left-requires c κs =
+    let g = c .before .before .before .before .before .before in
+    calls-asks (g .grown .result) (rw (g .grown .ensures) (grown-sound _ _ _ (clear (g .before))))
+
 report-requires : tie.Need-report-requires
-report-requires c κs = rw (c .before .before .before .before .grown .ensures) (grown-sound _ _ _ (clear (c .before .before .before .before .before)))
+report-requires c κs = search needs
 
 same-length : tie.Need-same-length
 same-length c = search needs
@@ -47,12 +53,13 @@ same-length c = search needs
 returns-2 : tie.Need-returns-2
 unfolding growOutcome reporting observe
 returns-2 c =
-    let v = c .before .before .before .before .before .before .before .before .before .args .self in
-    let e = c .before .before .before .before .before .before .before .grow-refusal .ensures in
-    let h = c .before .before .before .before .before .before .if1 .left in
-    let n = c .before .before .before .before .before .grown .ensures in (
-      accepted-reply _ v [] _ _ e h _ (rw n at (c .report .ensures)),
-      accepted-stores _ v [] _ _ e h _ _ _ (record-stored _ _ _ _ _ n (c .before .before .before .store-record .ensures)),
+    let v = c .before .before .before .before .before .before .before .before .before .before .before .before .args .self in
+    let e = c .before .before .before .before .before .before .before .before .before .before .grow-refusal .ensures in
+    let h = c .before .before .before .before .before .before .before .before .before .if1 .left in
+    let g = c .before .before .before .before .before .before .before .before .grown in
+    let n = g .ensures in (
+      accepted-reply _ v [] _ _ e h _ (rw (calls-told (g .result) _ (c .before .calls-left .ensures), n) at (c .report .ensures)),
+      accepted-stores _ v [] _ _ e h _ _ _ (record-stored _ _ _ _ _ n (c .before .before .before .before .before .before .store-record .ensures)),
     )
 
 pub grow-spec : {M : Type 1} → statement M
@@ -64,6 +71,7 @@ grow-spec =
     returns
     grown-requires
     store-record-requires
+    calls-left-requires
     report-requires
     same-length
     returns-2)
