@@ -8,6 +8,7 @@ pub const GROWN: &str = "t = 7";
 pub const OLD_BLOCKS: &str = "t = 7, old blocks";
 pub const ADDED: &str = "t = 7, added blocks";
 pub const NOT_ADDED: &str = "t = 7, not added";
+pub const BEGUN: &str = "to t = 7";
 pub const GROWING: &str = "growing";
 pub const LAST_WINDOW: &str = "growing, last window";
 pub const CACHED: &str = "t = 7, cached";

@@ -37,7 +37,7 @@ pub fn calls(media: &Media, s: u64) -> Vec<Box<dyn Row>> {
     let model = compared(label("", GROWING, &words));
     rows.extend(recordings(model, &media.sparse, words));
     for (call, case, kind) in [
-        ("grow", "to t = 7", record::Call::Grow),
+        ("grow", BEGUN, record::Call::Grow),
         ("format", FORMATTED, record::Call::Format),
     ] {
         let label = Label {

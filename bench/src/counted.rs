@@ -38,9 +38,11 @@ pub fn all() -> Vec<Counted> {
         transfer("write", Direction::Write, GROWING, 512, 1.15),
         moving("copy", moves::Call::Copy, 1.3),
         moving("advance", moves::Call::Advance, 1.2),
-        recorded("checkpoint", record::Call::Checkpoint, 1.2),
-        recorded("advance that records", record::Call::Advance, 1.2),
-        recorded("restart", record::Call::Restart, 1.0),
+        recorded("checkpoint", GROWING, record::Call::Checkpoint, 1.2),
+        recorded("advance that records", GROWING, record::Call::Advance, 1.2),
+        recorded("restart", GROWING, record::Call::Restart, 1.0),
+        recorded("grow", BEGUN, record::Call::Grow, 1.2),
+        recorded("format", FORMATTED, record::Call::Format, 1.2),
     ]);
     rows
 }
@@ -114,9 +116,9 @@ fn moving(call: &'static str, kind: moves::Call, most: f64) -> Counted {
     }
 }
 
-fn recorded(call: &'static str, kind: record::Call, most: f64) -> Counted {
+fn recorded(call: &'static str, case: &'static str, kind: record::Call, most: f64) -> Counted {
     let (words, medium) = growing();
-    let label = label(call, GROWING, &words);
+    let label = label(call, case, &words);
     Counted {
         row: recording(label, kind, &medium, words, SLICE),
         calls: SLICE,

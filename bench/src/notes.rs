@@ -22,6 +22,6 @@ pub fn print() {
         "Disk counts are {COUNTS:?} for t = 7 and {OLD_COUNTS:?} for old blocks. \
          Added blocks are those of the last growth, not added all others. \
          Growing is the last growth of the first, half way; for calls with a medium, the last of {MOVE_COUNTS:?}. \
-         The reference makes the same checks; it has no fast grow and format.\n"
+         The reference makes the same checks.\n"
     );
 }

@@ -64,14 +64,14 @@ impl Recording {
         }
     }
 
-    /// Not for grow and format, which the fast reference lacks.
     fn reference(&self, windows: &[u64], medium: &mut [u8]) -> u64 {
         let words = &self.words;
         match self.call {
             Call::Checkpoint => checkpoint_reference(words, windows, medium),
             Call::Advance => advance_reference(words, windows, medium),
             Call::Restart => restart_reference(windows.len(), medium),
-            Call::Grow | Call::Format => unreachable!(),
+            Call::Grow => grow_reference(words, windows.len(), medium),
+            Call::Format => format_reference(words, windows.len(), medium),
         }
     }
 
@@ -96,15 +96,14 @@ impl Row for Recording {
             put_record(&self.words, self.windows[0], medium);
         }
         let calls = 0..self.windows.len();
-        match (side, self.call) {
-            (Side::Library, _) => timed(calls, SLICE, |slice| {
+        match side {
+            Side::Library => timed(calls, SLICE, |slice| {
                 self.library(&self.windows[slice], medium)
             }),
-            (Side::Reference, Call::Grow | Call::Format) => None,
-            (Side::Reference, _) => timed(calls, SLICE, |slice| {
+            Side::Reference => timed(calls, SLICE, |slice| {
                 self.reference(&self.windows[slice], medium)
             }),
-            (Side::Memcpy, _) => timed(calls, SLICE, |slice| self.memcpy(slice.len(), medium)),
+            Side::Memcpy => timed(calls, SLICE, |slice| self.memcpy(slice.len(), medium)),
         }
     }
 }
@@ -203,11 +202,35 @@ fn grow_library(words: &Words, calls: usize, medium: &mut [u8]) -> u64 {
     refused
 }
 
+fn grow_reference(words: &Words, calls: usize, medium: &mut [u8]) -> u64 {
+    let t = words[2] as usize;
+    let before = volume::grown(words[0], words[1], &words[3..3 + t]);
+    let before = State::from_words(&before);
+    let mut refused = 0;
+    for _ in 0..calls {
+        let answer = fast::grow(black_box(before), medium, words[3 + t]);
+        black_box(&answer);
+        refused |= answer.is_err() as u64;
+    }
+    refused
+}
+
 fn format_library(words: &Words, calls: usize, medium: &mut [u8]) -> u64 {
     let (mut state, mut refused) = ([0; raw::STATE_WORDS], 0);
     let disks = volume::disks(words);
     for _ in 0..calls {
         refused |= raw::format(&mut state, medium, words[0], words[1], disks);
+    }
+    refused
+}
+
+fn format_reference(words: &Words, calls: usize, medium: &mut [u8]) -> u64 {
+    let disks = volume::disks(words);
+    let mut refused = 0;
+    for _ in 0..calls {
+        let answer = fast::format(medium, words[0], words[1], disks);
+        black_box(&answer);
+        refused |= answer.is_err() as u64;
     }
     refused
 }

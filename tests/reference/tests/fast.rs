@@ -124,6 +124,29 @@ fn growths() {
 }
 
 #[test]
+fn formats_and_grows() {
+    let mut random = Random::new(6);
+    let (mut formatted, mut grown) = (0, 0);
+    for _ in 0..5 * ROUNDS {
+        let state = any_state(&mut random);
+        let mut medium = vec![0; 40_000];
+        random.fill(&mut medium);
+        let mut other = medium.clone();
+        let count = random.odd_number(state.counts[0]);
+        let next = fast::grow(state, &mut medium, count);
+        assert_eq!(next, store::grow(state, &mut other, count));
+        assert_eq!(medium, other);
+        let (z, s) = (random.odd_number(512), random.odd_number(4));
+        let first = fast::format(&mut medium, z, s, count);
+        assert_eq!(first, store::format(&mut other, z, s, count));
+        assert_eq!(medium, other);
+        grown += next.is_ok() as u64;
+        formatted += first.is_ok() as u64;
+    }
+    assert!(formatted > 20 && grown > 20, "{formatted} and {grown}");
+}
+
+#[test]
 fn restarts() {
     let mut random = Random::new(5);
     for _ in 0..10 * ROUNDS {

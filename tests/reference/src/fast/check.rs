@@ -78,6 +78,21 @@ fn limits_hold(state: &State) -> bool {
 }
 
 impl Run {
+    /// The growth that has just begun in a sound state.
+    pub fn begun(state: &State) -> Run {
+        let t = state.t as usize;
+        let m = state.counts[t - 1] as u32;
+        let n = state.counts[t] as u32 - m;
+        let s = state.s as u32;
+        Run {
+            m,
+            n,
+            windows: s.div_ceil(m + n),
+            s,
+            moving: moving(m, n, s.min(m + n)),
+        }
+    }
+
     /// Rows of a whole window.
     pub fn size(&self) -> u32 {
         self.m + self.n

@@ -6,7 +6,7 @@ mod check;
 mod layout;
 mod record;
 
-use crate::limits::RECORD;
+use crate::limits::{self, RECORD};
 use crate::refusal::*;
 use crate::spot::{Block, Part, Place, Row, Spot, Why};
 use crate::state::State;
@@ -46,6 +46,40 @@ pub fn holder(state: &State, disk: u64, row: Row) -> Result<Block, Refusal> {
     }
     let layout = Layout::new(state, state.t as usize - 1);
     Ok(Block(layout.block_at(d0, b) as u64))
+}
+
+pub fn format(medium: &mut [u8], z: u64, s: u64, disks: u64) -> Result<State, Refusal> {
+    if !limits::block_size(z) || !limits::rows(s) || !limits::disks(disks) {
+        return Err(OUTSIDE_LIMITS);
+    }
+    let mut state = State::ZEROS;
+    (state.z, state.s, state.counts[0]) = (z, s, disks);
+    if (medium.len() as u64) < state.bytes(disks) {
+        return Err(MEDIUM_SHORT);
+    }
+    record::write(&state, &mut medium[..RECORD]);
+    Ok(state)
+}
+
+pub fn grow(state: State, medium: &mut [u8], count: u64) -> Result<Next, Refusal> {
+    if examine(&state)?.is_some() {
+        return Err(GROWING);
+    }
+    if state.t == limits::GROWTHS {
+        return Err(NO_GROWTH_LEFT);
+    }
+    if count <= state.disks() || !limits::disks(count) {
+        return Err(OUTSIDE_LIMITS);
+    }
+    if (medium.len() as u64) < state.bytes(count) {
+        return Err(MEDIUM_SHORT);
+    }
+    let mut next = state;
+    next.t += 1;
+    next.counts[next.t as usize] = count;
+    next.growing = 1;
+    record::write(&next, &mut medium[..RECORD]);
+    Ok((next, Run::begun(&next).calls_left(&next)))
 }
 
 pub fn write(state: &State, medium: &mut [u8], x: Block, piece: &[u8]) -> Result<(), Refusal> {
