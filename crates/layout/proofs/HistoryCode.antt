@@ -3,26 +3,27 @@ use Prim.Native.Nat.{ℕ, zero, suc, _+_, _-_, _*_, _/_, _%_, _≤_, _<_}
 use mathlib.Core.Path.{_≡_, refl, sym, _∙_, ap, subst}
 use mathlib.Core.Bool.{true, false}
 use mathlib.Core.List.{List, _∷_}
-use native.Mathlib.Nat.{mul-le-mul}
+use mathlib.Core.Logic.{_⊎_, inl, inr}
+use native.Mathlib.Nat.{mul-le-mul, le-refl}
 use native.Mathlib.Decide.{ℕ-discrete}
 use native.Mathlib.Numerals.{add-one}
 use native.Mathlib.Omega.{arith}
-use lib.Dec.{ltb}
 use lib.ListN.{getD, length}
-use borrow.Author.Tests.{ltb-true, lt-ltb, le-leb, lt-leb}
+use borrow.Author.Tests.{lt-ltb, le-ltb, le-leb, lt-leb}
 use Rattle.layout.specs.declared.Change.{Change}
+use Rattle.layout.specs.declared.Change.the-variants.{Added}
 use Rattle.layout.specs.declared.GrowthDisks.{GrowthDisks}
 use Rattle.layout.specs.declared.Reason.{Reason}
-use Rattle.layout.specs.declared.Reason.the-variants.{SetOut}
+use Rattle.layout.specs.declared.Reason.the-variants.{AddedBy}
 use Rattle.layout.specs.declared.Spot.{Spot}
-use Rattle.layout.specs.Growth.{addedIndex, spotAfter, changeOf, spotBefore, blockAfter}
+use Rattle.layout.specs.Growth.{oldBlockSpot, addedSpot, spotAfter, oldChange, changeOf, addedIndex, spotBefore, blockAfter}
 use Rattle.layout.specs.History.{Within, history, diskCount, earlier, oldCount, addedCount, newestGrowth, rising, spotOf, blockAt}
 use Rattle.layout.specs.Limits.{Limits, Grows, mostDisks, mostGrowths, mostRows}
-use Rattle.layout.specs.Reasons.{reasonAfter, reasonOf}
+use Rattle.layout.specs.Reasons.{reasonAfter, placedReason, reasonOf}
 use Rattle.base.proofs.Booleans.{and-both, clash, by-test}
 use Rattle.layout.proofs.Histories.{rising-up, rising-earlier, rising-some}
 use Rattle.layout.proofs.OneRow.{old-back}
-use Rattle.layout.proofs.OneGrowth.{block-after-added, block-after-old}
+use Rattle.layout.proofs.OneGrowth.{spot-after-old, spot-after-added, block-after-added, block-after-old}
 use Rattle.layout.proofs.Bijection.{bijection}
 use Rattle.layout.proofs.GrowthCode.{old-blocks-most}
 
@@ -142,17 +143,30 @@ not-rising-later k (suc t) l h r =
       | no e ↦ by-test (rising (history (suc t) l)) (λ f. clash (rise-before t l f) (not-rising-later k t l (omega (arith, e)) r)) (λ f. f)
     ]
 
--- ---- the loop from format to now, at its turn k
+-- ---- the growth that placed a block
 
--- Block x is there after k growths; if it is, p is its spot and r its reason.
+-- Block x is there after k growths; it was not there before growth k, which is format for 0.
 abbrev pub There : (s k : ℕ) (l : List ℕ) (x : ℕ) → Type 0
 There s k l x = x < diskCount (history k l) * s
 
-abbrev pub SpotSo : (s k : ℕ) (l : List ℕ) (x : ℕ) (p : Spot) → Type 0
-SpotSo s k l x p = There s k l x → p ≡ spotOf s (history k l) x
+abbrev pub NotBefore : (s k : ℕ) (l : List ℕ) (x : ℕ) → Type 0
+NotBefore s k l x = (k ≡ 0) ⊎ (diskCount (history (k - 1) l) * s ≤ x)
 
-abbrev pub ReasonSo : (s k : ℕ) (l : List ℕ) (x : ℕ) (r : Reason) → Type 0
-ReasonSo s k l x r = There s k l x → r ≡ reasonOf s (history k l) x
+-- with the counts that the code reads
+pub there-counted : (s k : ℕ) (l : List ℕ) (x : ℕ) → x < getD l k 0 * s → There s k l x
+there-counted s k l x h = rw (history-disks k l) h
+
+counted-there : (s k : ℕ) (l : List ℕ) (x : ℕ) → There s k l x → x < getD l k 0 * s
+counted-there s k l x h = rw (history-disks k l) at h
+
+pub not-before-next : (s k : ℕ) (l : List ℕ) (x : ℕ) → getD l k 0 * s ≤ x → NotBefore s (k + 1) l x
+not-before-next s k l x h = let e : k + 1 - 1 ≡ k = omega arith in inr (rw (e, history-disks k l) h)
+
+pub not-before-counted : (s j k : ℕ) (l : List ℕ) (x : ℕ) → k ≡ suc j → NotBefore s k l x → getD l j 0 * s ≤ x
+not-before-counted s j k l x e (inl z) = absurd (omega arith)
+not-before-counted s j k l x e (inr h) = let i : k - 1 ≡ j = omega arith in rw (i, history-disks j l) at h
+
+-- ---- the loops from that growth to now, at their turn k
 
 module _ (s t k : ℕ) (l : List ℕ) (a : Limits s (history t l)) where
   pub first-count : 0 < getD l 0 0
@@ -167,21 +181,35 @@ module _ (s t k : ℕ) (l : List ℕ) (a : Limits s (history t l)) where
   pub turn-grows : k < t → Grows (getD l k 0) (getD l (k + 1) 0 - getD l k 0)
   turn-grows h = rw add-one (grows s k l (next-limits h))
 
-  -- the blocks after this turn do not wrap
-  pub turn-blocks : k < t → getD l (k + 1) 0 * s ≤ 16_000_000
-  turn-blocks h =
-      let d : getD l (k + 1) 0 ≤ mostDisks = rw add-one (count-most s k l (next-limits h)) in
+  -- the blocks after k growths do not wrap
+  pub blocks-most : k ≤ t → getD l k 0 * s ≤ 16_000_000
+  blocks-most h =
+      let d : getD l k 0 ≤ mostDisks = omega (arith, history-disks k l, limits-at s t k l a h .disks-most) in
       mul-le-mul d (a .rows-most)
 
-  pub turn-disk : (x : ℕ) (p : Spot) → k ≤ t → SpotSo s k l x p → x < getD l k 0 * s → p .disk < getD l k 0
-  turn-disk x p h e g =
-      let b = bijection s (history k l) (limits-at s t k l a h .rise) in
-      let w : x < diskCount (history k l) * s = rw (history-disks k l) g in
-      rw (e w) (omega (arith, history-disks k l, b .spot-within x w .disk))
+  module _ (x : ℕ) where
+    -- a block that is not there after k growths came by a later one
+    pub placed-later : There s t l x → k ≤ t → getD l k 0 * s ≤ x → k < t
+    placed-later w h g =
+        elim (ℕ-discrete k t) [
+          | yes e ↦ let v : x < getD l k 0 * s = rw e (counted-there s t l x w) in absurd (omega arith)
+          | no e ↦ omega (arith, e)
+        ]
 
-pub spot-first : (s : ℕ) (l : List ℕ) (x : ℕ) → _≡_ {A = Spot} (record { disk = x % getD l 0 0; row = record { 0 = x / getD l 0 0 } }) (spotOf s (history 0 l) x)
+    pub turn-there : k < t → There s k l x → There s (k + 1) l x
+    turn-there h w =
+        let up : getD l k 0 ≤ getD l (k + 1) 0 = omega (arith, turn-up h) in
+        there-counted s (k + 1) l x (omega (arith, counted-there s k l x w, mul-le-mul up (le-refl s)))
+
+    pub turn-disk : (p : Spot) → k ≤ t → There s k l x → p ≡ spotOf s (history k l) x → p .disk < getD l k 0
+    turn-disk p h w e =
+        let b = bijection s (history k l) (limits-at s t k l a h .rise) in
+        rw e (omega (arith, history-disks k l, b .spot-within x w .disk))
+
+pub spot-first : (s k : ℕ) (l : List ℕ) (x : ℕ) → k ≡ 0
+    → _≡_ {A = Spot} (record { disk = x % getD l 0 0; row = record { 0 = x / getD l 0 0 } }) (spotOf s (history k l) x)
 unfolding history spotOf
-spot-first s l x = refl
+spot-first s k l x e = rw e
 
 spot-suc : (s k : ℕ) (l : List ℕ) (x : ℕ)
     → spotOf s (history (suc k) l) x ≡ spotAfter (getD l k 0) (getD l (suc k) 0 - getD l k 0) s x (spotOf s (history k l) x)
@@ -189,26 +217,23 @@ unfolding history spotOf
 spot-suc s zero l x = refl
 spot-suc s (suc k) l x = refl
 
--- A growth does not look at the old spot and the old reason of a block that it adds.
-spot-same : (m n s x : ℕ) (p q : Spot) → (x < m * s → p ≡ q) → spotAfter m n s x p ≡ spotAfter m n s x q
-unfolding spotAfter
-spot-same m n s x p q e = by-test (ltb x (m * s)) (λ h. rw (e (ltb-true x (m * s) h))) (λ h. rw h)
+pub spot-placed : (s j k : ℕ) (l : List ℕ) (x : ℕ) → k ≡ suc j → getD l j 0 * s ≤ x
+    → addedSpot (getD l j 0) (getD l k 0 - getD l j 0) (x - getD l j 0 * s) ≡ spotOf s (history k l) x
+spot-placed s j k l x e h = rw e (sym (spot-suc s j l x ∙ spot-after-added _ _ s x _ h))
 
-reason-same : (m n s x i : ℕ) (p q : Spot) (r o : Reason) → (x < m * s → p ≡ q) → (x < m * s → r ≡ o)
-    → reasonAfter (changeOf m n s x p) i r ≡ reasonAfter (changeOf m n s x q) i o
-unfolding changeOf reasonAfter
-reason-same m n s x i p q r o e f =
-    by-test (ltb x (m * s)) (λ h. rw (e (ltb-true x (m * s) h), f (ltb-true x (m * s) h))) (λ h. rw h)
-
-pub spot-next : (s k : ℕ) (l : List ℕ) (x : ℕ) (p q : Spot) → SpotSo s k l x p
-    → q ≡ spotAfter (getD l k 0) (getD l (k + 1) 0 - getD l k 0) s x p → q ≡ spotOf s (history (k + 1) l) x
-spot-next s k l x p q e f =
-    rw (add-one k) (rw (add-one k) at f ∙ spot-same _ _ s x p _ (λ h. e (rw (history-disks k l) h)) ∙ sym (spot-suc s k l x))
+pub spot-next : (s k : ℕ) (l : List ℕ) (x : ℕ) (p q : Spot) → There s k l x → p ≡ spotOf s (history k l) x
+    → q ≡ oldBlockSpot (getD l k 0) (getD l (k + 1) 0 - getD l k 0) p → q ≡ spotOf s (history (k + 1) l) x
+spot-next s k l x p q w e f =
+    rw (add-one k) (rw (e, add-one k) at f ∙ sym (spot-suc s k l x ∙ spot-after-old _ _ s x _ (counted-there s k l x w)))
 
 -- and the reason
-pub reason-first : (s : ℕ) (l : List ℕ) (x : ℕ) → SetOut ≡ reasonOf s (history 0 l) x
-unfolding history reasonOf
-reason-first s l x = refl
+change-old : (m n s x : ℕ) (p : Spot) → x < m * s → changeOf m n s x p ≡ oldChange m n p
+unfolding changeOf
+change-old m n s x p h = rw (lt-ltb x (m * s) h)
+
+change-added : (m n s x : ℕ) (p : Spot) → m * s ≤ x → changeOf m n s x p ≡ Added
+unfolding changeOf
+change-added m n s x p h = rw (le-ltb x (m * s) h)
 
 reason-suc : (s k : ℕ) (l : List ℕ) (x : ℕ) → reasonOf s (history (suc k) l) x
     ≡ reasonAfter (changeOf (getD l k 0) (getD l (suc k) 0 - getD l k 0) s x (spotOf s (history k l) x)) (suc k) (reasonOf s (history k l) x)
@@ -216,17 +241,23 @@ unfolding history reasonOf
 reason-suc s zero l x = refl
 reason-suc s (suc k) l x = rw (history-length k l)
 
-pub reason-next : (s k : ℕ) (l : List ℕ) (x : ℕ) (p : Spot) (c : Change) (r q : Reason) → SpotSo s k l x p → ReasonSo s k l x r
-    → c ≡ changeOf (getD l k 0) (getD l (k + 1) 0 - getD l k 0) s x p → q ≡ reasonAfter c (k + 1) r → q ≡ reasonOf s (history (k + 1) l) x
-reason-next s k l x p c r q e f g o =
-    rw (add-one k)
-    (rw (g, add-one k) at o
-    ∙ reason-same _ _ s x (suc k) p _ r _ (λ h. e (rw (history-disks k l) h)) (λ h. f (rw (history-disks k l) h))
-    ∙ sym (reason-suc s k l x))
+pub placed-added : (k : ℕ) → 0 < k → AddedBy k ≡ placedReason k
+unfolding placedReason
+placed-added zero h = absurd (omega arith)
+placed-added (suc k) h = refl
 
--- before the growth that adds it a block is not there
-pub turn-left : {X : Type 0} (s k : ℕ) (l : List ℕ) (x : ℕ) → getD l (k + 1) 0 * s ≤ x → There s (k + 1) l x → X
-turn-left s k l x h w = let v : x < getD l (k + 1) 0 * s = rw (history-disks (k + 1) l) at w in absurd (omega arith)
+pub reason-placed : (s k : ℕ) (l : List ℕ) (x : ℕ) → NotBefore s k l x → placedReason k ≡ reasonOf s (history k l) x
+unfolding placedReason reasonAfter history reasonOf
+reason-placed s zero l x h = refl
+reason-placed s (suc j) l x h =
+    sym (rw (reason-suc s j l x, change-added (getD l j 0) (getD l (suc j) 0 - getD l j 0) s x (spotOf s (history j l) x) (not-before-counted s j (suc j) l x refl h)))
+
+pub reason-next : (s k : ℕ) (l : List ℕ) (x : ℕ) (p : Spot) (c : Change) (r q : Reason) → There s k l x → p ≡ spotOf s (history k l) x
+    → r ≡ reasonOf s (history k l) x → c ≡ oldChange (getD l k 0) (getD l (k + 1) 0 - getD l k 0) p → q ≡ reasonAfter c (k + 1) r
+    → q ≡ reasonOf s (history (k + 1) l) x
+reason-next s k l x p c r q w e f g o =
+    let old = change-old (getD l k 0) (getD l (suc k) 0 - getD l k 0) s x (spotOf s (history k l) x) (counted-there s k l x w) in
+    rw (add-one k) (rw (g, e, f, add-one k, ← old) at o ∙ sym (reason-suc s k l x))
 
 -- ---- the loop back from now to format, at its turn k = j + 1
 

@@ -64,9 +64,13 @@ addedSpot m n y = record { disk = addedDisk m n (y / n) (y % n); row = record { 
 unfoldable pub spotAfter : (m n s x : ℕ) (p : Spot) → Spot
 spotAfter m n s x p = cond (ltb x (m * s)) (oldBlockSpot m n p) (addedSpot m n (x - m * s))
 
+-- what the growth does with an old block that was at p
+abbrev pub oldChange : (m n : ℕ) (p : Spot) → Change
+oldChange m n p = cond (movesFrom m n p) (Moved (partOf m n (rowInWindow m n (p .row)))) Stays
+
 -- what the growth does with block x, which was at p if it is an old one
 unfoldable pub changeOf : (m n s x : ℕ) (p : Spot) → Change
-changeOf m n s x p = cond (ltb x (m * s)) (cond (movesFrom m n p) (Moved (partOf m n (rowInWindow m n (p .row)))) Stays) Added
+changeOf m n s x p = cond (ltb x (m * s)) (oldChange m n p) Added
 
 -- ---- the way back, taken from the rules above
 

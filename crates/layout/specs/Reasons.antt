@@ -1,6 +1,6 @@
 -- Document 01, "Looking up spots": why a block is at its spot, "set out at format or added, by the last growth that placed it, or
 -- moved there, as head, body or tail, by the last growth that moved it". Assumes nothing.
-use Prim.Native.Nat.{ℕ, suc, _-_}
+use Prim.Native.Nat.{ℕ, zero, suc, _-_}
 use mathlib.Core.List.{List, [], _∷_}
 use lib.ListN.{length, drop}
 use Rattle.layout.specs.declared.Address.{Address}
@@ -16,6 +16,11 @@ unfoldable pub reasonAfter : (change : Change) (k : ℕ) (before : Reason) → R
 reasonAfter (Moved part) k before = MovedBy k part
 reasonAfter Added k before = AddedBy k
 reasonAfter Stays k before = before
+
+-- the reason of a block after growth k, which added it, or after format for 0
+unfoldable pub placedReason : (k : ℕ) → Reason
+placedReason zero = SetOut
+placedReason (suc k) = AddedBy (suc k)
 
 -- The reason of block x. "Growths are told by number, 1 to t": the newest one's number is how many counts are before its own.
 unfoldable pub reasonOf : (s : ℕ) (h : List ℕ) (x : ℕ) → Reason

@@ -2,7 +2,7 @@
 ghost use mathlib.Core.Path.{_≡_};
 ghost use Prim.Native.Nat.{_+_, _*_, _%_, _<_, _≤_};
 ghost use Rattle.layout.specs.Limits.{Grows, mostRows};
-ghost use Rattle.layout.specs.Growth.{firstFit, partOf, newDisk, diskAfter, movesFrom, addedDisk, spotAfter, changeOf, addedIndex, oldDisk, spotBefore};
+ghost use Rattle.layout.specs.Growth.{firstFit, partOf, newDisk, diskAfter, movesFrom, oldBlockSpot, addedDisk, addedSpot, spotAfter, oldChange, changeOf, addedIndex, oldDisk, spotBefore};
 use super::Change;
 use super::Part;
 use super::Row;
@@ -77,6 +77,17 @@ pub fn disk_after(m: usize, n: usize, p: Spot) -> usize
     d0
 }
 
+// The spot after the growth of the old block at p.
+pub fn old_block_spot(m: usize, n: usize, p: Spot) -> Spot
+    requires { ⌜ Grows m n ⌝ }
+    requires { ⌜ p .disk < m ⌝ }
+    ensures { λ r. ⌜ r ≡ oldBlockSpot m n p ⌝ }
+{
+    let row = p.row;
+    let disk = disk_after(m, n, p);
+    Spot { disk, row }
+}
+
 // The remainder of a by k, where a is less than two k: no division.
 fn reduce_once(a: usize, k: usize) -> usize
     requires { ⌜ a < k + k ⌝ }
@@ -99,6 +110,16 @@ pub fn added_disk(m: usize, n: usize, b: usize, q: usize) -> usize
     reduce_once(first + q, k)
 }
 
+// The spot of block y of those that the growth adds.
+pub fn added_spot(m: usize, n: usize, y: usize) -> Spot
+    requires { ⌜ Grows m n ⌝ }
+    ensures { λ r. ⌜ r ≡ addedSpot m n y ⌝ }
+{
+    let b = y / n;
+    let disk = added_disk(m, n, b, y % n);
+    Spot { disk, row: Row(b) }
+}
+
 // The spot of block x after the growth, where p is its spot before.
 pub fn spot_after(m: usize, n: usize, s: usize, x: usize, p: Spot) -> Spot
     requires { ⌜ Grows m n ⌝ }
@@ -106,14 +127,23 @@ pub fn spot_after(m: usize, n: usize, s: usize, x: usize, p: Spot) -> Spot
     ensures { λ r. ⌜ r ≡ spotAfter m n s x p ⌝ }
 {
     if x < m * s {
-        let row = p.row;
-        let disk = disk_after(m, n, p);
-        return Spot { disk, row };
+        return old_block_spot(m, n, p);
     }
-    let y = x - m * s;
-    let b = y / n;
-    let disk = added_disk(m, n, b, y % n);
-    Spot { disk, row: Row(b) }
+    added_spot(m, n, x - m * s)
+}
+
+// What the growth does with the old block at p.
+pub fn old_change(m: usize, n: usize, p: Spot) -> Change
+    requires { ⌜ Grows m n ⌝ }
+    requires { ⌜ p .disk < m ⌝ }
+    ensures { λ r. ⌜ r ≡ oldChange m n p ⌝ }
+{
+    if moves_from(m, n, p) {
+        let row = p.row;
+        let part = part_of(m, n, row.0 % (m + n));
+        return Change::Moved(part);
+    }
+    Change::Stays
 }
 
 // What the growth does with block x, where p is its spot before.
@@ -125,12 +155,7 @@ pub fn change_of(m: usize, n: usize, s: usize, x: usize, p: Spot) -> Change
     if m * s <= x {
         return Change::Added;
     }
-    if moves_from(m, n, p) {
-        let row = p.row;
-        let part = part_of(m, n, row.0 % (m + n));
-        return Change::Moved(part);
-    }
-    Change::Stays
+    old_change(m, n, p)
 }
 
 // The added block of row b that disk d has, if this is below n.

@@ -14,36 +14,12 @@ returns : tie.Need-returns
 unfolding changeOf
 returns c = rw (le-ltb _ _ (c .if1 .taken))
 
-moves-from-requires : tie.Need-moves-from-requires
-moves-from-requires c κs = (search needs, c .before .pre .1 .1 (c .if1 .left))
-
-add-part-of : tie.Need-add-part-of
-add-part-of c = search needs
-
-rem-part-of : tie.Need-rem-part-of
-rem-part-of c = search needs
-
-part-of-requires : tie.Need-part-of-requires
-part-of-requires c κs = search needs
+old-change-requires : tie.Need-old-change-requires
+old-change-requires c κs = (search needs, c .before .pre .1 .1 (c .if1 .left))
 
 returns-2 : tie.Need-returns-2
 unfolding changeOf
-returns-2 c =
-    rw (lt-ltb _ _ (c .before .before .before .before .before .if1 .left), ← c .before .before .before .before .moves-from .ensures, c .before .before .before .if2 .taken, c .part-of .ensures)
-
-returns-3 : tie.Need-returns-3
-unfolding changeOf
-returns-3 c = rw (lt-ltb _ _ (c .before .before .if1 .left), ← c .before .moves-from .ensures, c .if2 .left)
+returns-2 c = rw (lt-ltb _ _ (c .before .if1 .left), c .old-change .ensures)
 
 pub change-of-spec : {M : Type 1} → statement M
-change-of-spec =
-    tie.close
-    (tie.spec
-    mul-if1
-    returns
-    moves-from-requires
-    add-part-of
-    rem-part-of
-    part-of-requires
-    returns-2
-    returns-3)
+change-of-spec = tie.close (tie.spec mul-if1 returns old-change-requires returns-2)

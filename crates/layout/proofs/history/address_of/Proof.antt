@@ -1,34 +1,41 @@
--- `address_of` meets its contract. The loop's invariant: at and reason are those after k growths if the block is there then.
--- Assumes nothing.
-use Prim.Native.Nat.{_-_, _≤_}
+-- `address_of` meets its contract. The loop's invariant: at and reason are those of the block after k growths, and it is there then. Assumes nothing.
+use Prim.Native.Nat.{_+_, _-_, _<_, _≤_}
 use mathlib.Core.Path.{_≡_, _∙_}
-use mathlib.Core.Logic.{inl, inr}
 use native.Mathlib.Omega.{arith}
+use lib.ListN.{getD}
 use borrow.Author.Needs.{needs}
-use Rattle.layout.specs.Limits.{mostGrowths}
-use Rattle.layout.specs.Reasons.{addressOf}
-use Rattle.layout.proofs.HistoryCode.{growths-most, first-count, turn-up, turn-grows, turn-blocks, turn-disk, turn-left, SpotSo, ReasonSo, spot-first, spot-next, reason-first, reason-next}
+use Rattle.layout.specs.Limits.{Grows, mostGrowths}
+use Rattle.layout.specs.History.{history, spotOf}
+use Rattle.layout.specs.Reasons.{reasonOf, addressOf}
+use Rattle.layout.proofs.HistoryCode.{growths-most, limits-at, There, turn-up, turn-grows, turn-there, turn-disk, spot-next, reason-placed, reason-next}
 use Rattle.layout.proofs.history.address_of.Statement.{statement}
 use Rattle.layout.proofs.history.address_of.Tie as tie
 
 abbrev Inv-loop : tie.InvT-loop
-Inv-loop counts t s first number at₀ reason₀ k₀ at reason k =
-    (k ≤ t) × (t ≤ mostGrowths) × SpotSo s k counts number at × ReasonSo s k counts number reason
+Inv-loop counts t s number k₀ at₀ reason₀ k at reason = (k ≤ t) × (t ≤ mostGrowths) × There s k counts number × (at ≡ spotOf s (history k counts) number) × (reason ≡ reasonOf s (history k counts) number)
 
 abbrev μ-loop : tie.MeasureT-loop
-μ-loop counts t s first number at₀ reason₀ k₀ at reason k = t - k
+μ-loop counts t s number k₀ at₀ reason₀ k at reason = t - k
 
-element-copy-out-first : tie.Need-element-copy-out-first Inv-loop μ-loop
-element-copy-out-first c = search needs
+placed-by-requires : tie.Need-placed-by-requires Inv-loop μ-loop
+placed-by-requires c κs = c .pre
 
-rem-t15 : tie.Need-rem-t15 Inv-loop μ-loop
-rem-t15 c = first-count _ _ 0 (c .before .args .counts .now) (c .before .pre .0)
+placed-at-requires : tie.Need-placed-at-requires Inv-loop μ-loop
+placed-at-requires c κs = (limits-at _ _ _ (c .before .args .counts .now) (c .before .pre .0) (c .placed-by .ensures .0), c .placed-by .ensures .2)
 
-div-t16 : tie.Need-div-t16 Inv-loop μ-loop
-div-t16 c = first-count _ _ 0 (c .before .args .counts .now) (c .before .pre .0)
+placed-reason-requires : tie.Need-placed-reason-requires Inv-loop μ-loop
+placed-reason-requires c κs = search needs
 
 loop-holds : tie.Need-loop-holds Inv-loop μ-loop
-loop-holds c = (omega arith, growths-most _ _ (c .before .args .counts .now) (c .before .pre .0), λ h. spot-first _ _ _, λ h. reason-first _ _ _)
+loop-holds c =
+    let start = c .before .before .before in
+    let by = c .before .before .placed-by .ensures in (
+      by .0,
+      growths-most _ _ (start .args .counts .now) (start .pre .0),
+      by .1,
+      c .before .placed-at .ensures,
+      c .placed-reason .ensures ∙ reason-placed _ _ (start .args .counts .now) _ (by .2),
+    )
 
 mul-m : tie.Need-mul-m Inv-loop μ-loop
 mul-m c = search needs
@@ -36,34 +43,35 @@ mul-m c = search needs
 element-copy-out-m : tie.Need-element-copy-out-m Inv-loop μ-loop
 element-copy-out-m c = search needs
 
-add-grown : tie.Need-add-grown Inv-loop μ-loop
-add-grown c = search needs
+add-n : tie.Need-add-n Inv-loop μ-loop
+add-n c = search needs
 
-mul-grown : tie.Need-mul-grown Inv-loop μ-loop
-mul-grown c = search needs
+mul-n : tie.Need-mul-n Inv-loop μ-loop
+mul-n c = search needs
 
-element-copy-out-grown : tie.Need-element-copy-out-grown Inv-loop μ-loop
-element-copy-out-grown c = search needs
+element-copy-out-n : tie.Need-element-copy-out-n Inv-loop μ-loop
+element-copy-out-n c = search needs
 
-mul-if1 : tie.Need-mul-if1 Inv-loop μ-loop
-mul-if1 c =
+sub-n : tie.Need-sub-n Inv-loop μ-loop
+sub-n c =
     let turn = c .before .before in
-    let start = turn .before .before .before in
-    omega (arith, turn-blocks _ _ (turn .before .loop .k) (start .args .counts .now) (start .pre .0) (turn .loop-test .taken))
-
-sub-change-of : tie.Need-sub-change-of Inv-loop μ-loop
-sub-change-of c =
-    let turn = c .before .before .before in
-    let start = turn .before .before .before in
+    let start = c .before .before .before .before .before .before .before in
     omega (arith, turn-up _ _ (turn .before .loop .k) (start .args .counts .now) (start .pre .0) (turn .loop-test .taken))
 
-change-of-requires : tie.Need-change-of-requires Inv-loop μ-loop
-change-of-requires c κs =
-    let turn = c .before .before .before in
-    let start = turn .before .before .before in (
-      turn-grows _ _ _ (start .args .counts .now) (start .pre .0) (turn .loop-test .taken),
-      (start .pre .0 .rows-most, turn-disk _ _ _ (start .args .counts .now) (start .pre .0) _ _ (omega arith) (turn .before .loop .inv .2)),
+-- what the growth of a turn finds: an old block, on a disk that is there before
+old : (c : tie.In-loop Inv-loop μ-loop)
+    → let a = c .before .before .before .before .before .args in
+    let l = c .before .loop in
+    Grows (getD (a .counts .now) (l .k) 0) (getD (a .counts .now) (l .k + 1) 0 - getD (a .counts .now) (l .k) 0) × (l .at .disk < getD (a .counts .now) (l .k) 0)
+old c =
+    let start = c .before .before .before .before .before in
+    let inv = c .before .loop .inv in (
+      turn-grows _ _ _ (start .args .counts .now) (start .pre .0) (c .loop-test .taken),
+      turn-disk _ _ _ (start .args .counts .now) (start .pre .0) _ _ (inv .0) (inv .2) (inv .3),
     )
+
+old-change-requires : tie.Need-old-change-requires Inv-loop μ-loop
+old-change-requires c κs = old (c .before .before)
 
 add-reason-after : tie.Need-add-reason-after Inv-loop μ-loop
 add-reason-after c = search needs
@@ -71,11 +79,8 @@ add-reason-after c = search needs
 reason-after-requires : tie.Need-reason-after-requires Inv-loop μ-loop
 reason-after-requires c κs = search needs
 
-sub-spot-after : tie.Need-sub-spot-after Inv-loop μ-loop
-sub-spot-after c = sub-change-of (c .before .before)
-
-spot-after-requires : tie.Need-spot-after-requires Inv-loop μ-loop
-spot-after-requires c κs = change-of-requires (c .before .before) κs
+old-block-spot-requires : tie.Need-old-block-spot-requires Inv-loop μ-loop
+old-block-spot-requires c κs = old (c .before .before .before .before)
 
 add-k : tie.Need-add-k Inv-loop μ-loop
 add-k c = search needs
@@ -85,31 +90,21 @@ loop-less c = search needs
 
 loop-again : tie.Need-loop-again Inv-loop μ-loop
 loop-again c =
-    let turn = c .before .before .before in
-    let a = turn .before .before .before .args in
-    let l = turn .before .loop in (
+    let turn = c .before .before .before .before .before in
+    let start = c .before .before .before .before .before .before .before .before .before .before in
+    let inv = turn .before .loop .inv in (
       omega arith,
-      l .inv .1,
-      λ h.
-          elim (c .if1 .came) [
-            | inl w ↦ w .4 ∙ spot-next _ _ (a .counts .now) _ _ _ (l .inv .2) (w .3 .ensures)
-            | inr w ↦ turn-left _ _ (a .counts .now) _ (w .0 .left) h
-          ],
-      λ h.
-          elim (c .if1 .came) [
-            | inl w ↦ w .5 ∙ reason-next _ _ (a .counts .now) _ _ _ _ _ (l .inv .2) (l .inv .3) (w .1 .ensures) (w .2 .ensures)
-            | inr w ↦ turn-left _ _ (a .counts .now) _ (w .0 .left) h
-          ],
+      inv .1,
+      turn-there _ _ _ (start .args .counts .now) (start .pre .0) _ (turn .loop-test .taken) (inv .2),
+      spot-next _ _ (start .args .counts .now) _ _ _ (inv .2) (inv .3) (c .old-block-spot .ensures),
+      reason-next _ _ (start .args .counts .now) _ _ _ _ _ (inv .2) (inv .3) (inv .4) (c .before .before .old-change .ensures) (c .before .reason-after .ensures),
     )
 
 returns : tie.Need-returns Inv-loop μ-loop
 unfolding addressOf
 returns c =
-    let start = c .before .before .before in
-    let e : c .before .loop .k ≡ start .args .t = omega arith in
-    let at = (rw e at (c .before .loop .inv .2)) (start .pre .1) in
-    let reason = (rw e at (c .before .loop .inv .3)) (start .pre .1) in
-    rw (at, reason)
+    let e : c .before .loop .k ≡ c .before .before .before .before .before .args .t = omega arith in
+    rw (c .before .loop .inv .3, c .before .loop .inv .4, e)
 
 pub address-of-spec : {M : Type 1} → statement M
 address-of-spec =
@@ -117,22 +112,20 @@ address-of-spec =
     (tie.spec
     Inv-loop
     μ-loop
-    element-copy-out-first
-    rem-t15
-    div-t16
+    placed-by-requires
+    placed-at-requires
+    placed-reason-requires
     loop-holds
     mul-m
     element-copy-out-m
-    add-grown
-    mul-grown
-    element-copy-out-grown
-    mul-if1
-    sub-change-of
-    change-of-requires
+    add-n
+    mul-n
+    element-copy-out-n
+    sub-n
+    old-change-requires
     add-reason-after
     reason-after-requires
-    sub-spot-after
-    spot-after-requires
+    old-block-spot-requires
     add-k
     loop-less
     loop-again
