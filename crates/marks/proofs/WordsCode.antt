@@ -1,14 +1,22 @@
--- What the code that stores the bits of a word one by one needs. Assumes nothing.
-use Prim.Native.Nat.{ℕ, zero, suc, _+_, _-_, _/_, _%_, _<_}
-use mathlib.Core.Path.{_≡_, refl, sym, ap, _∙_}
+-- What the code that shifts 1, and the code that stores the bits of a word one by one, needs. Assumes nothing.
+use Prim.Native.Nat.{ℕ, zero, suc, _+_, _-_, _*_, _/_, _%_, _^_, _≤_, _<_}
+use mathlib.Core.Path.{_≡_, refl, subst, sym, ap, _∙_}
 use mathlib.Core.Bool.{Bool, false}
 use mathlib.Core.List.{List, _∷_, _++_, append-nil}
-use native.Mathlib.Numerals.{add-one}
+use native.Mathlib.Nat.{one-mul}
+use native.Mathlib.Numerals.{add-one, one-add}
 use native.Mathlib.Omega.{arith}
-use lib.Dec.{eqb}
+use lib.Dec.{eqb, lit<}
 use lib.ListN.{length, take, drop, set, replicate, take-append-drop}
+use lib.Pow.{shl-exact}
 use lib.Seq.{take-all, take-suc-set, drop-drop, drop-set-lt, append-snoc}
 use Rattle.marks.specs.Words.{bits}
+
+-- ---- shifts
+
+-- `1 << j`, which the machine has as a product cut to 64 bits, is 2 ^ j
+pub one-shl : (j : ℕ) → j < 64 → (1 * 2 ^ j) % 2 ^ 64 ≡ 2 ^ j
+one-shl j h = shl-exact {a = 1} 1 j 64 (lit< tt) (subst (λ (x : ℕ). x ≤ 64) (sym (one-add j)) h) ∙ one-mul (2 ^ j)
 
 -- ---- the marks of a word
 

@@ -1,11 +1,9 @@
 // Sets of 64 marks as words: mark j is bit j.
 ghost use mathlib.Core.Path.{_≡_};
-ghost use mathlib.Core.Bool.{true, false, cond, _&&_};
-ghost use Prim.Native.Nat.{_<_, _≤_, _*_};
+ghost use mathlib.Core.Bool.{true, false};
+ghost use Prim.Native.Nat.{_+_, _-_, _^_, _<_, _≤_, min};
 ghost use lib.ListN.{getD, set};
-ghost use lib.Dec.{ltb};
-ghost use Rattle.layout.specs.Limits.{Grows, mostRows};
-ghost use Rattle.layout.specs.Windows.{rowExists};
+ghost use Rattle.layout.specs.Limits.{Grows, mostDisks, mostRows};
 ghost use Rattle.marks.specs.Marks.{within, movingMarks, difference};
 ghost use Rattle.marks.specs.Words.{marksOf, wordOf};
 
@@ -39,32 +37,28 @@ pub fn without(a: usize, b: usize) -> usize
     a & !b
 }
 
-// 1 where mark j is that of a moving block of window w whose row exists, else 0.
-fn moving_bit(m: usize, n: usize, s: usize, w: usize, j: usize) -> usize
-    requires { ⌜ Grows m n ⌝ }
-    requires { ⌜ (w ≤ mostRows) × (j < 64) ⌝ }
-    ensures { λ r. ⌜ r ≡ cond (ltb j (m * n) && rowExists m n s w j) 1 0 ⌝ }
+// The marks of the moving blocks of disk d, from its lowest, in a window cut off to so many rows: of its n moving rows those that exist.
+fn disk_marks(n: usize, rows: usize, d: usize) -> usize
+    requires { ⌜ n ≤ mostDisks ⌝ }
+    ensures { λ r. ⌜ r + 1 ≡ 2 ^ min n (rows - d) ⌝ }
 {
-    if m * n <= j {
-        return 0;
-    }
-    if window::row_exists(m, n, s, w, j) {
-        return 1;
-    }
-    0
+    let left = window::excess(rows, d);
+    let k = if n < left { n } else { left };
+    (1usize << k) - 1
 }
 
-// The marks of a window that is cut off, from the highest on.
+// The marks of a window that is cut off, disk by disk, the highest first.
 fn cut_marks(m: usize, n: usize, s: usize, w: usize) -> usize
     requires { ⌜ Grows m n ⌝ }
     requires { ⌜ w ≤ mostRows ⌝ }
     ensures { λ r. ⌜ r ≡ wordOf (movingMarks m n s w) ⌝ }
 {
+    let rows = window::excess(s, w * (m + n));
     let mut word = 0;
-    let mut j = 64;
-    while 0 < j {
-        j -= 1;
-        word = word * 2 + moving_bit(m, n, s, w, j);
+    let mut d = m;
+    while 0 < d {
+        d -= 1;
+        word = word * (1usize << n) + disk_marks(n, rows, d);
     }
     word
 }

@@ -72,7 +72,7 @@ fn triangle(k: usize) -> usize
 }
 
 // a - b, or 0 where b is more.
-fn excess(a: usize, b: usize) -> usize
+pub fn excess(a: usize, b: usize) -> usize
     ensures { λ r. ⌜ r ≡ a - b ⌝ }
 {
     if a < b {

@@ -1,20 +1,14 @@
 -- `with_mark` meets its contract. Assumes nothing.
-use Prim.Native.Nat.{ℕ, _*_, _%_, _^_, _<_, _≤_}
-use mathlib.Core.Path.{_≡_, subst, sym, ap, _∙_}
-use native.Mathlib.Nat.{one-mul}
-use native.Mathlib.Numerals.{one-add}
+use Prim.Native.Nat.{_^_, _<_}
+use mathlib.Core.Path.{sym, ap, _∙_}
 use lib.Bits.{bitOr, or-lt}
-use lib.Dec.{lit<}
-use lib.Pow.{pow-lt, shl-exact}
+use lib.Pow.{pow-lt}
 use borrow.Author.Needs.{needs}
 use Rattle.marks.specs.Words.{wordOf}
 use Rattle.marks.proofs.Bits.{or-bit, word-back}
+use Rattle.marks.proofs.WordsCode.{one-shl}
 use Rattle.marks.proofs.words.with_mark.Statement.{statement}
 use Rattle.marks.proofs.words.with_mark.Tie as tie
-
--- `1 << j`, which the machine has as a product cut to 64 bits, is 2 ^ j
-one-shl : (j : ℕ) → j < 64 → (1 * 2 ^ j) % 2 ^ 64 ≡ 2 ^ j
-one-shl j h = shl-exact {a = 1} 1 j 64 (lit< tt) (subst (λ (x : ℕ). x ≤ 64) (sym (one-add j)) h) ∙ one-mul (2 ^ j)
 
 shl-result : tie.Need-shl-result
 shl-result c = search needs
