@@ -37,7 +37,8 @@ pub fn without(a: usize, b: usize) -> usize
     a & !b
 }
 
-// The marks of the moving blocks of disk d, from its lowest, in a window cut off to so many rows: of its n moving rows those that exist.
+// The marks of disk d, from its lowest on, in a window cut off to so many rows. Its moving blocks are in the n rows of the window from
+// row d on; a mark is set where the row exists.
 fn disk_marks(n: usize, rows: usize, d: usize) -> usize
     requires { ⌜ n ≤ mostDisks ⌝ }
     ensures { λ r. ⌜ r + 1 ≡ 2 ^ min n (rows - d) ⌝ }
@@ -47,7 +48,7 @@ fn disk_marks(n: usize, rows: usize, d: usize) -> usize
     (1usize << k) - 1
 }
 
-// The marks of a window that is cut off, disk by disk, the highest first.
+// The marks of a window that is cut off, disk by disk, the highest disk first.
 fn cut_marks(m: usize, n: usize, s: usize, w: usize) -> usize
     requires { ⌜ Grows m n ⌝ }
     requires { ⌜ w ≤ mostRows ⌝ }
