@@ -26,23 +26,24 @@ const MEDIUM_ROWS: u64 = 512;
 /// Windows of copy and advance.
 const WINDOWS: u64 = 8;
 
-/// The limits: a call that needs more instructions than this, for each one of the reference's, fails the gate.
+/// The limits: a call that needs more instructions than this for each one of the reference's fails the gate. Each stands about
+/// 0.05 above what was measured when it was last changed, and none above its aim in docs/PERFORMANCE.md.
 pub fn all() -> Vec<Counted> {
     let mut rows = lookups();
     rows.extend([
-        transfer("read", Direction::Read, GROWN, 512, 1.15),
-        transfer("read", Direction::Read, GROWN, 4096, 1.1),
-        transfer("write", Direction::Write, GROWN, 512, 1.15),
-        transfer("write", Direction::Write, GROWN, 4096, 1.1),
-        transfer("read", Direction::Read, GROWING, 512, 1.15),
-        transfer("write", Direction::Write, GROWING, 512, 1.15),
-        moving("copy", moves::Call::Copy, 1.3),
-        moving("advance", moves::Call::Advance, 1.2),
-        recorded("checkpoint", GROWING, record::Call::Checkpoint, 1.2),
-        recorded("advance that records", GROWING, record::Call::Advance, 1.2),
-        recorded("restart", GROWING, record::Call::Restart, 1.0),
-        recorded("grow", BEGUN, record::Call::Grow, 1.2),
-        recorded("format", FORMATTED, record::Call::Format, 1.2),
+        transfer("read", Direction::Read, GROWN, 512, 0.98),
+        transfer("read", Direction::Read, GROWN, 4096, 1.01),
+        transfer("write", Direction::Write, GROWN, 512, 0.97),
+        transfer("write", Direction::Write, GROWN, 4096, 1.01),
+        transfer("read", Direction::Read, GROWING, 512, 0.96),
+        transfer("write", Direction::Write, GROWING, 512, 0.95),
+        moving("copy", moves::Call::Copy, 1.1),
+        moving("advance", moves::Call::Advance, 1.1),
+        recorded("checkpoint", GROWING, record::Call::Checkpoint, 1.06),
+        recorded("advance that records", GROWING, record::Call::Advance, 0.98),
+        recorded("restart", GROWING, record::Call::Restart, 0.91),
+        recorded("grow", BEGUN, record::Call::Grow, 0.95),
+        recorded("format", FORMATTED, record::Call::Format, 0.94),
     ]);
     rows
 }
@@ -57,13 +58,13 @@ fn lookups() -> Vec<Counted> {
     let at = |case, words, open| address(lookup_label("address", case, s), words, open, calls);
     let held = |case, words, open| holder(lookup_label("holder", case, s), words, 0..open, calls);
     vec![
-        counted(sound(GROWN, grown), 1.35),
-        counted(sound(GROWING, growing), 1.35),
-        counted(sound(LAST_WINDOW, ending), 1.35),
-        counted(at(GROWN, grown, 16 * s), 1.25),
-        counted(at(GROWING, growing, 14 * s), 1.15),
-        counted(held(GROWN, grown, 16 * s), 1.15),
-        counted(held(GROWING, growing, 14 * s), 1.15),
+        counted(sound(GROWN, grown), 1.07),
+        counted(sound(GROWING, growing), 0.98),
+        counted(sound(LAST_WINDOW, ending), 1.29),
+        counted(at(GROWN, grown, 16 * s), 1.07),
+        counted(at(GROWING, growing, 14 * s), 1.04),
+        counted(held(GROWN, grown, 16 * s), 1.04),
+        counted(held(GROWING, growing, 14 * s), 0.99),
     ]
 }
 
