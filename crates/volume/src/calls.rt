@@ -17,6 +17,21 @@ use layout::Row;
 use layout::Spot;
 use medium::Geometry;
 
+// Refusal k, and no spot.
+pub fn no_spot(k: usize) -> SpotFound
+    ensures { λ r. ⌜ r ≡ record { refusal = k; spot = record { disk = 0; row = record { 0 = 0 } }; mark = 0 } ⌝ }
+{
+    let spot = Spot {
+        disk: 0,
+        row: Row(0),
+    };
+    SpotFound {
+        refusal: k,
+        spot,
+        mark: 0,
+    }
+}
+
 impl Volume {
     // Refusal k, with the state as it is.
     pub(crate) fn refuse(self, k: usize) -> Reply
@@ -181,18 +196,10 @@ impl Volume {
     pub(crate) fn write_spot(self, x: Block, piece: usize, len: usize) -> SpotFound
         ensures { λ r. ⌜ r ≡ foundAt (refusal (writeTable self (x .0) piece len)) (liveSpotOf (tallyOf self) (x .0)) 0 ⌝ }
     {
-        let nowhere = Spot {
-            disk: 0,
-            row: Row(0),
-        };
         let counts = self.counts;
         let k = self.read_refusal(&counts, x, piece, len);
         if k != 0 {
-            return SpotFound {
-                refusal: k,
-                spot: nowhere,
-                mark: 0,
-            };
+            return no_spot(k);
         }
         let t = self.growths;
         let s = self.rows;
@@ -202,11 +209,7 @@ impl Volume {
         if growing != 0 {
             let g = layout::newest_growth(&counts, t);
             if marks::is_waiting(g.old, g.added, w, self.recorded, self.copied, old) {
-                return SpotFound {
-                    refusal: 7,
-                    spot: nowhere,
-                    mark: 0,
-                };
+                return no_spot(7);
             }
         }
         let spot = marks::live_spot(&counts, t, s, growing, w, self.recorded, x, old);

@@ -17,8 +17,8 @@ use super::Answer;
 use super::Reply;
 use super::SpotFound;
 use super::Volume;
+use super::calls::no_spot;
 use layout::Block;
-use layout::Row;
 use layout::Spot;
 use marks::NextCopy;
 
@@ -115,42 +115,22 @@ impl Volume {
         requires { ⌜ now counts ≡ self .counts ⌝ }
         ensures { λ r. ⌜ r ≡ foundAt (refusal (copyTable self (x .0) len)) (oldSpot (self .rows) (historyOf self) (x .0)) (markOf (self .rows) (historyOf self) (x .0)) ⌝ }
     {
-        let nowhere = Spot {
-            disk: 0,
-            row: Row(0),
-        };
         let k = self.advance_refusal(counts, len);
         if k != 0 {
-            return SpotFound {
-                refusal: k,
-                spot: nowhere,
-                mark: 0,
-            };
+            return no_spot(k);
         }
         if self.open_blocks_by(counts) <= x.0 {
-            return SpotFound {
-                refusal: 3,
-                spot: nowhere,
-                mark: 0,
-            };
+            return no_spot(3);
         }
         let t = self.growths;
         let spot = layout::spot_of(counts, t - 1, self.rows, x);
         let g = layout::newest_growth(counts, t);
         if !marks::moves_now(g.old, g.added, self.window, spot) {
-            return SpotFound {
-                refusal: 10,
-                spot: nowhere,
-                mark: 0,
-            };
+            return no_spot(10);
         }
         let mark = window::mark_of_spot(g.old, g.added, spot);
         if marks::has_mark(self.copied, mark) {
-            return SpotFound {
-                refusal: 11,
-                spot: nowhere,
-                mark: 0,
-            };
+            return no_spot(11);
         }
         SpotFound {
             refusal: 0,

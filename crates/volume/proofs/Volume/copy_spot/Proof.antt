@@ -23,8 +23,11 @@ use Rattle.volume.proofs.Volume.copy_spot.Tie as tie
 advance-refusal-requires : tie.Need-advance-refusal-requires
 advance-refusal-requires c κs = search needs
 
+no-spot-requires : tie.Need-no-spot-requires
+no-spot-requires c κs = search needs
+
 returns : tie.Need-returns
-returns c = found-refused _ _ _ _ (copy-refused _ _ _ (c .before .advance-refusal .ensures) (c .if1 .taken) _) (c .if1 .taken)
+returns c = c .no-spot .ensures ∙ found-refused _ _ _ _ (copy-refused _ _ _ (c .before .before .advance-refusal .ensures) (c .before .if1 .taken) _) (c .before .if1 .taken)
 
 advances : (c : tie.Else1) → AdvanceFacts (c .before .before .args .self) (c .before .before .args .len)
 advances c = advance-accepted _ _ (sym (c .before .advance-refusal .ensures) ∙ c .if1 .left)
@@ -32,10 +35,13 @@ advances c = advance-accepted _ _ (sym (c .before .advance-refusal .ensures) ∙
 open-blocks-by-requires : tie.Need-open-blocks-by-requires
 open-blocks-by-requires c κs = (advances c .is-sound, c .before .before .pre)
 
+no-spot-requires-2 : tie.Need-no-spot-requires-2
+no-spot-requires-2 c κs = search needs
+
 returns-2 : tie.Need-returns-2
 returns-2 c =
-    let b = c .before .before .before in
-    found-refused _ _ _ _ (copy-not-open _ _ _ (b .before .advance-refusal .ensures) (b .if1 .left) _ (rw (c .before .before .open-blocks-by .ensures) at (c .if2 .taken)))
+    let b = c .before .before .before .before in
+    c .no-spot2 .ensures ∙ found-refused _ _ _ _ (copy-not-open _ _ _ (b .before .advance-refusal .ensures) (b .if1 .left) _ (rw (c .before .before .before .open-blocks-by .ensures) at (c .before .if2 .taken)))
     (λ e. absurd (omega arith))
 
 block-open : (c : tie.Else2) → c .before .before .before .before .before .args .x .0 < openBlocks (tallyOf (c .before .before .before .before .before .args .self))
@@ -79,11 +85,14 @@ moves-told c =
     c .moves-now .ensures
     ∙ moves-read _ (a .is-growing) (a .is-sound) _ (growth-told (c .before)) _ (block-open (c .before .before .before)) _ (spot-told (c .before .before))
 
+no-spot-requires-3 : tie.Need-no-spot-requires-3
+no-spot-requires-3 c κs = search needs
+
 returns-3 : tie.Need-returns-3
 returns-3 c =
-    let b = c .before .before .before .before in
+    let b = c .before .before .before .before .before in
     let d = b .before .before .before in
-    found-refused _ _ _ _ (copy-not-moving _ _ _ (d .before .advance-refusal .ensures) (d .if1 .left) _ (block-open b) _ (moves-told (c .before)) (not-true _ (c .if3 .taken)))
+    c .no-spot3 .ensures ∙ found-refused _ _ _ _ (copy-not-moving _ _ _ (d .before .advance-refusal .ensures) (d .if1 .left) _ (block-open b) _ (moves-told (c .before .before)) (not-true _ (c .before .if3 .taken)))
     (λ e. absurd (omega arith))
 
 -- it is one, and so it has a mark
@@ -116,8 +125,11 @@ last-test c copied t =
     copy-left _ _ _ (d .before .advance-refusal .ensures) (d .if1 .left) _ (block-open b) _ (moves-told (c .before .before .before)) (not-false _ (c .before .before .if3 .left)) copied
     (t ∙ m)
 
+no-spot-requires-4 : tie.Need-no-spot-requires-4
+no-spot-requires-4 c κs = search needs
+
 returns-4 : tie.Need-returns-4
-returns-4 c = found-refused _ _ _ _ (last-test (c .before) _ (sym (c .if4 .taken))) (λ e. absurd (omega arith))
+returns-4 c = c .no-spot4 .ensures ∙ found-refused _ _ _ _ (last-test (c .before .before) _ (sym (c .before .if4 .taken))) (λ e. absurd (omega arith))
 
 returns-5 : tie.Need-returns-5
 returns-5 c =
@@ -131,15 +143,19 @@ copy-spot-spec =
     tie.close
     (tie.spec
     advance-refusal-requires
+    no-spot-requires
     returns
     open-blocks-by-requires
+    no-spot-requires-2
     returns-2
     sub-spot-of
     spot-of-requires
     newest-growth-requires
     moves-now-requires
+    no-spot-requires-3
     returns-3
     mark-of-spot-requires
     has-mark-requires
+    no-spot-requires-4
     returns-4
     returns-5)

@@ -17,8 +17,11 @@ use Rattle.volume.proofs.Volume.write_spot.Tie as tie
 read-refusal-requires : tie.Need-read-refusal-requires
 read-refusal-requires c κs = search needs
 
+no-spot-requires : tie.Need-no-spot-requires
+no-spot-requires c κs = search needs
+
 returns : tie.Need-returns
-returns c = found-refused _ _ _ _ (sym (refused-as-read _ _ _ _ _ (c .before .read-refusal .ensures) (c .if1 .taken))) (c .if1 .taken)
+returns c = c .no-spot .ensures ∙ found-refused _ _ _ _ (sym (refused-as-read _ _ _ _ _ (c .before .before .read-refusal .ensures) (c .before .if1 .taken))) (c .before .if1 .taken)
 
 accepted : (c : tie.Else1) → let a = c .before .before .before .before .args in ReadFacts (a .self) (a .x .0) (a .piece) (a .len)
 accepted c = read-accepted _ _ _ _ (sym (c .before .read-refusal .ensures) ∙ c .if1 .left)
@@ -49,15 +52,18 @@ is-waiting-requires c κs =
     let a = accepted (b .before .before .before) in
     spot-asks _ (b .if2 .taken) (a .is-sound) _ (c .newest-growth .ensures) _ (a .block-open) _ (was-at b)
 
+no-spot-requires-2 : tie.Need-no-spot-requires-2
+no-spot-requires-2 c κs = search needs
+
 returns-2 : tie.Need-returns-2
 returns-2 c =
-    let n = c .before .before in
+    let n = c .before .before .before in
     let b = n .before .before in
     let r = b .before .before .before in
     let a = accepted r in
-    let w = waiting-read _ (b .if2 .taken) (a .is-sound) _ (n .newest-growth .ensures) _ (a .block-open) _ (was-at b) _ (c .before .is-waiting .ensures) in
+    let w = waiting-read _ (b .if2 .taken) (a .is-sound) _ (n .newest-growth .ensures) _ (a .block-open) _ (was-at b) _ (c .before .before .is-waiting .ensures) in
     let e = refused-waiting _ _ _ _ _ (r .before .read-refusal .ensures) (r .if1 .left) in
-    found-refused _ _ _ _ (sym (e ∙ simp (← w, c .if3 .taken))) (λ z. absurd (omega arith))
+    c .no-spot2 .ensures ∙ found-refused _ _ _ _ (sym (e ∙ simp (← w, c .before .if3 .taken))) (λ z. absurd (omega arith))
 
 -- ---- the live spot
 
@@ -94,11 +100,13 @@ write-spot-spec =
     tie.close
     (tie.spec
     read-refusal-requires
+    no-spot-requires
     returns
     sub-spot-of
     spot-of-requires
     newest-growth-requires
     is-waiting-requires
+    no-spot-requires-2
     returns-2
     live-spot-requires
     returns-3)
