@@ -19,7 +19,7 @@ use Rattle.marks.proofs.MarkSets.{within-self, all-marked, one-unmarked}
 use Rattle.marks.proofs.MarkWords.{no-marks, none-word}
 use Rattle.volume.specs.declared.Volume.{Volume}
 use Rattle.volume.specs.Laws.{RestFacts, GrowthFacts, SoundFacts}
-use Rattle.volume.specs.Sound.{sizeStep, mostSize, sizeHolds, rowsHold, limitsHold, restHolds, movingOf, growthHolds, stageHolds, lengthsHold, sound}
+use Rattle.volume.specs.Sound.{sizeStep, mostSize, sizeHolds, rowsHold, limitsHold, restHolds, movingOf, growthHolds, stageHolds, typesHold, sound}
 use Rattle.volume.specs.States.{historyOf, tallyOf}
 use Rattle.marks.specs.Words.{marksOf}
 
@@ -178,40 +178,40 @@ growth-make v l f =
 -- ---- the whole
 
 module _ (v : Volume) (e : sound v ≡ true) where
-  abbrev afterLengths : Bool
-  afterLengths = limitsHold v && (zerosAfter (v .counts) (v .growths) && stageHolds v)
+  abbrev afterTypes : Bool
+  afterTypes = limitsHold v && (zerosAfter (v .counts) (v .growths) && stageHolds v)
 
   abbrev afterLimits : Bool
   afterLimits = zerosAfter (v .counts) (v .growths) && stageHolds v
 
-  after-lengths : afterLengths ≡ true
+  after-types : afterTypes ≡ true
   unfolding sound
-  after-lengths = and-right (lengthsHold v) afterLengths e
+  after-types = and-right (typesHold v) afterTypes e
 
-  lengths : lengthsHold v ≡ true
+  types-hold : typesHold v ≡ true
   unfolding sound
-  lengths = and-left (lengthsHold v) afterLengths e
+  types-hold = and-left (typesHold v) afterTypes e
 
   pub sound-limits : limitsHold v ≡ true
-  sound-limits = and-left (limitsHold v) afterLimits after-lengths
+  sound-limits = and-left (limitsHold v) afterLimits after-types
 
   after-limits : afterLimits ≡ true
-  after-limits = and-right (limitsHold v) afterLimits after-lengths
+  after-limits = and-right (limitsHold v) afterLimits after-types
 
   stage : stageHolds v ≡ true
   stage = and-right (zerosAfter (v .counts) (v .growths)) (stageHolds v) after-limits
 
   pub sound-facts : SoundFacts v
-  unfolding lengthsHold stageHolds
+  unfolding typesHold stageHolds
   sound-facts =
       let marks : Bool = ltb (v .recorded) (2 ^ markCount) && ltb (v .copied) (2 ^ markCount) in
-      let em = and-right (eqb (length (v .counts)) 8) marks lengths in
+      let em = and-right (eqb (length (v .counts)) 8) marks types-hold in
       let recorded = ltb-true (v .recorded) (2 ^ markCount) (and-left (ltb (v .recorded) (2 ^ markCount)) (ltb (v .copied) (2 ^ markCount)) em) in
       let copied = ltb-true (v .copied) (2 ^ markCount) (and-right (ltb (v .recorded) (2 ^ markCount)) (ltb (v .copied) (2 ^ markCount)) em) in
       let z = size-of-limits v sound-limits in
       let l = limits-of v sound-limits in
       record {
-        counts-length = eqb-true (length (v .counts)) 8 (and-left (eqb (length (v .counts)) 8) marks lengths);
+        counts-length = eqb-true (length (v .counts)) 8 (and-left (eqb (length (v .counts)) 8) marks types-hold);
         recorded-fits = recorded;
         copied-fits = copied;
         size-least = z .least;
@@ -232,7 +232,7 @@ module _ (v : Volume) (e : sound v ≡ true) where
   some-old runs = newest-old (v .rows) (v .growths) (v .counts) (sound-facts .while-growing runs .has-growth) (sound-facts .limits)
 
 pub facts-sound : (v : Volume) → SoundFacts v → sound v ≡ true
-unfolding sound lengthsHold stageHolds
+unfolding sound typesHold stageHolds
 facts-sound v f =
     let z : SizeFacts (v .size) = record { least = f .size-least; most = f .size-most; steps = f .size-steps } in
     let stage : stageHolds v ≡ true =

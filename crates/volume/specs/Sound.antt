@@ -55,9 +55,9 @@ unfoldable pub stageHolds : (v : Volume) → Bool
 stageHolds v = cond (eqb (v .growing) 0) (restHolds v) (eqb (v .growing) 1 && growthHolds v)
 
 -- the length of the array and the bounds of the words, which the code's types fix
-unfoldable pub lengthsHold : (v : Volume) → Bool
-lengthsHold v = eqb (length (v .counts)) 8 && (ltb (v .recorded) (2 ^ markCount) && ltb (v .copied) (2 ^ markCount))
+unfoldable pub typesHold : (v : Volume) → Bool
+typesHold v = eqb (length (v .counts)) 8 && (ltb (v .recorded) (2 ^ markCount) && ltb (v .copied) (2 ^ markCount))
 
 -- "A state is sound when: the limits hold; counts after N[t] are 0;" and the rest as above.
 unfoldable pub sound : (v : Volume) → Bool
-sound v = lengthsHold v && (limitsHold v && (zerosAfter (v .counts) (v .growths) && stageHolds v))
+sound v = typesHold v && (limitsHold v && (zerosAfter (v .counts) (v .growths) && stageHolds v))

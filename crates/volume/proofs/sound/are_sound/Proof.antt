@@ -11,7 +11,7 @@ use Rattle.layout.specs.Limits.{mostDisks, mostGrowths}
 use Rattle.layout.proofs.HistoryCode.{history-disks}
 use Rattle.marks.specs.Marks.{markCount, zerosAfter}
 use Rattle.volume.specs.declared.Volume.{Volume}
-use Rattle.volume.specs.Sound.{sizeHolds, rowsHold, limitsHold, stageHolds, lengthsHold, sound}
+use Rattle.volume.specs.Sound.{sizeHolds, rowsHold, limitsHold, stageHolds, typesHold, sound}
 use Rattle.volume.specs.States.{historyOf}
 use Rattle.volume.proofs.SoundLaws.{limits-of}
 use Rattle.volume.proofs.sound.are_sound.Statement.{statement}
@@ -33,9 +33,9 @@ state c =
     }
 
 -- the array has the length of its type, the words are below their type's bound
-lengths : (c : tie.Start) → lengthsHold (state c) ≡ true
-unfolding lengthsHold
-lengths c =
+types-hold : (c : tie.Start) → typesHold (state c) ≡ true
+unfolding typesHold
+types-hold c =
     let recorded : c .args .recorded < 2 ^ markCount = search needs in
     let copied : c .args .copied < 2 ^ markCount = search needs in
     and-both (eq-eqb _ _ (c .pre)) (and-both (lt-ltb _ _ recorded) (lt-ltb _ _ copied))
@@ -45,7 +45,7 @@ size-holds-requires c κs = search needs
 
 returns : tie.Need-returns
 unfolding sound limitsHold
-returns c = let e = sym (c .before .size-holds .ensures) ∙ not-true _ (c .if1 .taken) in simp (lengths (c .before .before), e)
+returns c = let e = sym (c .before .size-holds .ensures) ∙ not-true _ (c .if1 .taken) in simp (types-hold (c .before .before), e)
 
 rows-hold-requires : tie.Need-rows-hold-requires
 rows-hold-requires c κs = search needs
@@ -58,7 +58,7 @@ returns-2 : tie.Need-returns-2
 unfolding sound limitsHold
 returns-2 c =
     let e = sym (c .before .rows-hold .ensures) ∙ not-true _ (c .if2 .taken) in
-    simp (lengths (c .before .before .before .before), size-passed (c .before .before), e)
+    simp (types-hold (c .before .before .before .before), size-passed (c .before .before), e)
 
 rows-passed : (c : tie.Else2) → rowsHold (c .before .before .before .before .args .rows) ≡ true
 rows-passed c = sym (c .before .rows-hold .ensures) ∙ not-false _ (c .if2 .left)
@@ -67,7 +67,7 @@ returns-3 : tie.Need-returns-3
 unfolding sound limitsHold
 returns-3 c =
     simp (
-      lengths (c .before .before .before .before .before),
+      types-hold (c .before .before .before .before .before),
       size-passed (c .before .before .before),
       rows-passed (c .before),
       lt-leb _ _ (c .if3 .taken),
@@ -84,7 +84,7 @@ unfolding sound limitsHold historyOf
 returns-4 c =
     let e = sym (c .before .counts-rise .ensures) ∙ not-true _ (c .if4 .taken) in
     simp (
-      lengths (c .before .before .before .before .before .before .before),
+      types-hold (c .before .before .before .before .before .before .before),
       size-passed (c .before .before .before .before .before),
       rows-passed (c .before .before .before),
       growths-passed (c .before .before),
@@ -108,7 +108,7 @@ returns-5 c =
     let a = s .args in
     let e : leb (diskCount (historyOf (state s))) mostDisks ≡ false = rw (history-disks (a .t) (a .counts .now)) (lt-leb _ _ (c .if5 .taken)) in
     simp (
-      lengths s,
+      types-hold s,
       size-passed (c .before .before .before .before .before .before .before),
       rows-passed (c .before .before .before .before .before),
       growths-passed (c .before .before .before .before),
@@ -133,7 +133,7 @@ returns-6 : tie.Need-returns-6
 unfolding sound
 returns-6 c =
     let e = sym (c .before .zeros-after .ensures) ∙ not-true _ (c .if6 .taken) in
-    simp (lengths (c .before .before .before .before .before .before .before .before .before .before .before), limits-passed (c .before .before), e)
+    simp (types-hold (c .before .before .before .before .before .before .before .before .before .before .before), limits-passed (c .before .before), e)
 
 stage-holds-requires : tie.Need-stage-holds-requires
 unfolding historyOf
@@ -143,7 +143,7 @@ returns-7 : tie.Need-returns-7
 unfolding sound stageHolds historyOf
 returns-7 c =
     let e = sym (c .before .before .zeros-after .ensures) ∙ not-false _ (c .before .if6 .left) in
-    let l = lengths (c .before .before .before .before .before .before .before .before .before .before .before .before) in
+    let l = types-hold (c .before .before .before .before .before .before .before .before .before .before .before .before) in
     simp (l, limits-passed (c .before .before .before), e) (c .stage-holds .ensures)
 
 pub are-sound-spec : {M : Type 1} → statement M
