@@ -51,7 +51,8 @@ fn counts(folder: &Path) -> io::Result<Vec<u64>> {
         .arg(format!("--callgrind-out-file={}", out.display()))
         .arg(env::current_exe()?)
         .arg(MAKE_CALLS)
-        .status()?;
+        .status()
+        .map_err(|error| io::Error::other(format!("valgrind did not start: {error}")))?;
     if !status.success() {
         return Err(io::Error::other("the calls did not come to their end"));
     }

@@ -167,7 +167,7 @@ pub fn added_index(m: usize, n: usize, d: usize, b: usize) -> usize
     let k = m + n;
     let b1 = b % k;
     let up = d + (n - 1);
-    // One remainder, of up - b1: where that is negative, k more is no remainder to take.
+    // d - (b - (n - 1)) is up - b1; with k more where that is negative it is below k already.
     if up < b1 {
         return up + k - b1;
     }

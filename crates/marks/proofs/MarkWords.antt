@@ -17,7 +17,9 @@ use Rattle.base.specs.Below.{count}
 use Rattle.base.proofs.Counting.{count-ext}
 use Rattle.base.proofs.Lists.{length-table, getD-table}
 use Rattle.base.proofs.Lowest.{first-none, first-found}
+use Rattle.layout.specs.Limits.{Grows}
 use Rattle.layout.specs.Windows.{rowExists, spotOfMark}
+use Rattle.layout.proofs.WindowsCode.{marks-most}
 use Rattle.marks.specs.Words.{bits, marksOf, wordOf}
 use Rattle.marks.specs.Marks.{markCount, noMarks, within, movingMarks, difference, firstUnmarked}
 use Rattle.marks.proofs.MarkSets.{within-use, within-make, within-both, none-within, movingAt, moving-length, moving-at}
@@ -122,6 +124,10 @@ pub record Left (m n s w : ℕ) (marks : List Bool) (left : ℕ) : Type 0 where
   pub most : m * n ≤ 64
   pub fits : left < 2 ^ 64
   pub has : marksOf left ≡ difference (movingMarks m n s w) marks
+
+pub unset-left : (m n s w : ℕ) (marks : List Bool) (left : ℕ) → Grows m n → left < 2 ^ 64
+    → marksOf left ≡ difference (movingMarks m n s w) marks → Left m n s w marks left
+unset-left m n s w marks left g h e = record { most = marks-most m n (g .most); fits = h; has = e }
 
 module _ (m n s w : ℕ) (marks : List Bool) (left : ℕ) (l : Left m n s w marks left) where
   left-at : (j : ℕ) → j < 64 → getD (marksOf left) j false ≡ (movingAt m n s w j && not (getD marks j false))

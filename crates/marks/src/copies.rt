@@ -9,7 +9,7 @@ ghost use Rattle.base.specs.Below.{count};
 ghost use Rattle.layout.specs.History.{history, oldCount, addedCount};
 ghost use Rattle.layout.specs.Limits.{Limits, Grows, mostRows};
 ghost use Rattle.layout.specs.Windows.{windows, rowExists, markedBlocks, nextOfWindow, allCopied, callsLeft, callsLeftByMarks};
-ghost use Rattle.marks.specs.Marks.{movesAt, firstUnmarked, asNextCopy};
+ghost use Rattle.marks.specs.Marks.{movesAt, movingMarks, difference, firstUnmarked, asNextCopy};
 ghost use Rattle.marks.specs.Words.{marksOf};
 use super::NextCopy;
 use super::words::is_within;
@@ -41,14 +41,23 @@ pub fn all_copied(counts: &[usize; 8], t: usize, s: usize, w: usize, copied: usi
     is_within(moving, copied)
 }
 
+// The marks of the moving blocks of window w that are not set.
+fn unset_marks(m: usize, n: usize, s: usize, w: usize, marks: usize) -> usize
+    requires { ⌜ Grows m n ⌝ }
+    requires { ⌜ w ≤ mostRows ⌝ }
+    ensures { λ r. ⌜ marksOf r ≡ difference (movingMarks m n s w) (marksOf marks) ⌝ }
+{
+    let moving = moving_marks(m, n, s, w);
+    without(moving, marks)
+}
+
 // The lowest mark of window w that is not set and whose row exists, or m·n.
 fn first_unmarked(m: usize, n: usize, s: usize, w: usize, marks: usize) -> usize
     requires { ⌜ Grows m n ⌝ }
     requires { ⌜ w ≤ mostRows ⌝ }
     ensures { λ r. ⌜ r ≡ firstUnmarked m n s w (marksOf marks) ⌝ }
 {
-    let moving = moving_marks(m, n, s, w);
-    let left = without(moving, marks);
+    let left = unset_marks(m, n, s, w, marks);
     if left == 0 {
         return m * n;
     }
@@ -81,8 +90,7 @@ fn unmarked(m: usize, n: usize, s: usize, w: usize, marks: usize) -> usize
     requires { ⌜ w ≤ mostRows ⌝ }
     ensures { λ r. ⌜ r ≡ count (λ j. rowExists m n s w j && not (getD (marksOf marks) j false)) (m * n) ⌝ }
 {
-    let moving = moving_marks(m, n, s, w);
-    let left = without(moving, marks);
+    let left = unset_marks(m, n, s, w, marks);
     usize::count_ones(left) as usize
 }
 

@@ -37,8 +37,8 @@ pub fn without(a: usize, b: usize) -> usize
     a & !b
 }
 
-// The marks of disk d, from its lowest on, in a window cut off to so many rows. Its moving blocks are in the n rows of the window from
-// row d on; a mark is set where the row exists.
+// The marks of disk d, from its lowest on, in a window cut off to so many rows: its moving blocks are in the n rows
+// from row d on, and a mark is set where the row exists.
 fn disk_marks(n: usize, rows: usize, d: usize) -> usize
     requires { ⌜ n ≤ mostDisks ⌝ }
     ensures { λ r. ⌜ r + 1 ≡ 2 ^ min n (rows - d) ⌝ }

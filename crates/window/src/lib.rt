@@ -1,4 +1,4 @@
-// The windows of the growth from m disks by n, the marks of their moving blocks, and the calls left: code for
+// The windows of the growth from m disks by n, the marks of their moving blocks, and how many blocks move: code for
 // what `layout` defines in `specs/Windows.antt`.
 //
 // The functions here serve the crates above and are not offered to others: their `requires` are the
@@ -81,8 +81,9 @@ pub fn excess(a: usize, b: usize) -> usize
     a - b
 }
 
-// The moving blocks of a window that is cut off to r rows. Disk d has r - d rows from its own on, triangle(r) in all for the disks below
-// r. Of those, the rows of disks that are not old, and the rows past the n of each disk that move, don't count.
+// The moving blocks of a window that is cut off to r rows. Disk d has r - d rows from row d on, triangle(r) in all for
+// the disks below r. Those of disks that are not old, and those past the n rows in which a disk's blocks move, are
+// taken off.
 fn cut_moves(m: usize, n: usize, r: usize) -> usize
     requires { ⌜ Grows m n ⌝ }
     requires { ⌜ r < m + n ⌝ }

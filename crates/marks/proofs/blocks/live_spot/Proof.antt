@@ -1,8 +1,6 @@
 -- `live_spot` meets its contract. Assumes nothing.
 use Prim.Native.Nat.{_<_}
-use mathlib.Core.Path.{_≡_}
 use mathlib.Core.Logic.{⊎-elim}
-use borrow.Author.Needs.{needs}
 use borrow.Author.Tests.{eq-eqb, ne-eqb}
 use Rattle.layout.specs.History.{history, oldCount}
 use Rattle.layout.proofs.NewestCode.{newest-asks}

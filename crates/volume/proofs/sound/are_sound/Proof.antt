@@ -1,5 +1,5 @@
 -- `are_sound` meets its contract. Assumes nothing.
-use Prim.Native.Nat.{_^_, _<_, _≤_}
+use Prim.Native.Nat.{_^_, _<_}
 use mathlib.Core.Path.{_≡_, sym, _∙_}
 use mathlib.Core.Bool.{true, false}
 use lib.Dec.{leb}
@@ -9,7 +9,7 @@ use Rattle.base.proofs.Booleans.{and-both}
 use Rattle.layout.specs.History.{diskCount, rising}
 use Rattle.layout.specs.Limits.{mostDisks, mostGrowths}
 use Rattle.layout.proofs.HistoryCode.{history-disks}
-use Rattle.marks.specs.Marks.{markCount, zerosAfter}
+use Rattle.marks.specs.Marks.{markCount}
 use Rattle.volume.specs.declared.Volume.{Volume}
 use Rattle.volume.specs.Sound.{sizeHolds, rowsHold, limitsHold, stageHolds, typesHold, sound}
 use Rattle.volume.specs.States.{historyOf}
