@@ -1,25 +1,26 @@
 -- What the code of the exported functions needs: the tests of the lengths, and what load puts and leaves. Assumes nothing.
 use Prim.Native.Nat.{ℕ}
-use mathlib.Core.Path.{_≡_, ap, _∙_}
-use mathlib.Core.Bool.{true, false, cond}
+use mathlib.Core.Path.{_≡_, sym, ap, _∙_}
+use mathlib.Core.Bool.{Bool, true, false, cond, not}
 use mathlib.Core.List.{List, [], _∷_, _++_, append-nil}
 use mathlib.Core.Logic.{_≢_}
 use native.Mathlib.Omega.{arith}
 use lib.Dec.{eqb}
 use lib.ListN.{length, take, drop, set, drop-of-length-le}
-use borrow.Author.Tests.{eq-eqb, ne-eqb}
+use borrow.Author.Tests.{eq-eqb, ne-eqb, not-true, not-false}
 use Rattle.base.specs.Refusals.{refusal}
 use Rattle.base.proofs.Booleans.{and-left, by-test}
 use Rattle.medium.specs.declared.Geometry.{Geometry}
 use Rattle.medium.specs.Medium.{Observations, apply}
 use Rattle.volume.specs.declared.Volume.{Volume}
-use Rattle.volume.specs.Calls.{refused, formatTable, formatOutcome}
+use Rattle.volume.specs.Calls.{refused, doing, formatTable, formatEffect, formatOutcome}
 use Rattle.scene_load.specs.declared.Load.{Load}
 use Rattle.scene_load.specs.declared.Scene.{Scene}
 use Rattle.scene_load.specs.Loads.{loadOf, loadNumber}
-use Rattle.capi.specs.Exported.{wrongLength, lengthsFit, untouched, lookedUp, stateTaken, loadLeft}
+use Rattle.capi.specs.Exported.{wrongLength, lengthsFit, stateFits, untouched, lookedUp, stateTaken, loadLeft}
 use Rattle.capi.specs.Figures.{loadFigures}
-use Rattle.capi.specs.Words.{stateWords, stateFrom}
+use Rattle.capi.specs.Words.{stateWords, stateFrom, areState}
+use Rattle.capi.proofs.WordLaws.{state-words}
 
 pub words-wrong : (words : List ℕ) (n : ℕ) (figures : List ℕ) → length words ≢ stateWords → lengthsFit words n figures ≡ false
 unfolding lengthsFit
@@ -33,10 +34,31 @@ pub lengths-right : (words : List ℕ) (n : ℕ) (figures : List ℕ) → length
 unfolding lengthsFit
 lengths-right words n figures e f = rw (eq-eqb (length words) stateWords e, eq-eqb (length figures) n f)
 
+-- the same of the tests of a state: what `is_state` tells
+pub words-length : (words : List ℕ) (told : Bool) → told ≡ areState words → not told ≡ false → length words ≡ stateWords
+words-length words told e h = state-words words (sym e ∙ not-false told h) .count
+
+module _ (words : List ℕ) (n : ℕ) (figures : List ℕ) (told : Bool) (e : told ≡ areState words) where
+  pub no-state : not told ≡ true → stateFits words n figures ≡ false
+  unfolding stateFits
+  no-state h = rw (← e, not-true told h)
+
+  module _ (h : not told ≡ false) where
+    are-state : areState words ≡ true
+    are-state = sym e ∙ not-false told h
+
+    pub state-figures-wrong : length figures ≢ n → stateFits words n figures ≡ false
+    unfolding stateFits
+    state-figures-wrong f = rw (are-state, ne-eqb (length figures) n f)
+
+    pub state-right : length figures ≡ n → stateFits words n figures ≡ true
+    unfolding stateFits
+    state-right f = rw (are-state, eq-eqb (length figures) n f)
+
 -- the store of format does not look at blocks and rows
 pub format-stores : (z s n : ℕ) (o : Observations) (g k : Geometry) (m after : List ℕ) → after ≡ apply g (formatOutcome z s n o .store) m
     → after ≡ apply k (formatOutcome z s n o .store) m
-unfolding formatOutcome refused apply
+unfolding formatOutcome formatEffect doing refused apply
 format-stores z s n o g k m after =
     by-test (eqb (refusal (formatTable z s n (o .byteCount))) 0) (λ t. rw t (λ e. e)) (λ t. rw t (λ e. e))
 
@@ -51,17 +73,17 @@ load-put figures served put place told e p q = rw (p, q) (first-put figures e)
 
 -- what the calls of `streterva_load` leave is what it says: where the lengths fit, the state is that of the words
 module _ (words : List ℕ) (scenes : List Scene) (figures : List ℕ) where
-  taken : lengthsFit words 17 figures ≡ true → stateTaken words ≡ stateFrom words
-  unfolding lengthsFit
-  taken e = rw (and-left (eqb (length words) stateWords) (eqb (length figures) 17) e)
+  taken : stateFits words 17 figures ≡ true → stateTaken words ≡ stateFrom words
+  unfolding stateFits
+  taken e = rw (and-left (areState words) (eqb (length figures) 17) e)
 
   pub load-left : (v : Volume) (load : Load) (n : ℕ) (after : List ℕ) → v ≡ stateTaken words → load ≡ loadOf v scenes
-      → (n ≡ cond (lengthsFit words 17 figures) (loadNumber (load .answer)) wrongLength)
-      × (after ≡ cond (lengthsFit words 17 figures) (loadFigures load) figures)
+      → (n ≡ cond (stateFits words 17 figures) (loadNumber (load .answer)) wrongLength)
+      × (after ≡ cond (stateFits words 17 figures) (loadFigures load) figures)
       → (n ≡ loadLeft words scenes figures .number) × (after ≡ loadLeft words scenes figures .figures)
   unfolding loadLeft lookedUp untouched
   load-left v load n after e f g =
-      by-test (lengthsFit words 17 figures)
+      by-test (stateFits words 17 figures)
       (λ t.
       let same : load ≡ loadOf (stateFrom words) scenes = f ∙ ap (λ (s : Volume). loadOf s scenes) (e ∙ taken t) in
       rw (t, ← same) (rw t at (g .0), rw t at (g .1)))

@@ -6,14 +6,15 @@ use mathlib.Core.Bool.{Bool, true, false, cond, _&&_, false≢true}
 use mathlib.Core.List.{List, [], _∷_}
 use mathlib.Core.Logic.{_≢_}
 use native.Mathlib.Omega.{arith}
-use lib.Dec.{ltb}
-use lib.ListN.{length, replicate}
+use lib.Dec.{eqb, ltb}
+use lib.ListN.{length, take, replicate}
 use borrow.Author.Tests.{ltb-true}
 use Rattle.base.specs.Refusals.{refusal}
 use Rattle.base.proofs.Booleans.{cond-cases, and-left, and-right}
 use Rattle.layout.specs.declared.Spot.{Spot}
 use Rattle.layout.specs.Limits.{mostDisks}
 use Rattle.medium.specs.Medium.{Observations}
+use Rattle.volume.specs.declared.Pending.{Pending}
 use Rattle.volume.specs.declared.Volume.{Volume}
 use Rattle.volume.specs.declared.Answer.{Answer}
 use Rattle.volume.specs.declared.Answer.the-variants.{Refused, Done, CallsLeft, Told}
@@ -22,20 +23,21 @@ use Rattle.volume.specs.declared.AddressAnswer.the-variants as address
 use Rattle.volume.specs.declared.HolderAnswer.{HolderAnswer}
 use Rattle.volume.specs.declared.HolderAnswer.the-variants as holder
 use Rattle.volume.specs.Answers.{number, callsTold, addressNumber, holderNumber, blockTold}
-use Rattle.volume.specs.Calls.{Outcome, refused, formatTable, formatOutcome, restartTable, restartOutcome, growTable, growOutcome, writeTable, writeOutcome, readTable, readOutcome, copyTable, copyOutcome, checkpointTable, checkpointOutcome, advanceTable, advanceOutcome, addressTable, addressReply, holderTable, holderReply}
+use Rattle.volume.specs.Calls.{Outcome, refused, formatTable, formatOutcome, restartTable, restartOutcome, growTable, growOutcome, writeTable, writeOutcome, readTable, readOutcome, flushedTable, flushedEffect, flushedOutcome, doing, writeEffect, readEffect, copyTable, copyOutcome, checkpointTable, checkpointOutcome, advanceTable, advanceOutcome, addressTable, addressReply, holderTable, holderReply}
 use Rattle.volume.specs.Laws.{Refuses}
 use Rattle.volume.specs.Records.{numbersOf}
-use Rattle.volume.specs.States.{newState, zeros}
+use Rattle.volume.specs.States.{nonePending, pendingWith, newState, withPending, zeros}
 use Rattle.volume.proofs.Judged.{judged-cases}
+use Rattle.volume.proofs.RecordCode.{eight-listed}
 use Rattle.volume.proofs.Theorems.{volume-laws}
 use Rattle.scene_load.specs.declared.Scene.{Scene}
 use Rattle.scene_load.specs.Loads.{placeTold, loadTable, loadOf, loadNumber}
 use Rattle.scene_load.proofs.Theorems.{load-laws}
-use Rattle.capi.specs.Exported.{Left, wrongLength, lengthsFit, untouched, handedBack, lookedUp, formatLeft, restartLeft, growLeft, copyLeft, checkpointLeft, advanceLeft, writeLeft, readLeft, addressLeft, holderLeft, loadLeft}
+use Rattle.capi.specs.Exported.{Left, wrongLength, lengthsFit, stateFits, untouched, handedBack, lookedUp, formatLeft, restartLeft, growLeft, copyLeft, checkpointLeft, advanceLeft, writeLeft, readLeft, flushedLeft, addressLeft, holderLeft, loadLeft}
 use Rattle.capi.specs.Figures.{toldFigures, noFigures, callsFigures, advanceFigures, addressFigures, holderFigures}
-use Rattle.capi.specs.Laws.{Words, RefusedLeft}
-use Rattle.capi.specs.Words.{stateWords, wordsOf, stateFrom}
-use Rattle.capi.proofs.WordLaws.{words-back}
+use Rattle.capi.specs.Laws.{RefusedLeft}
+use Rattle.capi.specs.Words.{stateWords, pendingWord, wordsOf, stateFrom, areState}
+use Rattle.capi.proofs.WordLaws.{state-arrays, words-back, state-words}
 
 -- ---- numbers
 
@@ -103,6 +105,10 @@ module _ (v : Volume) where
   read-number x piece o =
       other-number (readTable v x (length piece) (o .byteCount)) _ (volume-laws .read-refuses v x piece o .number-told) refl
 
+  pub flushed-number : number (flushedOutcome v .reply .answer) ≢ wrongLength
+  unfolding flushedTable
+  flushed-number = other-number (flushedTable v) _ (volume-laws .flushed-refuses v .number-told) refl
+
 -- ---- figures of refusals
 
 calls-zero : (a : Answer) → number a ≢ 0 → callsFigures a ≡ replicate 1 0
@@ -134,7 +140,7 @@ holder-zero (holder.Has x) h = absurd (h refl)
 -- a call that has refused a state
 module _ (words : List ℕ) (figureCount : ℕ) (figuresOf : Answer → List ℕ)
     (zero-figures : (a : Answer) → number a ≢ 0 → figuresOf a ≡ replicate figureCount 0) where
-  refused-left : {table : List (ℕ × Bool)} {v : Volume} {out : Outcome} (fits : Bool) (other : Left) → Refuses table v [] out
+  refused-left : {table : List (ℕ × Bool)} {v : Volume} {piece : List ℕ} {out : Outcome} (fits : Bool) (other : Left) → Refuses table v piece out
       → wordsOf v ≡ words → fits ≡ true → cond fits (handedBack figuresOf out) other .number ≢ 0
       → RefusedLeft words figureCount (cond fits (handedBack figuresOf out) other)
   unfolding handedBack
@@ -156,50 +162,69 @@ looked-left words figureCount k figures true other none e h = record { words-kep
 looked-left words figureCount k figures false other none e h = absurd (false≢true e)
 
 module _ (words : List ℕ) where
-  pub grow-refused : (count : ℕ) (figures : List ℕ) (o : Observations) → Words words
-      → lengthsFit words 1 figures ≡ true → growLeft words count figures o .number ≢ 0 → RefusedLeft words 1 (growLeft words count figures o)
+  -- words that fit are those of their state
+  fits-back : (figureCount : ℕ) (figures : List ℕ) → stateFits words figureCount figures ≡ true → wordsOf (stateFrom words) ≡ words
+  unfolding stateFits
+  fits-back figureCount figures e =
+      words-back words (state-words words (and-left (areState words) (eqb (length figures) figureCount) e))
+
+  pub grow-refused : (count : ℕ) (figures : List ℕ) (o : Observations)
+      → stateFits words 1 figures ≡ true → growLeft words count figures o .number ≢ 0 → RefusedLeft words 1 (growLeft words count figures o)
   unfolding growLeft
-  grow-refused count figures o f =
-      refused-left words 1 callsFigures calls-zero (lengthsFit words 1 figures) (untouched words figures [])
-      (volume-laws .grow-refuses (stateFrom words) count o) (words-back words f)
+  grow-refused count figures o e =
+      refused-left words 1 callsFigures calls-zero (stateFits words 1 figures) (untouched words figures [])
+      (volume-laws .grow-refuses (stateFrom words) count o) (fits-back 1 figures e) e
 
-  pub copy-refused : (x : ℕ) (figures : List ℕ) (o : Observations) → Words words
-      → lengthsFit words 1 figures ≡ true → copyLeft words x figures o .number ≢ 0 → RefusedLeft words 1 (copyLeft words x figures o)
+  pub copy-refused : (x : ℕ) (figures : List ℕ) (o : Observations)
+      → stateFits words 1 figures ≡ true → copyLeft words x figures o .number ≢ 0 → RefusedLeft words 1 (copyLeft words x figures o)
   unfolding copyLeft
-  copy-refused x figures o f =
-      refused-left words 1 callsFigures calls-zero (lengthsFit words 1 figures) (untouched words figures [])
-      (volume-laws .copy-refuses (stateFrom words) x o) (words-back words f)
+  copy-refused x figures o e =
+      refused-left words 1 callsFigures calls-zero (stateFits words 1 figures) (untouched words figures [])
+      (volume-laws .copy-refuses (stateFrom words) x o) (fits-back 1 figures e) e
 
-  pub checkpoint-refused : (figures : List ℕ) (o : Observations) → Words words
-      → lengthsFit words 1 figures ≡ true → checkpointLeft words figures o .number ≢ 0 → RefusedLeft words 1 (checkpointLeft words figures o)
+  pub checkpoint-refused : (figures : List ℕ) (o : Observations)
+      → stateFits words 1 figures ≡ true → checkpointLeft words figures o .number ≢ 0 → RefusedLeft words 1 (checkpointLeft words figures o)
   unfolding checkpointLeft
-  checkpoint-refused figures o f =
-      refused-left words 1 callsFigures calls-zero (lengthsFit words 1 figures) (untouched words figures [])
-      (volume-laws .checkpoint-refuses (stateFrom words) o) (words-back words f)
+  checkpoint-refused figures o e =
+      refused-left words 1 callsFigures calls-zero (stateFits words 1 figures) (untouched words figures [])
+      (volume-laws .checkpoint-refuses (stateFrom words) o) (fits-back 1 figures e) e
 
-  pub advance-refused : (figures : List ℕ) (o : Observations) → Words words
-      → lengthsFit words 4 figures ≡ true → advanceLeft words figures o .number ≢ 0 → RefusedLeft words 4 (advanceLeft words figures o)
+  pub advance-refused : (figures : List ℕ) (o : Observations)
+      → stateFits words 4 figures ≡ true → advanceLeft words figures o .number ≢ 0 → RefusedLeft words 4 (advanceLeft words figures o)
   unfolding advanceLeft
-  advance-refused figures o f =
-      refused-left words 4 advanceFigures advance-zero (lengthsFit words 4 figures) (untouched words figures [])
-      (volume-laws .advance-refuses (stateFrom words) o) (words-back words f)
+  advance-refused figures o e =
+      refused-left words 4 advanceFigures advance-zero (stateFits words 4 figures) (untouched words figures [])
+      (volume-laws .advance-refuses (stateFrom words) o) (fits-back 4 figures e) e
+
+  pub write-refused : (x : ℕ) (piece : List ℕ) (o : Observations)
+      → stateFits words 0 [] ≡ true → writeLeft words x piece o .number ≢ 0 → RefusedLeft words 0 (writeLeft words x piece o)
+  unfolding writeLeft
+  write-refused x piece o e =
+      refused-left words 0 noFigures (λ _ _. refl) (stateFits words 0 []) (untouched words [] piece)
+      (volume-laws .write-refuses (stateFrom words) x piece o) (fits-back 0 [] e) e
+
+  pub flushed-refused : stateFits words 0 [] ≡ true → flushedLeft words .number ≢ 0 → RefusedLeft words 0 (flushedLeft words)
+  unfolding flushedLeft
+  flushed-refused e =
+      refused-left words 0 noFigures (λ _ _. refl) (stateFits words 0 []) (untouched words [] [])
+      (volume-laws .flushed-refuses (stateFrom words)) (fits-back 0 [] e) e
 
   pub address-refused : (x : ℕ) (figures : List ℕ)
-      → lengthsFit words 5 figures ≡ true → addressLeft words x figures .number ≢ 0 → RefusedLeft words 5 (addressLeft words x figures)
+      → stateFits words 5 figures ≡ true → addressLeft words x figures .number ≢ 0 → RefusedLeft words 5 (addressLeft words x figures)
   unfolding addressLeft
   address-refused x figures =
       let answer = addressReply (stateFrom words) x .answer in
-      looked-left words 5 (addressNumber answer) (addressFigures answer) (lengthsFit words 5 figures) (untouched words figures []) (address-zero answer)
+      looked-left words 5 (addressNumber answer) (addressFigures answer) (stateFits words 5 figures) (untouched words figures []) (address-zero answer)
 
   pub holder-refused : (p : Spot) (figures : List ℕ)
-      → lengthsFit words 1 figures ≡ true → holderLeft words p figures .number ≢ 0 → RefusedLeft words 1 (holderLeft words p figures)
+      → stateFits words 1 figures ≡ true → holderLeft words p figures .number ≢ 0 → RefusedLeft words 1 (holderLeft words p figures)
   unfolding holderLeft
   holder-refused p figures =
       let answer = holderReply (stateFrom words) p .answer in
-      looked-left words 1 (holderNumber answer) (holderFigures answer) (lengthsFit words 1 figures) (untouched words figures []) (holder-zero answer)
+      looked-left words 1 (holderNumber answer) (holderFigures answer) (stateFits words 1 figures) (untouched words figures []) (holder-zero answer)
 
   pub load-refused : (scenes : List Scene) (figures : List ℕ)
-      → lengthsFit words 17 figures ≡ true → loadLeft words scenes figures .number ≢ 0
+      → stateFits words 17 figures ≡ true → loadLeft words scenes figures .number ≢ 0
       → loadLeft words scenes figures .figures ≡ placeTold (loadOf (stateFrom words) scenes .answer) ∷ replicate mostDisks 0
   unfolding loadLeft lookedUp
   load-refused scenes figures e h =
@@ -210,7 +235,7 @@ module _ (words : List ℕ) where
 -- ---- restart, which hands back a state of zeros
 
 zero-words : wordsOf zeros ≡ replicate stateWords 0
-unfolding wordsOf numbersOf zeros newState
+unfolding wordsOf numbersOf pendingWord zeros newState nonePending
 zero-words = refl
 
 pub format-refused : (words : List ℕ) (z s n : ℕ) (o : Observations)
@@ -228,30 +253,51 @@ restart-refused words figures o =
     refused-left (replicate stateWords 0) 1 callsFigures calls-zero (lengthsFit words 1 figures) (untouched words figures [])
     (volume-laws .restart-refuses o) zero-words
 
--- ---- write and read, which hand back the state
+-- ---- write and flushed, which change the last word, and read, which hands back the state
 
-module _ (v : Volume) (x : ℕ) (piece : List ℕ) (o : Observations) where
-  write-state : writeOutcome v x piece o .reply .state ≡ v
-  unfolding writeOutcome refused
-  write-state =
-      judged-cases (λ (out : Outcome). out .reply .state ≡ v) (writeTable v x (length piece) (o .byteCount))
-      (λ k. refused v k piece) _ (λ _. refl) (λ _. refl)
+-- what is pending is the last word
+first-words : (v : Volume) (p : Pending) → length (v .counts) ≡ 8 → take 15 (wordsOf (withPending v p)) ≡ take 15 (wordsOf v)
+unfolding wordsOf withPending numbersOf
+first-words v p e = rw (eight-listed (v .counts) e)
 
-  read-state : readOutcome v x piece o .reply .state ≡ v
-  unfolding readOutcome refused
-  read-state =
-      judged-cases (λ (out : Outcome). out .reply .state ≡ v) (readTable v x (length piece) (o .byteCount))
-      (λ k. refused v k piece) _ (λ _. refl) (λ _. refl)
+module _ (v : Volume) (e : length (v .counts) ≡ 8) where
+  abbrev keepsFirst : Outcome → Type 0
+  keepsFirst out = take 15 (wordsOf (out .reply .state)) ≡ take 15 (wordsOf v)
 
-module _ (words : List ℕ) (x : ℕ) (piece : List ℕ) (o : Observations) (f : Words words) where
-  pub write-keeps : writeLeft words x piece o .words ≡ words
+  write-first : (x : ℕ) (piece : List ℕ) (o : Observations) → keepsFirst (writeOutcome v x piece o)
+  unfolding writeOutcome writeEffect doing refused
+  write-first x piece o =
+      judged-cases keepsFirst (writeTable v x (length piece) (o .byteCount)) (λ k. refused v k piece) _ (λ _. first-words v _ e) (λ _. refl)
+
+  flushed-first : keepsFirst (flushedOutcome v)
+  unfolding flushedOutcome flushedEffect doing refused withPending pendingWith
+  flushed-first = judged-cases keepsFirst (flushedTable v) (λ k. refused v k []) _ (λ _. first-words v nonePending e) (λ _. refl)
+
+read-state : (v : Volume) (x : ℕ) (piece : List ℕ) (o : Observations) → readOutcome v x piece o .reply .state ≡ v
+unfolding readOutcome readEffect doing refused withPending pendingWith
+read-state v x piece o =
+    judged-cases (λ (out : Outcome). out .reply .state ≡ v) (readTable v x (length piece) (o .byteCount))
+    (λ k. refused v k piece) _ (λ _. refl) (λ _. refl)
+
+module _ (words : List ℕ) where
+  counts-of : stateFits words 0 [] ≡ true → length (stateFrom words .counts) ≡ 8
+  unfolding stateFits
+  counts-of e = state-arrays words (state-words words (and-left (areState words) (eqb (length {A = ℕ} []) 0) e) .count) .counts-length
+
+  pub write-keeps : (x : ℕ) (piece : List ℕ) (o : Observations) → take 15 (writeLeft words x piece o .words) ≡ take 15 words
   unfolding writeLeft handedBack untouched
-  write-keeps =
-      cond-cases (λ (left : Left). left .words ≡ words) (lengthsFit words 0 [])
-      (λ _. ap wordsOf (write-state (stateFrom words) x piece o) ∙ words-back words f) (λ _. refl)
+  write-keeps x piece o =
+      cond-cases (λ (left : Left). take 15 (left .words) ≡ take 15 words) (stateFits words 0 [])
+      (λ e. write-first (stateFrom words) (counts-of e) x piece o ∙ ap (take 15) (fits-back words 0 [] e)) (λ _. refl)
 
-  pub read-keeps : readLeft words x piece o .words ≡ words
+  pub flushed-keeps : take 15 (flushedLeft words .words) ≡ take 15 words
+  unfolding flushedLeft handedBack untouched
+  flushed-keeps =
+      cond-cases (λ (left : Left). take 15 (left .words) ≡ take 15 words) (stateFits words 0 [])
+      (λ e. flushed-first (stateFrom words) (counts-of e) ∙ ap (take 15) (fits-back words 0 [] e)) (λ _. refl)
+
+  pub read-keeps : (x : ℕ) (piece : List ℕ) (o : Observations) → readLeft words x piece o .words ≡ words
   unfolding readLeft handedBack untouched
-  read-keeps =
-      cond-cases (λ (left : Left). left .words ≡ words) (lengthsFit words 0 [])
-      (λ _. ap wordsOf (read-state (stateFrom words) x piece o) ∙ words-back words f) (λ _. refl)
+  read-keeps x piece o =
+      cond-cases (λ (left : Left). left .words ≡ words) (stateFits words 0 [])
+      (λ e. ap wordsOf (read-state (stateFrom words) x piece o) ∙ fits-back words 0 [] e) (λ _. refl)

@@ -1,6 +1,6 @@
 -- The laws of words and of the exported functions: `capi-laws` proves all of `CapiLaws` in `specs/Laws.antt`. Assumes nothing.
 use Rattle.capi.specs.Laws.{CapiLaws}
-use Rattle.capi.proofs.RefusedLaws.{format-number, restart-number, grow-number, copy-number, checkpoint-number, advance-number, write-number, read-number, address-number, holder-number, load-number, grow-refused, copy-refused, checkpoint-refused, advance-refused, format-refused, restart-refused, address-refused, holder-refused, load-refused, write-keeps, read-keeps}
+use Rattle.capi.proofs.RefusedLaws.{format-number, restart-number, grow-number, copy-number, checkpoint-number, advance-number, write-number, read-number, flushed-number, address-number, holder-number, load-number, grow-refused, copy-refused, checkpoint-refused, advance-refused, format-refused, restart-refused, address-refused, holder-refused, load-refused, write-refused, flushed-refused, write-keeps, flushed-keeps, read-keeps}
 use Rattle.capi.proofs.WordLaws.{words-count, state-back, state-arrays, words-back}
 
 pub capi-laws : CapiLaws
@@ -18,6 +18,7 @@ capi-laws =
       advance-number = advance-number;
       write-number = write-number;
       read-number = read-number;
+      flushed-number = flushed-number;
       address-number = address-number;
       holder-number = holder-number;
       load-number = load-number;
@@ -30,6 +31,9 @@ capi-laws =
       address-refused = address-refused;
       holder-refused = holder-refused;
       load-refused = load-refused;
+      write-refused = write-refused;
+      flushed-refused = flushed-refused;
       write-keeps = write-keeps;
+      flushed-keeps = flushed-keeps;
       read-keeps = read-keeps;
     }

@@ -10,13 +10,13 @@ use Rattle.medium.specs.Medium.{Observations, Store, noStore}
 use Rattle.volume.specs.declared.Answer.{Answer}
 use Rattle.volume.specs.declared.Volume.{Volume}
 use Rattle.volume.specs.Answers.{number, addressNumber, holderNumber}
-use Rattle.volume.specs.Calls.{Outcome, formatOutcome, restartOutcome, growOutcome, copyOutcome, checkpointOutcome, advanceOutcome, writeOutcome, readOutcome, addressReply, holderReply}
+use Rattle.volume.specs.Calls.{Outcome, formatOutcome, restartOutcome, growOutcome, copyOutcome, checkpointOutcome, advanceOutcome, writeOutcome, readOutcome, flushedOutcome, addressReply, holderReply}
 use Rattle.volume.specs.Sound.{sound}
 use Rattle.volume.specs.States.{zeros}
 use Rattle.scene_load.specs.declared.Scene.{Scene}
 use Rattle.scene_load.specs.Loads.{loadOf, loadNumber}
 use Rattle.capi.specs.Figures.{noFigures, callsFigures, advanceFigures, addressFigures, holderFigures, loadFigures}
-use Rattle.capi.specs.Words.{stateWords, wordsOf, stateFrom}
+use Rattle.capi.specs.Words.{stateWords, wordsOf, stateFrom, areState}
 
 pub record Left : Type 0 where
   pub number : ℕ
@@ -25,13 +25,16 @@ pub record Left : Type 0 where
   pub store : Store
   pub piece : List ℕ
 
--- the number where the lent words or figures have the wrong length; no call has it
+-- the number where the lent words are no state's or the lent figures have the wrong length; no call has it
 abbrev pub wrongLength : ℕ
 wrongLength = 100
 
--- do the words of a state and so many figures fit the lent slices
+-- do the words of a state and so many figures fit the lent slices; are the words a state's besides
 unfoldable pub lengthsFit : (words : List ℕ) (figureCount : ℕ) (figures : List ℕ) → Bool
 lengthsFit words figureCount figures = eqb (length words) stateWords && eqb (length figures) figureCount
+
+unfoldable pub stateFits : (words : List ℕ) (figureCount : ℕ) (figures : List ℕ) → Bool
+stateFits words figureCount figures = areState words && eqb (length figures) figureCount
 
 -- "nothing touched"
 unfoldable pub untouched : (words figures piece : List ℕ) → Left
@@ -63,48 +66,52 @@ restartLeft words figures o =
 
 unfoldable pub growLeft : (words : List ℕ) (count : ℕ) (figures : List ℕ) (o : Observations) → Left
 growLeft words count figures o =
-    cond (lengthsFit words 1 figures) (handedBack callsFigures (growOutcome (stateFrom words) count o)) (untouched words figures [])
+    cond (stateFits words 1 figures) (handedBack callsFigures (growOutcome (stateFrom words) count o)) (untouched words figures [])
 
 unfoldable pub copyLeft : (words : List ℕ) (x : ℕ) (figures : List ℕ) (o : Observations) → Left
 copyLeft words x figures o =
-    cond (lengthsFit words 1 figures) (handedBack callsFigures (copyOutcome (stateFrom words) x o)) (untouched words figures [])
+    cond (stateFits words 1 figures) (handedBack callsFigures (copyOutcome (stateFrom words) x o)) (untouched words figures [])
 
 unfoldable pub checkpointLeft : (words figures : List ℕ) (o : Observations) → Left
 checkpointLeft words figures o =
-    cond (lengthsFit words 1 figures) (handedBack callsFigures (checkpointOutcome (stateFrom words) o)) (untouched words figures [])
+    cond (stateFits words 1 figures) (handedBack callsFigures (checkpointOutcome (stateFrom words) o)) (untouched words figures [])
 
 unfoldable pub advanceLeft : (words figures : List ℕ) (o : Observations) → Left
 advanceLeft words figures o =
-    cond (lengthsFit words 4 figures) (handedBack advanceFigures (advanceOutcome (stateFrom words) o)) (untouched words figures [])
+    cond (stateFits words 4 figures) (handedBack advanceFigures (advanceOutcome (stateFrom words) o)) (untouched words figures [])
 
 unfoldable pub writeLeft : (words : List ℕ) (x : ℕ) (piece : List ℕ) (o : Observations) → Left
 writeLeft words x piece o =
-    cond (lengthsFit words 0 []) (handedBack noFigures (writeOutcome (stateFrom words) x piece o)) (untouched words [] piece)
+    cond (stateFits words 0 []) (handedBack noFigures (writeOutcome (stateFrom words) x piece o)) (untouched words [] piece)
 
 unfoldable pub readLeft : (words : List ℕ) (x : ℕ) (piece : List ℕ) (o : Observations) → Left
 readLeft words x piece o =
-    cond (lengthsFit words 0 []) (handedBack noFigures (readOutcome (stateFrom words) x piece o)) (untouched words [] piece)
+    cond (stateFits words 0 []) (handedBack noFigures (readOutcome (stateFrom words) x piece o)) (untouched words [] piece)
 
 unfoldable pub addressLeft : (words : List ℕ) (x : ℕ) (figures : List ℕ) → Left
 addressLeft words x figures =
     let answer = addressReply (stateFrom words) x .answer in
-    cond (lengthsFit words 5 figures) (lookedUp (addressNumber answer) (addressFigures answer) words) (untouched words figures [])
+    cond (stateFits words 5 figures) (lookedUp (addressNumber answer) (addressFigures answer) words) (untouched words figures [])
 
 unfoldable pub holderLeft : (words : List ℕ) (p : Spot) (figures : List ℕ) → Left
 holderLeft words p figures =
     let answer = holderReply (stateFrom words) p .answer in
-    cond (lengthsFit words 1 figures) (lookedUp (holderNumber answer) (holderFigures answer) words) (untouched words figures [])
+    cond (stateFits words 1 figures) (lookedUp (holderNumber answer) (holderFigures answer) words) (untouched words figures [])
 
--- Document 02, W2. The scenes are walked with the state of zeros where the words have the wrong length.
+-- Document 02, W4: "flushed tells us that all earlier stores are down"
+unfoldable pub flushedLeft : (words : List ℕ) → Left
+flushedLeft words = cond (stateFits words 0 []) (handedBack noFigures (flushedOutcome (stateFrom words))) (untouched words [] [])
+
+-- Document 02, W2. The scenes are walked with the state of zeros where the words are no state's.
 abbrev pub stateTaken : (words : List ℕ) → Volume
-stateTaken words = cond (eqb (length words) stateWords) (stateFrom words) zeros
+stateTaken words = cond (areState words) (stateFrom words) zeros
 
 unfoldable pub loadLeft : (words : List ℕ) (scenes : List Scene) (figures : List ℕ) → Left
 loadLeft words scenes figures =
     let load = loadOf (stateFrom words) scenes in
-    cond (lengthsFit words 17 figures) (lookedUp (loadNumber (load .answer)) (loadFigures load) words) (untouched words figures [])
+    cond (stateFits words 17 figures) (lookedUp (loadNumber (load .answer)) (loadFigures load) words) (untouched words figures [])
 
 -- "1: state not sound", asked alone
 unfoldable pub soundnessLeft : (words : List ℕ) → Left
 soundnessLeft words =
-    cond (lengthsFit words 0 []) (lookedUp (cond (sound (stateFrom words)) 0 1) [] words) (untouched words [] [])
+    cond (stateFits words 0 []) (lookedUp (cond (sound (stateFrom words)) 0 1) [] words) (untouched words [] [])

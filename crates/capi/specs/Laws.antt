@@ -1,29 +1,29 @@
 -- What is proved of the words of a state and of the exported functions: `CapiLaws`. `proofs/Theorems.antt` has the proof. Assumes nothing.
-use Prim.Native.Nat.{ℕ, _^_, _<_}
+use Prim.Native.Nat.{ℕ, _≤_}
 use mathlib.Core.Path.{_≡_}
 use mathlib.Core.Bool.{true}
 use mathlib.Core.List.{List, [], _∷_}
 use mathlib.Core.Logic.{_≢_}
-use lib.ListN.{length, getD, replicate}
+use lib.ListN.{length, take, getD, replicate}
 use Rattle.layout.specs.declared.Spot.{Spot}
 use Rattle.layout.specs.Limits.{mostDisks}
 use Rattle.medium.specs.Medium.{Observations, noStore}
 use Rattle.volume.specs.declared.Volume.{Volume}
 use Rattle.volume.specs.Answers.{number, addressNumber, holderNumber}
-use Rattle.volume.specs.Calls.{formatOutcome, restartOutcome, growOutcome, copyOutcome, checkpointOutcome, advanceOutcome, writeOutcome, readOutcome, addressReply, holderReply}
+use Rattle.volume.specs.Calls.{formatOutcome, restartOutcome, growOutcome, copyOutcome, checkpointOutcome, advanceOutcome, writeOutcome, readOutcome, flushedOutcome, addressReply, holderReply}
 use Rattle.scene_load.specs.declared.Scene.{Scene}
 use Rattle.scene_load.specs.Loads.{placeTold, loadOf, loadNumber}
-use Rattle.capi.specs.Exported.{Left, wrongLength, lengthsFit, formatLeft, restartLeft, growLeft, copyLeft, checkpointLeft, advanceLeft, writeLeft, readLeft, addressLeft, holderLeft, loadLeft}
-use Rattle.capi.specs.Words.{stateWords, wordsOf, stateFrom}
+use Rattle.capi.specs.Exported.{Left, wrongLength, lengthsFit, stateFits, formatLeft, restartLeft, growLeft, copyLeft, checkpointLeft, advanceLeft, writeLeft, readLeft, flushedLeft, addressLeft, holderLeft, loadLeft}
+use Rattle.capi.specs.Words.{stateWords, wordsOf, stateFrom, mostPending}
 
 -- the lengths that the types of the code give the arrays of a state
 pub record Arrays (v : Volume) : Type 0 where
   pub counts-length : length (v .counts) ≡ 8
 
--- fifteen numbers of 64 bits
+-- sixteen numbers, of which the last says what is pending
 pub record Words (words : List ℕ) : Type 0 where
   pub count : length words ≡ stateWords
-  pub each : (i : ℕ) → i < stateWords → getD words i 0 < 2 ^ 64
+  pub pending-most : getD words 15 0 ≤ mostPending
 
 -- what a call leaves that refuses a state: the words as they were, zeros as figures, nothing stored
 pub record RefusedLeft (words : List ℕ) (figureCount : ℕ) (left : Left) : Type 0 where
@@ -32,7 +32,7 @@ pub record RefusedLeft (words : List ℕ) (figureCount : ℕ) (left : Left) : Ty
   pub nothing-stored : left .store ≡ noStore
 
 pub record CapiLaws : Type 0 where
-  -- the two conversions are inverse: every state is fifteen words, and all fifteen words are a state
+  -- the two conversions are inverse: every state is sixteen words, and such words are a state
   pub words-count : (v : Volume) → Arrays v → length (wordsOf v) ≡ stateWords
   pub state-back : (v : Volume) → Arrays v → stateFrom (wordsOf v) ≡ v
   pub state-arrays : (words : List ℕ) → length words ≡ stateWords → Arrays (stateFrom words)
@@ -46,30 +46,36 @@ pub record CapiLaws : Type 0 where
   pub advance-number : (v : Volume) (o : Observations) → number (advanceOutcome v o .reply .answer) ≢ wrongLength
   pub write-number : (v : Volume) (x : ℕ) (piece : List ℕ) (o : Observations) → number (writeOutcome v x piece o .reply .answer) ≢ wrongLength
   pub read-number : (v : Volume) (x : ℕ) (piece : List ℕ) (o : Observations) → number (readOutcome v x piece o .reply .answer) ≢ wrongLength
+  pub flushed-number : (v : Volume) → number (flushedOutcome v .reply .answer) ≢ wrongLength
   pub address-number : (v : Volume) (x : ℕ) → addressNumber (addressReply v x .answer) ≢ wrongLength
   pub holder-number : (v : Volume) (p : Spot) → holderNumber (holderReply v p .answer) ≢ wrongLength
   pub load-number : (v : Volume) (scenes : List Scene) → loadNumber (loadOf v scenes .answer) ≢ wrongLength
   -- a refused call leaves the words as they were, has zeros as figures and stores nothing
-  pub grow-refused : (words : List ℕ) (count : ℕ) (figures : List ℕ) (o : Observations) → Words words
-      → lengthsFit words 1 figures ≡ true → growLeft words count figures o .number ≢ 0 → RefusedLeft words 1 (growLeft words count figures o)
-  pub copy-refused : (words : List ℕ) (x : ℕ) (figures : List ℕ) (o : Observations) → Words words
-      → lengthsFit words 1 figures ≡ true → copyLeft words x figures o .number ≢ 0 → RefusedLeft words 1 (copyLeft words x figures o)
-  pub checkpoint-refused : (words figures : List ℕ) (o : Observations) → Words words
-      → lengthsFit words 1 figures ≡ true → checkpointLeft words figures o .number ≢ 0 → RefusedLeft words 1 (checkpointLeft words figures o)
-  pub advance-refused : (words figures : List ℕ) (o : Observations) → Words words
-      → lengthsFit words 4 figures ≡ true → advanceLeft words figures o .number ≢ 0 → RefusedLeft words 4 (advanceLeft words figures o)
+  pub grow-refused : (words : List ℕ) (count : ℕ) (figures : List ℕ) (o : Observations)
+      → stateFits words 1 figures ≡ true → growLeft words count figures o .number ≢ 0 → RefusedLeft words 1 (growLeft words count figures o)
+  pub copy-refused : (words : List ℕ) (x : ℕ) (figures : List ℕ) (o : Observations)
+      → stateFits words 1 figures ≡ true → copyLeft words x figures o .number ≢ 0 → RefusedLeft words 1 (copyLeft words x figures o)
+  pub checkpoint-refused : (words figures : List ℕ) (o : Observations)
+      → stateFits words 1 figures ≡ true → checkpointLeft words figures o .number ≢ 0 → RefusedLeft words 1 (checkpointLeft words figures o)
+  pub advance-refused : (words figures : List ℕ) (o : Observations)
+      → stateFits words 4 figures ≡ true → advanceLeft words figures o .number ≢ 0 → RefusedLeft words 4 (advanceLeft words figures o)
   pub format-refused : (words : List ℕ) (z s n : ℕ) (o : Observations)
       → lengthsFit words 0 [] ≡ true → formatLeft words z s n o .number ≢ 0 → RefusedLeft (replicate stateWords 0) 0 (formatLeft words z s n o)
   pub restart-refused : (words figures : List ℕ) (o : Observations)
       → lengthsFit words 1 figures ≡ true → restartLeft words figures o .number ≢ 0 → RefusedLeft (replicate stateWords 0) 1 (restartLeft words figures o)
   pub address-refused : (words : List ℕ) (x : ℕ) (figures : List ℕ)
-      → lengthsFit words 5 figures ≡ true → addressLeft words x figures .number ≢ 0 → RefusedLeft words 5 (addressLeft words x figures)
+      → stateFits words 5 figures ≡ true → addressLeft words x figures .number ≢ 0 → RefusedLeft words 5 (addressLeft words x figures)
   pub holder-refused : (words : List ℕ) (p : Spot) (figures : List ℕ)
-      → lengthsFit words 1 figures ≡ true → holderLeft words p figures .number ≢ 0 → RefusedLeft words 1 (holderLeft words p figures)
+      → stateFits words 1 figures ≡ true → holderLeft words p figures .number ≢ 0 → RefusedLeft words 1 (holderLeft words p figures)
   -- a refused load has zeros as numbers, beside the place that it tells
   pub load-refused : (words : List ℕ) (scenes : List Scene) (figures : List ℕ)
-      → lengthsFit words 17 figures ≡ true → loadLeft words scenes figures .number ≢ 0
+      → stateFits words 17 figures ≡ true → loadLeft words scenes figures .number ≢ 0
       → loadLeft words scenes figures .figures ≡ placeTold (loadOf (stateFrom words) scenes .answer) ∷ replicate mostDisks 0
-  -- write and read leave the words as they were, which is why they are lent to be read only
-  pub write-keeps : (words : List ℕ) (x : ℕ) (piece : List ℕ) (o : Observations) → Words words → writeLeft words x piece o .words ≡ words
-  pub read-keeps : (words : List ℕ) (x : ℕ) (piece : List ℕ) (o : Observations) → Words words → readLeft words x piece o .words ≡ words
+  pub write-refused : (words : List ℕ) (x : ℕ) (piece : List ℕ) (o : Observations)
+      → stateFits words 0 [] ≡ true → writeLeft words x piece o .number ≢ 0 → RefusedLeft words 0 (writeLeft words x piece o)
+  pub flushed-refused : (words : List ℕ)
+      → stateFits words 0 [] ≡ true → flushedLeft words .number ≢ 0 → RefusedLeft words 0 (flushedLeft words)
+  -- write and flushed leave all words but the last as they were; read leaves them all, which is why they are lent to be read only
+  pub write-keeps : (words : List ℕ) (x : ℕ) (piece : List ℕ) (o : Observations) → take 15 (writeLeft words x piece o .words) ≡ take 15 words
+  pub flushed-keeps : (words : List ℕ) → take 15 (flushedLeft words .words) ≡ take 15 words
+  pub read-keeps : (words : List ℕ) (x : ℕ) (piece : List ℕ) (o : Observations) → readLeft words x piece o .words ≡ words

@@ -1,8 +1,8 @@
-// Format, restart, write, read, and the test of soundness.
+// Format, restart, write, read, flushed, and the test of soundness.
 ghost use mathlib.Core.Path.{_≡_};
 ghost use Rattle.medium.specs.Medium.{observe, apply};
 ghost use Rattle.volume.specs.States.{geometry};
-ghost use Rattle.capi.specs.Exported.{formatLeft, restartLeft, writeLeft, readLeft, soundnessLeft};
+ghost use Rattle.capi.specs.Exported.{formatLeft, restartLeft, writeLeft, readLeft, flushedLeft, soundnessLeft};
 ghost use Rattle.capi.specs.Words.{stateFrom};
 use super::CALLS_FIGURES;
 use super::STATE_WORDS;
@@ -10,6 +10,7 @@ use super::WRONG_LENGTH;
 use super::figures::number;
 use super::handed::hand_back;
 use super::handed::put_state;
+use super::words::is_state;
 use super::words::state_of;
 use layout::Block;
 use volume::Volume;
@@ -61,20 +62,23 @@ pub extern "C" fn streterva_restart(
 // Saves a piece as a block.
 #[no_mangle]
 pub extern "C" fn streterva_write(
-    state: &[usize],
+    state: &mut [usize],
     medium: &mut [u8],
     block: usize,
     piece: &[u8],
 ) -> usize
     ensures { λ r. ⌜ r ≡ writeLeft (now (state .entry)) block (now (piece .entry)) (observe (now (medium .entry))) .number ⌝ }
+    ensures { λ _. ⌜ now (state .exit) ≡ writeLeft (now (state .entry)) block (now (piece .entry)) (observe (now (medium .entry))) .words ⌝ }
     ensures { λ _. ⌜ now (medium .exit) ≡ apply (geometry (stateFrom (now (state .entry)))) (writeLeft (now (state .entry)) block (now (piece .entry)) (observe (now (medium .entry))) .store) (now (medium .entry)) ⌝ }
 {
-    if state.len() != STATE_WORDS {
+    if !is_state(state) {
         return WRONG_LENGTH;
     }
     let v = state_of(state);
     let reply = v.write(medium, Block(block), piece);
+    let next = reply.state;
     let answer = reply.answer;
+    put_state(state, next);
     number(answer)
 }
 
@@ -89,7 +93,7 @@ pub extern "C" fn streterva_read(
     ensures { λ r. ⌜ r ≡ readLeft (now (state .entry)) block (now (piece .entry)) (observe (now (medium .entry))) .number ⌝ }
     ensures { λ _. ⌜ now (piece .exit) ≡ readLeft (now (state .entry)) block (now (piece .entry)) (observe (now (medium .entry))) .piece ⌝ }
 {
-    if state.len() != STATE_WORDS {
+    if !is_state(state) {
         return WRONG_LENGTH;
     }
     let v = state_of(state);
@@ -98,12 +102,29 @@ pub extern "C" fn streterva_read(
     number(answer)
 }
 
+// Tells that all earlier stores are down.
+#[no_mangle]
+pub extern "C" fn streterva_flushed(state: &mut [usize]) -> usize
+    ensures { λ r. ⌜ r ≡ flushedLeft (now (state .entry)) .number ⌝ }
+    ensures { λ _. ⌜ now (state .exit) ≡ flushedLeft (now (state .entry)) .words ⌝ }
+{
+    if !is_state(state) {
+        return WRONG_LENGTH;
+    }
+    let v = state_of(state);
+    let reply = v.flushed();
+    let next = reply.state;
+    let answer = reply.answer;
+    put_state(state, next);
+    number(answer)
+}
+
 // 0 where the words hold a sound state, else 1.
 #[no_mangle]
 pub extern "C" fn streterva_soundness(state: &[usize]) -> usize
     ensures { λ r. ⌜ r ≡ soundnessLeft (now (state .entry)) .number ⌝ }
 {
-    if state.len() != STATE_WORDS {
+    if !is_state(state) {
         return WRONG_LENGTH;
     }
     let v = state_of(state);

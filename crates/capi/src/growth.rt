@@ -6,13 +6,13 @@ ghost use Rattle.capi.specs.Exported.{growLeft, copyLeft, checkpointLeft
 ghost use Rattle.capi.specs.Words.{stateFrom};
 use super::ADVANCE_FIGURES;
 use super::CALLS_FIGURES;
-use super::STATE_WORDS;
 use super::WRONG_LENGTH;
 use super::figures::advance_figures;
 use super::figures::number;
 use super::handed::hand_back;
 use super::handed::put;
 use super::handed::put_state;
+use super::words::is_state;
 use super::words::state_of;
 use layout::Block;
 
@@ -29,7 +29,7 @@ pub extern "C" fn streterva_grow(
     ensures { λ _. ⌜ now (figures .exit) ≡ growLeft (now (state .entry)) count (now (figures .entry)) (observe (now (medium .entry))) .figures ⌝ }
     ensures { λ _. ⌜ now (medium .exit) ≡ apply (geometry (stateFrom (now (state .entry)))) (growLeft (now (state .entry)) count (now (figures .entry)) (observe (now (medium .entry))) .store) (now (medium .entry)) ⌝ }
 {
-    if state.len() != STATE_WORDS {
+    if !is_state(state) {
         return WRONG_LENGTH;
     }
     if figures.len() != CALLS_FIGURES {
@@ -53,7 +53,7 @@ pub extern "C" fn streterva_copy(
     ensures { λ _. ⌜ now (figures .exit) ≡ copyLeft (now (state .entry)) block (now (figures .entry)) (observe (now (medium .entry))) .figures ⌝ }
     ensures { λ _. ⌜ now (medium .exit) ≡ apply (geometry (stateFrom (now (state .entry)))) (copyLeft (now (state .entry)) block (now (figures .entry)) (observe (now (medium .entry))) .store) (now (medium .entry)) ⌝ }
 {
-    if state.len() != STATE_WORDS {
+    if !is_state(state) {
         return WRONG_LENGTH;
     }
     if figures.len() != CALLS_FIGURES {
@@ -76,7 +76,7 @@ pub extern "C" fn streterva_checkpoint(
     ensures { λ _. ⌜ now (figures .exit) ≡ checkpointLeft (now (state .entry)) (now (figures .entry)) (observe (now (medium .entry))) .figures ⌝ }
     ensures { λ _. ⌜ now (medium .exit) ≡ apply (geometry (stateFrom (now (state .entry)))) (checkpointLeft (now (state .entry)) (now (figures .entry)) (observe (now (medium .entry))) .store) (now (medium .entry)) ⌝ }
 {
-    if state.len() != STATE_WORDS {
+    if !is_state(state) {
         return WRONG_LENGTH;
     }
     if figures.len() != CALLS_FIGURES {
@@ -99,7 +99,7 @@ pub extern "C" fn streterva_advance(
     ensures { λ _. ⌜ now (figures .exit) ≡ advanceLeft (now (state .entry)) (now (figures .entry)) (observe (now (medium .entry))) .figures ⌝ }
     ensures { λ _. ⌜ now (medium .exit) ≡ apply (geometry (stateFrom (now (state .entry)))) (advanceLeft (now (state .entry)) (now (figures .entry)) (observe (now (medium .entry))) .store) (now (medium .entry)) ⌝ }
 {
-    if state.len() != STATE_WORDS {
+    if !is_state(state) {
         return WRONG_LENGTH;
     }
     if figures.len() != ADVANCE_FIGURES {

@@ -3,23 +3,23 @@
 ghost use mathlib.Core.Path.{_≡_};
 ghost use mathlib.Core.Bool.{cond};
 ghost use Rattle.scene_load.specs.Loads.{loadNumber, placeTold};
-ghost use Rattle.capi.specs.Exported.{wrongLength, lengthsFit, stateTaken, loadLeft};
+ghost use Rattle.capi.specs.Exported.{wrongLength, stateFits, stateTaken, loadLeft};
 ghost use Rattle.capi.specs.Figures.{loadFigures};
 use super::LOAD_FIGURES;
-use super::STATE_WORDS;
 use super::WRONG_LENGTH;
 use super::handed::put;
+use super::words::is_state;
 use super::words::state_of;
 use scene_load::Load;
 use scene_load::LoadAnswer;
 use scene_load::Scene;
 use volume::Volume;
 
-// The state of words, or the state of zeros where they have the wrong length.
+// The state of words, or the state of zeros where they are no state's.
 fn state_or_zeros(words: &[usize]) -> Volume
     ensures { λ r. ⌜ r ≡ stateTaken (now (words .entry)) ⌝ }
 {
-    if words.len() != STATE_WORDS {
+    if !is_state(words) {
         return Volume::zeros();
     }
     state_of(words)
@@ -49,10 +49,10 @@ fn place_told(a: LoadAnswer) -> usize
 
 // Puts the figures of a load, and gives its number.
 fn hand_load(state: &[usize], load: Load, figures: &mut [usize]) -> usize
-    ensures { λ r. ⌜ (r ≡ cond (lengthsFit (now (state .entry)) 17 (now (figures .entry))) (loadNumber (load .answer)) wrongLength)
-        × (now (figures .exit) ≡ cond (lengthsFit (now (state .entry)) 17 (now (figures .entry))) (loadFigures load) (now (figures .entry))) ⌝ }
+    ensures { λ r. ⌜ (r ≡ cond (stateFits (now (state .entry)) 17 (now (figures .entry))) (loadNumber (load .answer)) wrongLength)
+        × (now (figures .exit) ≡ cond (stateFits (now (state .entry)) 17 (now (figures .entry))) (loadFigures load) (now (figures .entry))) ⌝ }
 {
-    if state.len() != STATE_WORDS {
+    if !is_state(state) {
         return WRONG_LENGTH;
     }
     if figures.len() != LOAD_FIGURES {

@@ -3,13 +3,13 @@ ghost use mathlib.Core.Path.{_≡_};
 ghost use Rattle.capi.specs.Exported.{addressLeft, holderLeft};
 use super::ADDRESS_FIGURES;
 use super::HOLDER_FIGURES;
-use super::STATE_WORDS;
 use super::WRONG_LENGTH;
 use super::figures::address_figures;
 use super::figures::address_number;
 use super::figures::block_told;
 use super::figures::holder_number;
 use super::handed::put;
+use super::words::is_state;
 use super::words::state_of;
 use layout::Block;
 use layout::Row;
@@ -21,7 +21,7 @@ pub extern "C" fn streterva_address(state: &[usize], block: usize, figures: &mut
     ensures { λ r. ⌜ r ≡ addressLeft (now (state .entry)) block (now (figures .entry)) .number ⌝ }
     ensures { λ _. ⌜ now (figures .exit) ≡ addressLeft (now (state .entry)) block (now (figures .entry)) .figures ⌝ }
 {
-    if state.len() != STATE_WORDS {
+    if !is_state(state) {
         return WRONG_LENGTH;
     }
     if figures.len() != ADDRESS_FIGURES {
@@ -46,7 +46,7 @@ pub extern "C" fn streterva_holder(
     ensures { λ r. ⌜ r ≡ holderLeft (now (state .entry)) (record { disk = disk; row = record { 0 = row } }) (now (figures .entry)) .number ⌝ }
     ensures { λ _. ⌜ now (figures .exit) ≡ holderLeft (now (state .entry)) (record { disk = disk; row = record { 0 = row } }) (now (figures .entry)) .figures ⌝ }
 {
-    if state.len() != STATE_WORDS {
+    if !is_state(state) {
         return WRONG_LENGTH;
     }
     if figures.len() != HOLDER_FIGURES {

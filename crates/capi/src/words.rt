@@ -1,8 +1,47 @@
-// The state in fifteen words.
+// The state in sixteen words.
 ghost use mathlib.Core.Path.{_≡_};
 ghost use lib.ListN.{length};
-ghost use Rattle.capi.specs.Words.{stateWords, wordsOf, stateFrom};
+ghost use Rattle.capi.specs.Words.{stateWords, pendingWord, pendingFrom, wordsOf, stateFrom, areState};
+use super::MOST_PENDING;
+use super::STATE_WORDS;
+use volume::Pending;
 use volume::Volume;
+
+// Are these the words of a state?
+pub fn is_state(words: &[usize]) -> bool
+    ensures { λ r. ⌜ r ≡ areState (now (words .entry)) ⌝ }
+{
+    if words.len() != STATE_WORDS {
+        return false;
+    }
+    words[15] <= MOST_PENDING
+}
+
+// What is pending, of its word.
+fn pending_of(word: usize) -> Pending
+    ensures { λ r. ⌜ r ≡ pendingFrom word ⌝ }
+{
+    Pending {
+        records: word % 2 == 1,
+        blocks: word / 2 == 1,
+    }
+}
+
+// The word of what is pending.
+fn pending_word(pending: Pending) -> usize
+    ensures { λ r. ⌜ r ≡ pendingWord pending ⌝ }
+{
+    if pending.records {
+        if pending.blocks {
+            return 3;
+        }
+        return 1;
+    }
+    if pending.blocks {
+        return 2;
+    }
+    0
+}
 
 // The state of words.
 pub fn state_of(words: &[usize]) -> Volume
@@ -21,6 +60,7 @@ pub fn state_of(words: &[usize]) -> Volume
     ];
     let recorded = words[13];
     let copied = words[14];
+    let pending = pending_of(words[15]);
     Volume {
         size: words[0],
         rows: words[1],
@@ -30,16 +70,19 @@ pub fn state_of(words: &[usize]) -> Volume
         window: words[12],
         recorded,
         copied,
+        pending,
     }
 }
 
 // The words of a state.
-pub fn words_of(v: Volume) -> [usize; 15]
+pub fn words_of(v: Volume) -> [usize; 16]
     ensures { λ r. ⌜ r ≡ wordsOf v ⌝ }
 {
     let c = v.counts;
     let recorded = v.recorded;
     let copied = v.copied;
+    let pending = v.pending;
+    let last = pending_word(pending);
     [
         v.size,
         v.rows,
@@ -56,5 +99,6 @@ pub fn words_of(v: Volume) -> [usize; 15]
         v.window,
         recorded,
         copied,
+        last,
     ]
 }

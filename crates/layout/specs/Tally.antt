@@ -1,7 +1,7 @@
 -- Document 01, "The plain volume and the cut": the tally, which follows the growth, and "The live spot" worked out from it.
 -- Blocks are numbers here; nothing is known of a state, a record or a medium. Assumes nothing.
 use Prim.Native.Nat.{ℕ, suc, _*_}
-use mathlib.Core.Bool.{Bool, false, cond, not, _&&_, _||_}
+use mathlib.Core.Bool.{Bool, true, false, cond, not, _&&_, _||_}
 use mathlib.Core.List.{List}
 use mathlib.Core.Option.{Option, some}
 use lib.Dec.{ltb, eqb}
@@ -11,15 +11,15 @@ use Rattle.layout.specs.declared.Spot.{Spot}
 use Rattle.layout.specs.History.{diskCount, earlier, oldCount, addedCount, spotOf, blockAt}
 use Rattle.layout.specs.Live.{atNewSpot, liveSpot, liveBlock}
 use Rattle.layout.specs.Reasons.{reasonOf}
-use Rattle.layout.specs.Windows.{windows, windowOf, movingIn, nextOfWindow, allCopied, callsLeft}
+use Rattle.layout.specs.Windows.{windows, windowOf, movingIn, markOf, nextToCopy, areCopied, callsLeft}
 
 -- whether a growth runs
 pub data Mode : Type 0 where
   notGrowing growing : Mode
 
-abbrev pub byMode : {A : Type 0} (mode : Mode) (atRest running : A) → A
-byMode notGrowing atRest running = atRest
-byMode growing atRest running = running
+abbrev pub isRunning : (mode : Mode) → Bool
+isRunning notGrowing = false
+isRunning growing = true
 
 -- "It has s, the counts, whether a growth runs, a w, and which blocks are copied and which recorded." The counts are newest first.
 pub record Tally : Type 0 where
@@ -32,7 +32,7 @@ pub record Tally : Type 0 where
 
 -- "Not growing: all x < N[t]·s are open", "Growing: only blocks x < m·s are open": how many are
 unfoldable pub openBlocks : (t : Tally) → ℕ
-openBlocks t = byMode (t .mode) (diskCount (t .counts)) (oldCount (t .counts)) * t .rows
+openBlocks t = cond (isRunning (t .mode)) (oldCount (t .counts)) (diskCount (t .counts)) * t .rows
 
 -- "its window is below w, or is w with its recorded mark set"
 unfoldable pub recordedBy : (s : ℕ) (h : List ℕ) (w : ℕ) (recorded : ℕ → Bool) (x : ℕ) → Bool
@@ -43,15 +43,16 @@ movedBlocks t x = recordedBy (t .rows) (t .counts) (t .window) (t .recorded) x
 
 -- the live spot of block x
 unfoldable pub liveSpotOf : (t : Tally) (x : ℕ) → Spot
-liveSpotOf t x = byMode (t .mode) (spotOf (t .rows) (t .counts) x) (liveSpot (t .rows) (t .counts) (movedBlocks t) x)
+liveSpotOf t x = cond (isRunning (t .mode)) (liveSpot (t .rows) (t .counts) (movedBlocks t) x) (spotOf (t .rows) (t .counts) x)
 
 -- the open block that lives at p, or none
 unfoldable pub liveBlockOf : (t : Tally) (p : Spot) → Option ℕ
-liveBlockOf t p = byMode (t .mode) (some (blockAt (t .rows) (t .counts) p)) (liveBlock (t .rows) (t .counts) (movedBlocks t) p)
+liveBlockOf t p = cond (isRunning (t .mode)) (liveBlock (t .rows) (t .counts) (movedBlocks t) p) (some (blockAt (t .rows) (t .counts) p))
 
 -- the growths that made the live spot of x: all, or all but the newest
 unfoldable pub growthsOf : (t : Tally) (x : ℕ) → List ℕ
-growthsOf t x = byMode (t .mode) (t .counts) (cond (atNewSpot (t .rows) (t .counts) (movedBlocks t) x) (t .counts) (earlier (t .counts)))
+growthsOf t x =
+    cond (isRunning (t .mode)) (cond (atNewSpot (t .rows) (t .counts) (movedBlocks t) x) (t .counts) (earlier (t .counts))) (t .counts)
 
 -- why x is at its live spot
 unfoldable pub liveReasonOf : (t : Tally) (x : ℕ) → Reason
@@ -63,17 +64,20 @@ liveAddressOf t x = record { spot = liveSpotOf t x; reason = liveReasonOf t x }
 
 -- "x copied but not recorded"
 unfoldable pub waiting : (t : Tally) (x : ℕ) → Bool
-waiting t x = byMode (t .mode) false (t .copied x && not (t .recorded x))
+waiting t x = isRunning (t .mode) && (t .copied x && not (t .recorded x))
 
 -- "the advance calls left, U + R - w, and 0 when not growing"
 unfoldable pub callsLeftOf : (t : Tally) → ℕ
-callsLeftOf t = byMode (t .mode) 0 (callsLeft (t .rows) (t .counts) (t .window) (t .copied))
+callsLeftOf t = cond (isRunning (t .mode)) (callsLeft (t .rows) (t .counts) (t .window) (t .copied)) 0
 
 -- ---- what is left to copy
 
--- a moving block of window w
+-- the blocks that may be copied now, the moving blocks of window w, and the rank in which advance takes them, their mark
 unfoldable pub movesNow : (t : Tally) (x : ℕ) → Bool
 movesNow t x = movingIn (t .rows) (t .counts) (t .window) x
+
+unfoldable pub rankNow : (t : Tally) (x : ℕ) → ℕ
+rankNow t x = markOf (t .rows) (t .counts) x
 
 -- the spot that a copy of x is stored to: the new one
 unfoldable pub targetOf : (t : Tally) (x : ℕ) → Spot
@@ -81,11 +85,11 @@ targetOf t x = spotOf (t .rows) (t .counts) x
 
 -- the block that the next advance copies, or none
 unfoldable pub nextBlock : (t : Tally) → Option ℕ
-nextBlock t = nextOfWindow (t .rows) (t .counts) (t .window) (t .copied)
+nextBlock t = nextToCopy (rankNow t) (movesNow t) (t .copied) (oldCount (t .counts) * t .rows)
 
 -- the copied blocks are "all moving blocks of window w"
 unfoldable pub windowFull : (t : Tally) → Bool
-windowFull t = allCopied (t .rows) (t .counts) (t .window) (t .copied)
+windowFull t = areCopied (movesNow t) (t .copied) (oldCount (t .counts) * t .rows)
 
 -- "at w = R the growth is finished": w is the last window
 unfoldable pub lastWindow : (t : Tally) → Bool

@@ -67,13 +67,20 @@ markedBlocks s h w marks x = movingIn s h w x && getD marks (markOf s h x) false
 unfoldable pub partMoved : (s : ℕ) (h : List ℕ) (x : ℕ) → Part
 partMoved s h x = partOf (oldCount h) (addedCount h) (rowInWindow (oldCount h) (addedCount h) (oldSpot s h x .row))
 
+-- of the blocks below a bound that may be copied: the one not copied whose rank is lowest, or none; whether all are copied
+unfoldable pub nextToCopy : (rank : ℕ → ℕ) (mayCopy copied : ℕ → Bool) (bound : ℕ) → Option ℕ
+nextToCopy rank mayCopy copied bound = lowest rank (λ x. mayCopy x && not (copied x)) bound
+
+unfoldable pub areCopied : (mayCopy copied : ℕ → Bool) (bound : ℕ) → Bool
+areCopied mayCopy copied bound = every (λ x. not (mayCopy x) || copied x) bound
+
 -- "the block with the lowest mark among the moving blocks of window w not copied", or none
 unfoldable pub nextOfWindow : (s : ℕ) (h : List ℕ) (w : ℕ) (copied : ℕ → Bool) → Option ℕ
-nextOfWindow s h w copied = lowest (markOf s h) (λ x. movingIn s h w x && not (copied x)) (oldCount h * s)
+nextOfWindow s h w copied = nextToCopy (markOf s h) (movingIn s h w) copied (oldCount h * s)
 
 -- all moving blocks of window w are copied
 unfoldable pub allCopied : (s : ℕ) (h : List ℕ) (w : ℕ) (copied : ℕ → Bool) → Bool
-allCopied s h w copied = every (λ x. not (movingIn s h w x) || copied x) (oldCount h * s)
+allCopied s h w copied = areCopied (movingIn s h w) copied (oldCount h * s)
 
 -- the moving blocks of window w
 unfoldable pub movesOfWindow : (s : ℕ) (h : List ℕ) (w : ℕ) → ℕ

@@ -18,7 +18,7 @@ use Rattle.layout.specs.declared.Spot.{Spot}
 use Rattle.layout.specs.Growth.{partOf}
 use Rattle.layout.specs.History.{Within, history, oldCount, addedCount, blockAt}
 use Rattle.layout.specs.Limits.{Limits, mostRows}
-use Rattle.layout.specs.Windows.{windows, rowExists, spotOfMark, oldSpot, moving, windowOf, movingIn, markOf, blockOfMark, markedBlocks, partMoved, nextOfWindow, allCopied}
+use Rattle.layout.specs.Windows.{windows, rowExists, spotOfMark, oldSpot, moving, windowOf, movingIn, markOf, blockOfMark, markedBlocks, partMoved, nextToCopy, nextOfWindow, allCopied}
 use Rattle.layout.proofs.MarkSpots.{mark-spot-disk}
 use Rattle.layout.proofs.NextBlocks.{leftAt, moving-in-old}
 use Rattle.layout.proofs.Theorems.{some-added, spots-and-blocks}
@@ -45,7 +45,7 @@ module _ (s : ℕ) (h : List ℕ) (l : Limits s h) (g : 0 < oldCount h) (w : ℕ
   unset = unmarkedAt m n s w marks
 
   abbrev left : ℕ → Bool
-  left = leftAt s h w copied
+  left = leftAt (movingIn s h w) copied
 
   -- the mark of a block that is left
   left-mark : (x : ℕ) → left x ≡ true → (markOf s h x < m * n) × (unset (markOf s h x) ≡ true) × (blockOfMark s h w (markOf s h x) ≡ x)
@@ -79,7 +79,7 @@ module _ (s : ℕ) (h : List ℕ) (l : Limits s h) (g : 0 < oldCount h) (w : ℕ
     its-left = rw (its-moving, its-mark, mark-unset)
 
   none-left : firstUnmarked m n s w marks ≡ m * n → nextOfWindow s h w copied ≡ none
-  unfolding firstUnmarked nextOfWindow
+  unfolding firstUnmarked nextOfWindow nextToCopy
   none-left e =
       lowest-empty (markOf s h) left (m * s)
       (λ x k. by-test (left x)
@@ -89,7 +89,7 @@ module _ (s : ℕ) (h : List ℕ) (l : Limits s h) (g : 0 < oldCount h) (w : ℕ
   -- the lowest unset mark is of the next block
   next-left : (j : ℕ) → j ≡ firstUnmarked m n s w marks → j < m * n → unset j ≡ true
       → nextOfWindow s h w copied ≡ some (blockOfMark s h w j)
-  unfolding firstUnmarked nextOfWindow
+  unfolding firstUnmarked nextOfWindow nextToCopy
   next-left j f hj e =
       lowest-is (markOf s h) left (m * s) (blockOfMark s h w j) apart (moving-in-old s h w _ (its-moving j hj e)) (its-left j hj e)
       (λ x k a. rw (its-mark j hj e) (least x a))

@@ -43,7 +43,7 @@ beyond-kept g n (blockStore p bytes) m f = drop-kept m bytes (place g p) n (omeg
 -- ---- a store that was cut
 
 -- what a cut leaves lies where the store does
-cut-fits : (g : Geometry) (n : ℕ) (s : Store) (l : AfterCut) → StoreFits g n s → MayLeave s l → StoreFits g n (cutStore s l)
+pub cut-fits : (g : Geometry) (n : ℕ) (s : Store) (l : AfterCut) → StoreFits g n s → MayLeave s l → StoreFits g n (cutStore s l)
 unfolding StoreFits MayLeave cutStore
 cut-fits g n noStore l f c = absurd c
 cut-fits g n (recordStore sector) (tornBlock bytes) f c = absurd c

@@ -14,19 +14,19 @@ use Rattle.base.proofs.Booleans.{and-both, by-test}
 use Rattle.base.proofs.Counting.{count-none, count-split, count-less}
 use Rattle.layout.specs.History.{oldCount, addedCount}
 use Rattle.layout.specs.Laws.{Marks}
-use Rattle.layout.specs.Tally.{Tally, Mode, notGrowing, growing, byMode, callsLeftOf, movesNow, nextBlock, windowFull, lastWindow}
+use Rattle.layout.specs.Tally.{Tally, Mode, notGrowing, growing, isRunning, callsLeftOf, movesNow, nextBlock, windowFull, lastWindow}
 use Rattle.layout.specs.Windows.{windows, moving, windowOf, movingIn, uncopied, callsLeft}
 use Rattle.layout.proofs.NextBlocks.{moving-in-old, next-some, next-none, full-copied}
 use Rattle.layout.proofs.Theorems.{layout-laws}
 use Rattle.promise.specs.Calls.{advance}
-use Rattle.promise.specs.Model.{noBlock, withBlocks, copiedTally, nextWindowTally, finishedTally, recordedTally, advancedTally, tallyAfter, checkpointFinishes, advanceFinishes, finishes}
+use Rattle.promise.specs.Model.{noBlock, withBlocks, copiedTally, nextWindowTally, finishedTally, recordedTally, checkpointFinishes, leaving, recording, advanceStep, stepOf}
 use Rattle.promise.proofs.Tallies.{Running}
 
 -- ---- U + R - w of a growth
 
 left-of : (t : Tally) → t .mode ≡ growing → callsLeftOf t ≡ callsLeft (t .rows) (t .counts) (t .window) (t .copied)
 unfolding callsLeftOf
-left-of t e = ap (λ (mode : Mode). byMode mode 0 (callsLeft (t .rows) (t .counts) (t .window) (t .copied))) e
+left-of t e = ap (λ (mode : Mode). cond (isRunning mode) (callsLeft (t .rows) (t .counts) (t .window) (t .copied)) 0) e
 
 module _ (s : ℕ) (h : List ℕ) (w : ℕ) (below : w < windows (oldCount h) (addedCount h) s) where
   -- a copy takes one off
@@ -84,18 +84,18 @@ unfolding callsLeft
 left-positive t r = rw (left-of t (r .is-growing)) (omega (arith, r .window-below))
 
 pub data AdvanceStep (t : Tally) : Type 0 where
-  goes-on : tallyAfter advance t .mode ≡ growing → finishes advance t ≡ false → callsLeftOf t ≡ suc (callsLeftOf (tallyAfter advance t)) → AdvanceStep t
-  ends : tallyAfter advance t .mode ≡ notGrowing → finishes advance t ≡ true → callsLeftOf t ≡ 1 → AdvanceStep t
+  goes-on : stepOf advance t .tally .mode ≡ growing → stepOf advance t .finishes ≡ false → callsLeftOf t ≡ suc (callsLeftOf (stepOf advance t .tally)) → AdvanceStep t
+  ends : stepOf advance t .tally .mode ≡ notGrowing → stepOf advance t .finishes ≡ true → callsLeftOf t ≡ 1 → AdvanceStep t
 
 module _ (t : Tally) (r : Running t) where
   abbrev Step : (next : Option ℕ) → Type 0
-  Step next = (advancedTally next t .mode ≡ growing) × (advanceFinishes next t ≡ false) × (callsLeftOf t ≡ suc (callsLeftOf (advancedTally next t)))
+  Step next = (advanceStep next t .tally .mode ≡ growing) × (advanceStep next t .finishes ≡ false) × (callsLeftOf t ≡ suc (callsLeftOf (advanceStep next t .tally)))
 
   abbrev Last : (next : Option ℕ) → Type 0
-  Last next = (advancedTally next t .mode ≡ notGrowing) × (advanceFinishes next t ≡ true) × (callsLeftOf t ≡ 1)
+  Last next = (advanceStep next t .tally .mode ≡ notGrowing) × (advanceStep next t .finishes ≡ true) × (callsLeftOf t ≡ 1)
 
   copy-step : (x : ℕ) → movesNow t x ≡ true → t .copied x ≡ false → Step (some x)
-  unfolding advancedTally advanceFinishes copiedTally withBlocks movesNow
+  unfolding advanceStep leaving recording copiedTally withBlocks movesNow
   copy-step x moves new = (
     r .is-growing,
     refl,
@@ -118,7 +118,7 @@ module _ (t : Tally) (r : Running t) where
   ended full last = rw (full, last)
 
   next-step : windowFull t ≡ true → lastWindow t ≡ false → Step none
-  unfolding advancedTally advanceFinishes checkpointFinishes nextWindowTally lastWindow
+  unfolding advanceStep leaving recording checkpointFinishes nextWindowTally lastWindow
   next-step full more = (
     ap (λ (u : Tally). u .mode) (turned full more) ∙ r .is-growing,
     rw (full, more),
@@ -128,7 +128,7 @@ module _ (t : Tally) (r : Running t) where
   )
 
   last-step : windowFull t ≡ true → lastWindow t ≡ true → Last none
-  unfolding advancedTally advanceFinishes checkpointFinishes finishedTally lastWindow
+  unfolding advanceStep leaving recording checkpointFinishes finishedTally lastWindow
   last-step full last = (
     ap (λ (u : Tally). u .mode) (ended full last),
     rw (full, last),
@@ -141,17 +141,17 @@ module _ (t : Tally) (r : Running t) where
       marks = layout-laws .marks-and-blocks (t .rows) (t .counts) (r .rise) (r .some-old)
 
   pub advance-step : AdvanceStep t
-  unfolding tallyAfter finishes
+  unfolding stepOf
   advance-step = go (nextBlock t) refl
     where
       with-step : (next : Option ℕ) → nextBlock t ≡ next → Step next → AdvanceStep t
       with-step next e step =
-          goes-on (ap (λ (k : Option ℕ). advancedTally k t .mode) e ∙ step .0) (ap (λ (k : Option ℕ). advanceFinishes k t) e ∙ step .1)
-          (step .2 ∙ ap (λ (k : Option ℕ). suc (callsLeftOf (advancedTally k t))) (sym e))
+          goes-on (ap (λ (k : Option ℕ). advanceStep k t .tally .mode) e ∙ step .0) (ap (λ (k : Option ℕ). advanceStep k t .finishes) e ∙ step .1)
+          (step .2 ∙ ap (λ (k : Option ℕ). suc (callsLeftOf (advanceStep k t .tally))) (sym e))
 
       with-last : (next : Option ℕ) → nextBlock t ≡ next → Last next → AdvanceStep t
       with-last next e step =
-          ends (ap (λ (k : Option ℕ). advancedTally k t .mode) e ∙ step .0) (ap (λ (k : Option ℕ). advanceFinishes k t) e ∙ step .1) (step .2)
+          ends (ap (λ (k : Option ℕ). advanceStep k t .tally .mode) e ∙ step .0) (ap (λ (k : Option ℕ). advanceStep k t .finishes) e ∙ step .1) (step .2)
 
       go : (next : Option ℕ) → nextBlock t ≡ next → AdvanceStep t
       go (some x) e = let k = next-some t x e in with-step (some x) e (copy-step x (k .0) (k .1))

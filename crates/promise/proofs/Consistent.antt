@@ -5,6 +5,7 @@ use mathlib.Core.Bool.{Bool, true, false, cond, _&&_}
 use mathlib.Core.List.{List}
 use mathlib.Core.Logic.{_≢_}
 use mathlib.Core.Option.{Option, some}
+use lib.Dec.{eqb}
 use Rattle.base.specs.Refusals.{refusal}
 use Rattle.base.proofs.Booleans.{cond-cases}
 use Rattle.layout.specs.History.{diskCount, oldCount, earlier}
@@ -12,17 +13,18 @@ use Rattle.layout.specs.Tally.{Tally, notGrowing, openBlocks, liveSpotOf, waiti
 use Rattle.medium.specs.declared.Geometry.{Geometry}
 use Rattle.medium.specs.Laws.{Holds, OtherThanRecord, OtherThanSpot, Stored}
 use Rattle.medium.specs.Medium.{bytesNeeded, Observations, Store, noStore, recordStore, blockStore}
+use Rattle.volume.specs.declared.Pending.{Pending}
 use Rattle.volume.specs.declared.Volume.{Volume}
-use Rattle.volume.specs.Calls.{growTable, formatTable, copyStore}
+use Rattle.volume.specs.Calls.{growTable, formatTable}
 use Rattle.volume.specs.Records.{numbersOf, recordOf}
 use Rattle.volume.specs.Sound.{sound}
-use Rattle.volume.specs.States.{geometry, historyOf, disks, tallyOf, newState, withGrowth, grown, recordedOnly, withCopy, checkpointed}
+use Rattle.volume.specs.States.{geometry, historyOf, disks, tallyOf, newState, withPending, withGrowth, grown, recordedOnly, withCopy, checkpointed}
 use Rattle.volume.proofs.Accepted.{format-accepted, grow-accepted}
 use Rattle.volume.proofs.RecordLaws.{recorded-sound}
 use Rattle.volume.proofs.Theorems.{volume-laws}
-use Rattle.promise.specs.Model.{PlainVolume, startPlain, withBlock, withAdded, startTally, grownTally, withBlocks, copiedTally, nextWindowTally, finishedTally, recordedTally, restartedTally, checkpointFinishes}
+use Rattle.promise.specs.Model.{PlainVolume, startPlain, withAdded, unset, startTally, grownTally, withBlocks, copiedTally, nextWindowTally, finishedTally, recordedTally, restartedTally, checkpointFinishes}
 use Rattle.promise.proofs.Tallies.{Running, Resting, copy-unrecorded, spots-apart}
-use Rattle.promise.proofs.Held.{Held, held-written, held-target, held-unchanged, held-recorded, held-copied, held-restarted, held-part, held-next-window, held-finished, held-grown}
+use Rattle.promise.proofs.Held.{Held, held-unset, held-written, held-target, held-unchanged, held-recorded, held-copied, held-restarted, held-part, held-next-window, held-finished, held-grown}
 use Rattle.promise.proofs.StateTallies.{running-of, resting-of, stage-of, tally-new, tally-grown, tally-restarted, tally-copied, tally-checkpointed}
 
 pub record Consistent (v : Volume) (o : Observations) (p : PlainVolume) : Type 0 where
@@ -31,6 +33,34 @@ pub record Consistent (v : Volume) (o : Observations) (p : PlainVolume) : Type 0
   pub recorded : o .sector ≡ recordOf v
   pub same-open : p .blocks ≡ openBlocks (tallyOf v)
   pub held : Held (geometry v) o (tallyOf v) (p .bytes)
+
+-- block x with these bytes, or unset
+unfoldable pub withBlock : (x : ℕ) (b : Option (List ℕ)) (p : PlainVolume) → PlainVolume
+withBlock x b p = record { blocks = p .blocks; bytes = λ y. cond (eqb y x) b (p .bytes y) }
+
+-- what is pending is no part of it
+pub consistent-pending : (v : Volume) (o : Observations) (p : PlainVolume) (q : Pending) → Consistent v o p → Consistent (withPending v q) o p
+unfolding withPending geometry disks historyOf recordOf numbersOf tallyOf
+consistent-pending v o p q c =
+    record {
+      is-sound = volume-laws .pending-sound v q ∙ c .is-sound;
+      room = c .room;
+      recorded = c .recorded;
+      same-open = c .same-open;
+      held = c .held;
+    }
+
+-- blocks become unset
+pub consistent-unset : (v : Volume) (o : Observations) (p : PlainVolume) (blocks : ℕ → Bool) → Consistent v o p → Consistent v o (unset blocks p)
+unfolding unset
+consistent-unset v o p blocks c =
+    record {
+      is-sound = c .is-sound;
+      room = c .room;
+      recorded = c .recorded;
+      same-open = c .same-open;
+      held = held-unset (geometry v) o (tallyOf v) (p .bytes) (c .held) blocks;
+    }
 
 -- what of it is said of a tally
 record Agree (g : Geometry) (o : Observations) (t : Tally) (p : PlainVolume) : Type 0 where
@@ -87,7 +117,7 @@ agree-grown g o t p r count a =
 -- ---- restart, and what a cut leaves of the state
 
 pub consistent-restarted : (v : Volume) (o : Observations) (p : PlainVolume) → Consistent v o p → Consistent (recordedOnly v) o p
-unfolding recordedOnly withGrowth geometry disks historyOf recordOf numbersOf restartedTally withBlocks openBlocks
+unfolding recordedOnly withPending withGrowth geometry disks historyOf recordOf numbersOf restartedTally withBlocks openBlocks
 consistent-restarted v o p c =
     record {
       is-sound = recorded-sound v (c .is-sound);
@@ -177,25 +207,13 @@ module _ (v : Volume) (before after : Observations) (p : PlainVolume) (c : Consi
       (held-target (geometry v) before after (tallyOf v) (same-rows v) (p .bytes) (c .held) (running-of v (c .is-sound) on) x moves new b stored)
       stored
 
-  -- the bytes at its live spot then stand at its target
-  copy-same : v .growing ≢ 0 → (x : ℕ) → movesNow (tallyOf v) x ≡ true → tallyOf v .copied x ≡ false
-      → Stored (geometry v) (copyStore v x before) before after
-      → after .bytesAt (geometry v) (targetOf (tallyOf v) x) ≡ after .bytesAt (geometry v) (liveSpotOf (tallyOf v) x)
-  unfolding copyStore Holds OtherThanSpot
-  copy-same on x moves new stored =
-      let t = tallyOf v in
-      let apart = spots-apart t (stage-of v (c .is-sound)) in
-      let left = copy-unrecorded t (running-of v (c .is-sound) on) x moves new in
-      let below = apart .copies-open x left in
-      stored .read-back
-      ∙ sym (stored .spots-kept (liveSpotOf t x) (rw (same-rows v) (apart .live-within x below .row)) (apart .target-free x x left below))
-
-  -- a copy
-  pub consistent-copied : v .growing ≢ 0 → (x : ℕ) → movesNow (tallyOf v) x ≡ true → tallyOf v .copied x ≡ false
-      → Stored (geometry v) (copyStore v x before) before after → Consistent (withCopy v x) after p
-  unfolding copyStore withCopy withGrowth geometry disks historyOf recordOf numbersOf copiedTally withBlocks openBlocks
-  consistent-copied on x moves new stored =
-      let torn = consistent-torn on x moves new (before .bytesAt (geometry v) (liveSpotOf (tallyOf v) x)) stored in
+  -- a copy: of the bytes that the block has in the plain volume, if it is set
+  pub consistent-copied : v .growing ≢ 0 → (x : ℕ) → movesNow (tallyOf v) x ≡ true → tallyOf v .copied x ≡ false → (b : List ℕ)
+      → ((d : List ℕ) → p .bytes x ≡ some d → b ≡ d)
+      → Stored (geometry v) (blockStore (targetOf (tallyOf v) x) b) before after → Consistent (withCopy v x) after p
+  unfolding withCopy withGrowth geometry disks historyOf recordOf numbersOf copiedTally withBlocks openBlocks Holds
+  consistent-copied on x moves new b right stored =
+      let torn = consistent-torn on x moves new b stored in
       let same = tally-copied v x (c .is-sound) on moves in
       record {
         is-sound = volume-laws .copied-sound v x (c .is-sound) on moves;
@@ -205,8 +223,15 @@ module _ (v : Volume) (before after : Observations) (p : PlainVolume) (c : Consi
         held =
             rw same
             (held-copied (geometry v) after (tallyOf v) (p .bytes) (torn .held) (running-of v (c .is-sound) on) x moves
-            (copy-same on x moves new stored));
+            (λ d e. stored .read-back ∙ right d e));
       }
+
+  -- what it finds at the live spot of a block that may be copied
+  pub copy-finds : v .growing ≢ 0 → (x : ℕ) → movesNow (tallyOf v) x ≡ true → tallyOf v .copied x ≡ false → (d : List ℕ) → p .bytes x ≡ some d
+      → before .bytesAt (geometry v) (liveSpotOf (tallyOf v) x) ≡ d
+  copy-finds on x moves new d e =
+      let left = copy-unrecorded (tallyOf v) (running-of v (c .is-sound) on) x moves new in
+      c .held .stands x d (spots-apart (tallyOf v) (stage-of v (c .is-sound)) .copies-open x left) e .at-live
 
   -- a checkpoint
   pub consistent-checkpointed : v .growing ≢ 0 → Stored (geometry v) (recordStore (recordOf (checkpointed v))) before after

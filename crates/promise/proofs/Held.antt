@@ -11,7 +11,7 @@ use Rattle.base.proofs.Booleans.{and-left, and-right, and-both, clash, by-test}
 use Rattle.layout.specs.History.{earlier, oldCount, spotOf}
 use Rattle.layout.specs.Live.{atNewSpot, liveSpot}
 use Rattle.layout.specs.declared.Spot.{Spot}
-use Rattle.layout.specs.Tally.{Tally, Mode, notGrowing, growing, byMode, openBlocks, recordedBy, movedBlocks, liveSpotOf, waiting, movesNow, targetOf, windowFull, lastWindow}
+use Rattle.layout.specs.Tally.{Tally, Mode, notGrowing, growing, isRunning, openBlocks, recordedBy, movedBlocks, liveSpotOf, waiting, movesNow, targetOf, windowFull, lastWindow}
 use Rattle.layout.specs.Windows.{oldSpot, moving, windowOf, movingIn}
 use Rattle.layout.proofs.NextBlocks.{full-copied}
 use Rattle.layout.proofs.Theorems.{layout-laws}
@@ -174,7 +174,7 @@ module _ (t : Tally) (x : ℕ) where
       simp (f, eq-eqb _ _ i, c))
 
 -- where all copied blocks are recorded, none waits
-pub none-waits : (mode : Mode) (b : Bool) → byMode mode false (b && not b) ≡ false
+pub none-waits : (mode : Mode) (b : Bool) → (isRunning mode && (b && not b)) ≡ false
 none-waits notGrowing b = refl
 none-waits growing true = refl
 none-waits growing false = refl
@@ -182,18 +182,26 @@ none-waits growing false = refl
 -- ---- steps of the tally
 
 module _ (g : Geometry) (o : Observations) (t : Tally) (bytes : ℕ → Option (List ℕ)) (h : Held g o t bytes) where
-  pub held-copied : Running t → (x : ℕ) → movesNow t x ≡ true → o .bytesAt g (targetOf t x) ≡ o .bytesAt g (liveSpotOf t x)
+  pub held-copied : Running t → (x : ℕ) → movesNow t x ≡ true → ((b : List ℕ) → bytes x ≡ some b → o .bytesAt g (targetOf t x) ≡ b)
       → Held g o (copiedTally x t) bytes
   unfolding copiedTally withBlocks openBlocks liveSpotOf movedBlocks waiting targetOf
-  held-copied r x moves copy = record { stands = λ y c k e. also y c (h .stands y c k e) }
+  held-copied r x moves copy = record { stands = λ y c k e. also y c e (h .stands y c k e) }
     where
-      also : (y : ℕ) (c : List ℕ) → Stands g o t y c → Stands g o (copiedTally x t) y c
-      also y c there = record {
+      also : (y : ℕ) (c : List ℕ) → bytes y ≡ some c → Stands g o t y c → Stands g o (copiedTally x t) y c
+      also y c e there = record {
         at-live = there .at-live;
         at-target = λ k.
             by-test (eqb y x)
-            (λ f. rw (eqb-true y x f) (copy ∙ rw (eqb-true y x f) at there .at-live))
+            (λ f. rw (eqb-true y x f) (copy c (rw (eqb-true y x f) at e)))
             (λ f. there .at-target (rw f at k));
+      }
+
+  pub held-unset : (blocks : ℕ → Bool) → Held g o t (λ y. cond (blocks y) none (bytes y))
+  held-unset blocks =
+      record {
+        stands = λ x b k e.
+            by-test (blocks x) (λ f. let z : _≡_ {A = Option (List ℕ)} none (some b) = rw f at e in absurd (true≢false cc))
+            (λ f. h .stands x b k (rw f at e));
       }
 
   pub held-restarted : Held g o (restartedTally t) bytes

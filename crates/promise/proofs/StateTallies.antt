@@ -18,9 +18,10 @@ use Rattle.layout.specs.Windows.{moving, windowOf, movingIn, markOf, blockOfMar
 use Rattle.layout.proofs.Theorems.{layout-laws}
 use Rattle.marks.specs.Marks.{markCount, noMarks}
 use Rattle.marks.proofs.MarkSets.{its-mark, marked-within}
+use Rattle.volume.specs.declared.Pending.{Pending}
 use Rattle.volume.specs.declared.Volume.{Volume}
 use Rattle.volume.specs.Sound.{sound}
-use Rattle.volume.specs.States.{historyOf, modeOf, tallyOf, newState, withGrowth, grown, recordedOnly, withCopy, checkpointed}
+use Rattle.volume.specs.States.{historyOf, modeOf, tallyOf, newState, withPending, withGrowth, grown, recordedOnly, withCopy, checkpointed}
 use Rattle.volume.proofs.SoundLaws.{some-old}
 use Rattle.volume.proofs.StatesSound.{history-same}
 use Rattle.volume.proofs.Theorems.{volume-laws}
@@ -93,6 +94,11 @@ pub stage-of : (v : Volume) → sound v ≡ true → Stage (tallyOf v)
 stage-of v s =
     elim (ℕ-discrete (v .growing) 0) [ yes off ↦ resting (resting-of v s off) | no on ↦ running (running-of v s on) ]
 
+-- what is pending is no part of the tally
+pub tally-pending : (v : Volume) (p : Pending) → tallyOf (withPending v p) ≡ tallyOf v
+unfolding tallyOf historyOf withPending
+tally-pending v p = refl
+
 -- ---- a state without marks
 
 unmarkedTally : (s : ℕ) (h : List ℕ) (mode : Mode) (w : ℕ) → Tally
@@ -125,7 +131,7 @@ tally-grown v count s few =
 -- ---- restart and copy
 
 pub tally-restarted : (v : Volume) → tallyOf (recordedOnly v) ≡ restartedTally (tallyOf v)
-unfolding tallyOf historyOf recordedOnly withGrowth restartedTally withBlocks
+unfolding tallyOf historyOf recordedOnly withPending withGrowth restartedTally withBlocks
 tally-restarted v = refl
 
 pub tally-copied : (v : Volume) (x : ℕ) → sound v ≡ true → v .growing ≢ 0 → movesNow (tallyOf v) x ≡ true

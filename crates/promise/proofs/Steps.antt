@@ -1,34 +1,39 @@
--- One call, whole or cut, on any medium that keeps the laws of stores: nothing of lists or of the places of bytes. Assumes nothing.
+-- One call, whole or torn, on any medium that keeps the laws of stores: nothing of lists, of pending stores or of the places of bytes.
+-- Assumes nothing.
 use Prim.Native.Nat.{ℕ, _*_, _<_}
 use mathlib.Core.Path.{_≡_, refl, sym, ap, _∙_, subst}
-use mathlib.Core.Bool.{Bool, true, false, cond}
+use mathlib.Core.Bool.{Bool, true, false, cond, _||_, _&&_, true≢false}
 use mathlib.Core.List.{List, []}
 use mathlib.Core.Logic.{_≢_}
 use mathlib.Core.Option.{Option, none, some}
+use lib.Dec.{eqb}
 use lib.ListN.{length}
-use borrow.Author.Tests.{le-ltb, ne-eqb}
+use borrow.Author.Tests.{ne-eqb, le-ltb}
 use Rattle.base.specs.Refusals.{refusal}
 use Rattle.base.proofs.Booleans.{by-test, clash}
+use Rattle.layout.specs.History.{Within}
 use Rattle.layout.specs.Tally.{Tally, openBlocks, movedBlocks, liveSpotOf, waiting, callsLeftOf, movesNow, targetOf, nextBlock}
 use Rattle.layout.proofs.NextBlocks.{next-some}
 use Rattle.medium.specs.declared.Geometry.{Geometry}
 use Rattle.medium.specs.Laws.{Stored}
-use Rattle.medium.specs.Medium.{recordBytes, bytesNeeded, Observations, Store, noStore, recordStore, blockStore, AfterCut, tornBlock, oldRecord, newRecord, MayLeave, cutStore}
+use Rattle.medium.specs.Medium.{recordBytes, bytesNeeded, Observations, Store, noStore, recordStore, blockStore, tornBlock, MayLeave, cutStore}
+use Rattle.volume.specs.declared.Pending.{Pending}
 use Rattle.volume.specs.declared.Volume.{Volume}
 use Rattle.volume.specs.Answers.{number, accepted, reported}
-use Rattle.volume.specs.Calls.{Outcome, refused, reporting, telling, judged, tooShort, restartTable, restartOutcome, growTable, growOutcome, writeTable, writeOutcome, readTable, readOutcome, copyTable, copyStore, copyOutcome, checkpointTable, checkpointStore, checkpointOutcome, advanceTable, advancing, advanceOutcome}
+use Rattle.volume.specs.Calls.{Outcome, refused, doing, reporting, telling, judged, tooShort, isNone, restartTable, restartEffect, restartOutcome, growTable, growEffect, growOutcome, writeTable, writeEffect, writeOutcome, readTable, readEffect, readOutcome, copyTable, copyStore, copyEffect, copyOutcome, checkpointTable, checkpointStore, checkpointEffect, checkpointOutcome, advanceTable, advancing, advanceEffect, advanceOutcome}
 use Rattle.volume.specs.Records.{recordOf, stateRead, isSoundRecord}
-use Rattle.volume.specs.States.{geometry, disks, historyOf, tallyOf, zeros, withGrowth, grown, recordedOnly, withCopy, checkpointed}
+use Rattle.volume.specs.States.{geometry, disks, historyOf, tallyOf, pendingWith, zeros, withGrowth, withPending, grown, recordedOnly, withCopy, checkpointed}
 use Rattle.volume.proofs.Accepted.{grow-accepted, write-accepted, copy-accepted, checkpoint-accepted, advance-accepted}
 use Rattle.volume.proofs.ByteBounds.{record-room}
 use Rattle.volume.proofs.Judged.{judged-cases, accepted-when}
 use Rattle.volume.proofs.Theorems.{volume-laws}
-use Rattle.promise.specs.Calls.{Call, grow, copy, checkpoint, advance, write, read, restart, ended, cutIn}
-use Rattle.promise.specs.Lists.{callOutcome, cutLeft, later}
-use Rattle.promise.specs.Model.{copiedTally, recordedTally, advancedTally, restartedTally, tallyAfter, checkpointFinishes, advanceFinishes, finishes, PlainVolume, withAdded, saved, spoilt, Model, accepting, modelAfter}
+use Rattle.promise.specs.Calls.{Call, grow, copy, checkpoint, advance, write, read, restart, flushed, settles}
+use Rattle.promise.specs.Lists.{callOutcome, later}
+use Rattle.promise.specs.Model.{grownTally, copiedTally, recordedTally, restartedTally, checkpointFinishes, Step, leaving, saving, recording, advanceStep, stepOf, PlainVolume, withSave, withAdded, unset, Model, stepped, accepting, isSaved}
+use Rattle.promise.proofs.Tallies.{copy-unrecorded, spots-apart}
 use Rattle.promise.proofs.Held.{none-waits}
-use Rattle.promise.proofs.StateTallies.{running-of, tally-grown, tally-restarted, tally-copied, tally-checkpointed}
-use Rattle.promise.proofs.Consistent.{Consistent, consistent-restarted, geometry-checkpointed, consistent-unchanged, consistent-grown, consistent-written, consistent-torn, consistent-copied, consistent-checkpointed}
+use Rattle.promise.proofs.StateTallies.{running-of, stage-of, tally-grown, tally-restarted, tally-copied, tally-checkpointed}
+use Rattle.promise.proofs.Consistent.{Consistent, withBlock, consistent-pending, consistent-restarted, geometry-checkpointed, consistent-unchanged, consistent-grown, consistent-written, consistent-torn, consistent-copied, copy-finds, consistent-checkpointed}
 
 -- ---- the invariant
 
@@ -47,18 +52,18 @@ pub record Down (g : Geometry) (o : Observations) (k : Model) : Type 0 where
   pub same-geometry : geometry (recordedOnly last) ≡ g
 
 -- memory is lost
-down-at : {g : Geometry} {o : Observations} (v : Volume) (p : PlainVolume) (t : Tally) → Consistent (recordedOnly v) o p → t ≡ tallyOf v
+pub down-at : {g : Geometry} {o : Observations} (v : Volume) (p : PlainVolume) (t : Tally) → Consistent (recordedOnly v) o p → t ≡ tallyOf v
     → geometry v ≡ g → Down g o (record { plain = p; tally = t })
-unfolding recordedOnly withGrowth geometry
+unfolding recordedOnly withPending withGrowth geometry
 down-at v p t c e same =
     record { last = v; consistent = c; same-tally = ap restartedTally e ∙ sym (tally-restarted v); same-geometry = same }
 
-up-down : {g : Geometry} {v : Volume} {o : Observations} {k : Model} {told : Option ℕ} → Up g v o k told → Down g o k
+pub up-down : {g : Geometry} {v : Volume} {o : Observations} {k : Model} {told : Option ℕ} → Up g v o k told → Down g o k
 up-down {v = v} {o = o} {k = k} u =
     down-at v (k .plain) (k .tally) (consistent-restarted v o (k .plain) (u .consistent)) (u .same-tally) (u .same-geometry)
 
 -- nothing is stored
-up-unchanged : {g : Geometry} {v : Volume} {before after : Observations} {k : Model} {told : Option ℕ} → Up g v before k told
+pub up-unchanged : {g : Geometry} {v : Volume} {before after : Observations} {k : Model} {told : Option ℕ} → Up g v before k told
     → Stored (geometry v) noStore before after → Up g v after k told
 up-unchanged {v = v} {before = before} {after = after} {k = k} u stored =
     record {
@@ -68,87 +73,92 @@ up-unchanged {v = v} {before = before} {after = after} {k = k} u stored =
       calls-told = u .calls-told;
     }
 
--- ---- what a call does to it
+-- what is pending is no part of it
+pub up-pending : {g : Geometry} {v : Volume} {o : Observations} {k : Model} {told : Option ℕ} → Up g v o k told → (q : Pending)
+    → Up g (withPending v q) o k told
+unfolding withPending geometry tallyOf historyOf
+up-pending {v = v} {o = o} {k = k} u q =
+    record {
+      consistent = consistent-pending v o (k .plain) q (u .consistent);
+      same-tally = u .same-tally;
+      same-geometry = u .same-geometry;
+      calls-told = u .calls-told;
+    }
 
--- a call that came to its end, and one cut in its store
-pub record Step (g : Geometry) (v : Volume) (o : Observations) (k : Model) (told : Option ℕ) (c : Call) (out : Outcome) : Type 0 where
-  pub when-whole : (after : Observations) → Stored (geometry v) (out .store) o after
-      → Up g (out .reply .state) after (modelAfter (ended c (accepted (out .reply .answer))) k) (later told (reported (out .reply .answer)))
-  pub when-cut : (left : AfterCut) (after : Observations) → MayLeave (out .store) left → Stored (geometry v) (cutStore (out .store) left) o after
-      → Down g after (modelAfter (cutIn c (cutLeft left)) k)
+-- ---- what an accepted call does to it
 
 -- a torn block store, over any earlier medium that agrees with the record
-abbrev Torn : (v : Volume) (c : Call) (store : Store) → Type 0
-Torn v c store =
+abbrev pub Torn : (v : Volume) (step : Step) (store : Store) → Type 0
+Torn v step store =
     (bytes : List ℕ) (before after : Observations) (p : PlainVolume) → Consistent (recordedOnly v) before p → MayLeave store (tornBlock bytes)
-    → Stored (geometry v) (cutStore store (tornBlock bytes)) before after → Consistent (recordedOnly v) after (spoilt c p)
+    → Stored (geometry v) (cutStore store (tornBlock bytes)) before after → Consistent (recordedOnly v) after (unset (isSaved (step .save)) p)
 
--- only a block store is torn
-nothing-torn : (v : Volume) (c : Call) → Torn v c noStore
-unfolding MayLeave
-nothing-torn v c bytes before after p d may stored = absurd may
+-- the record stays, and what is unset after a cut is what was unset before, and the block that was saved
+pub record KeepsRecord (v : Volume) (step : Step) (u : Volume) : Type 0 where
+  pub same-record : recordedOnly u ≡ recordedOnly v
+  pub no-record : step .storesRecord ≡ false
+  pub unset-after : (f : ℕ → Bool) (o : Model)
+      → unset (λ y. isSaved (step .save) y || f y) (stepped step o .plain) ≡ unset (isSaved (step .save)) (unset f (o .plain))
 
-record-not-torn : (v : Volume) (c : Call) (sector : List ℕ) → Torn v c (recordStore sector)
-unfolding MayLeave
-record-not-torn v c sector bytes before after p d may stored = absurd may
+pub record StoresBlock (v : Volume) (step : Step) (u : Volume) (store : Store) : Type 0 where
+  pub keeps : KeepsRecord v step u
+  pub record-down : v .pending .records ≡ false
+  pub still-down : u .pending .records ≡ false
+  pub now-pending : u .pending .blocks ≡ true
+  pub torn : Torn v step store
 
-module _ {g : Geometry} {v : Volume} {o : Observations} {k : Model} {told : Option ℕ} (u : Up g v o k told) (c : Call) where
-  -- an accepted call, whole
-  abbrev Whole : (out : Outcome) → Type 0
-  Whole out =
-      (after : Observations) → Stored (geometry v) (out .store) o after
-      → Up g (out .reply .state) after (accepting c k) (later told (reported (out .reply .answer)))
+pub record StoresRecord (v : Volume) (step : Step) (u : Volume) : Type 0 where
+  pub record-down : v .pending .records ≡ false
+  pub blocks-down : v .pending .blocks ≡ false
+  pub now-pending : u .pending .records ≡ true
+  pub a-record : step .storesRecord ≡ true
+  pub no-save : step .save ≡ none
 
-  -- what a cut leaves
-  cut-cases : (store : Store) → ((after : Observations) → Stored (geometry v) store o after → Down g after (accepting c k)) → Torn v c store
-      → (left : AfterCut) (after : Observations) → MayLeave store left → Stored (geometry v) (cutStore store left) o after
-      → Down g after (modelAfter (cutIn c (cutLeft left)) k)
-  unfolding MayLeave cutStore cutLeft modelAfter
-  cut-cases noStore whole torn left after may stored = absurd may
-  cut-cases (recordStore sector) whole torn (tornBlock bytes) after may stored = absurd may
-  cut-cases (recordStore sector) whole torn oldRecord after may stored = up-down (up-unchanged u stored)
-  cut-cases (recordStore sector) whole torn newRecord after may stored = whole after stored
-  cut-cases (blockStore p b) whole torn (tornBlock bytes) after may stored =
-      down-at v (spoilt c (k .plain)) (k .tally)
-      (torn bytes o after (k .plain) (consistent-restarted v o (k .plain) (u .consistent)) may stored) (u .same-tally) (u .same-geometry)
-  cut-cases (blockStore p b) whole torn oldRecord after may stored = absurd may
-  cut-cases (blockStore p b) whole torn newRecord after may stored = absurd may
+abbrev pub ByStore : (v : Volume) (step : Step) (u : Volume) (store : Store) → Type 0
+ByStore v step u noStore = KeepsRecord v step u × (u .pending ≡ v .pending) × (step .save ≡ none)
+ByStore v step u (recordStore sector) = StoresRecord v step u
+ByStore v step u (blockStore q bytes) = StoresBlock v step u (blockStore q bytes)
 
-  accepted-step : (out : Outcome) → accepted (out .reply .answer) ≡ true → Whole out → Torn v c (out .store) → Step g v o k told c out
-  unfolding modelAfter
-  accepted-step out e whole torn =
-      record {
-        when-whole = λ after stored. rw e (whole after stored);
-        when-cut = cut-cases (out .store) (λ after stored. up-down (whole after stored)) torn;
-      }
+-- a block store's spot lies on the disks
+unfoldable pub Lies : (v : Volume) (store : Store) → Type 0
+Lies v noStore = Unit {0}
+Lies v (recordStore sector) = Unit {0}
+Lies v (blockStore q bytes) = Within (v .rows) (historyOf v) q
 
-  -- a refused call changes nothing
-  refused-step : (n : ℕ) (piece : List ℕ) → n ≢ 0 → Step g v o k told c (refused v n piece)
-  unfolding refused MayLeave accepted number reported later modelAfter
-  refused-step n piece f =
-      record {
-        when-whole = λ after stored. rw (ne-eqb n 0 f) (up-unchanged u stored);
-        when-cut = λ left after may stored. absurd may;
-      }
+-- on the medium that it saw, and on any other of its length that agrees with the state
+pub record Effect (g : Geometry) (v : Volume) (o : Observations) (k : Model) (told : Option ℕ) (step : Step) (out : Outcome) : Type 0 where
+  pub is-accepted : accepted (out .reply .answer) ≡ true
+  pub whole : (before after : Observations) → before .byteCount ≡ o .byteCount → Consistent v before (k .plain) → Stored (geometry v) (out .store) before after
+      → Up g (out .reply .state) after (stepped step k) (later told (reported (out .reply .answer)))
+  pub by-store : ByStore v step (out .reply .state) (out .store)
+  pub lies : Lies v (out .store)
 
-  judged-step : (table : List (ℕ × Bool)) (piece : List ℕ) (out : Outcome) → accepted (out .reply .answer) ≡ true
-      → (refusal table ≡ 0 → Whole out) → (refusal table ≡ 0 → Torn v c (out .store))
-      → Step g v o k told c (judged table (λ n. refused v n piece) out)
-  judged-step table piece out e whole torn =
-      judged-cases (Step g v o k told c) table (λ n. refused v n piece) out
-      (λ passes. accepted-step out e (whole passes) (torn passes)) (refused-step (refusal table) piece)
+-- a call that its table judges: refused, or accepted
+pub data Judgement (g : Geometry) (v : Volume) (o : Observations) (k : Model) (told : Option ℕ) (step : Step) : Outcome → Type 0 where
+  is-refused : (n : ℕ) (piece : List ℕ) → n ≢ 0 → Judgement g v o k told step (refused v n piece)
+  has-effect : {out : Outcome} → Effect g v o k told step out → Judgement g v o k told step out
+
+judgement : {g : Geometry} {v : Volume} {o : Observations} {k : Model} {told : Option ℕ} {step : Step} (table : List (ℕ × Bool)) (piece : List ℕ)
+    (out : Outcome) → (refusal table ≡ 0 → Effect g v o k told step out) → Judgement g v o k told step (judged table (λ n. refused v n piece) out)
+judgement {g = g} {v = v} {o = o} {k = k} {told = told} {step = step} table piece out effect =
+    judged-cases (Judgement g v o k told step) table (λ n. refused v n piece) out (λ e. has-effect (effect e)) (λ f. is-refused (refusal table) piece f)
+
+pub effect-of : {g : Geometry} {v : Volume} {o : Observations} {k : Model} {told : Option ℕ} {step : Step} (out : Outcome) → Judgement g v o k told step out
+    → accepted (out .reply .answer) ≡ true → Effect g v o k told step out
+effect-of out (is-refused n piece f) a = unfold refused accepted number in clash a (ne-eqb n 0 f)
+effect-of out (has-effect e) a = e
 
 -- ---- restart: it is accepted on any medium that agrees with the state that its record holds
 
 module _ {g : Geometry} {o : Observations} {k : Model} (d : Down g o k) where
-  abbrev found : Volume
+  abbrev pub found : Volume
   found = recordedOnly (d .last)
 
-  restart-reads : (isSoundRecord (o .sector) ≡ true) × (stateRead (o .sector) ≡ found)
-  unfolding recordedOnly withGrowth
+  pub restart-reads : (isSoundRecord (o .sector) ≡ true) × (stateRead (o .sector) ≡ found)
+  unfolding recordedOnly withPending withGrowth
   restart-reads = rw (d .consistent .recorded) (volume-laws .record-read found (d .consistent .is-sound))
 
-  restart-passes : refusal (restartTable o) ≡ 0
+  pub restart-passes : refusal (restartTable o) ≡ 0
   unfolding refusal restartTable tooShort
   restart-passes =
       let room = d .consistent .room in
@@ -157,17 +167,17 @@ module _ {g : Geometry} {o : Observations} {k : Model} (d : Down g o k) where
       rw (record-long, restart-reads .0, restart-reads .1, disks-long)
 
   pub restart-found : restartOutcome o ≡ reporting found noStore
-  unfolding restartOutcome
+  unfolding restartOutcome restartEffect
   restart-found =
       accepted-when (restartTable o) (λ n. refused zeros n []) (reporting (stateRead (o .sector)) noStore) 0 (sym restart-passes) refl
       ∙ ap (λ (w : Volume). reporting w noStore) (restart-reads .1)
 
   pub restart-up : (told : Option ℕ) → Up g found o (accepting restart k) (later told (some (callsLeftOf (tallyOf found))))
-  unfolding accepting finishes saved tallyAfter later
+  unfolding accepting stepOf stepped leaving withSave later
   restart-up told =
       record { consistent = d .consistent; same-tally = d .same-tally; same-geometry = d .same-geometry; calls-told = λ _. refl }
 
--- ---- each call
+-- ---- each other call
 
 -- an advance that is not refused is accepted
 pub advance-told : (v : Volume) (o : Observations) (next : Option ℕ) → accepted (advancing v next o .reply .answer) ≡ true
@@ -175,74 +185,123 @@ unfolding advancing telling accepted number
 advance-told v o none = refl
 advance-told v o (some x) = refl
 
+-- a copy keeps the record
+copy-keeps : (v : Volume) (x : ℕ) (q : Pending) (t : Tally) → KeepsRecord v (leaving t) (withPending (withCopy v x) q)
+unfolding withCopy withPending withGrowth recordedOnly leaving stepped withSave unset isSaved
+copy-keeps v x q t = record { same-record = refl; no-record = refl; unset-after = λ f o. refl }
+
+unset-saved : (e f : Bool) (b : List ℕ) (z : Option (List ℕ)) → cond (e || f) none (cond e (some b) z) ≡ cond e none (cond f none z)
+unset-saved true f b z = refl
+unset-saved false f b z = refl
+
+write-keeps : (v : Volume) (x : ℕ) (piece : List ℕ) (q : Pending) (t : Tally) → KeepsRecord v (saving x piece t) (withPending v q)
+unfolding withPending withGrowth recordedOnly saving stepped withSave unset isSaved
+write-keeps v x piece q t =
+    record {
+      same-record = refl;
+      no-record = refl;
+      unset-after = λ f o i. record { blocks = o .plain .blocks; bytes = λ y. unset-saved (eqb y x) (f y) piece (o .plain .bytes y) i };
+    }
+
 -- the tally is that of the state
 module _ (g : Geometry) (v : Volume) (o : Observations) (p : PlainVolume) (told : Option ℕ) (c : Consistent v o p) (same : geometry v ≡ g)
     (right : v .growing ≢ 0 → told ≡ some (callsLeftOf (tallyOf v))) where
   abbrev model : Model
   model = record { plain = p; tally = tallyOf v }
 
-  is-up : Up g v o model told
-  is-up = record { consistent = c; same-tally = refl; same-geometry = same; calls-told = right }
+  up-there : (before : Observations) → Consistent v before p → Up g v before model told
+  up-there before there = record { consistent = there; same-tally = refl; same-geometry = same; calls-told = right }
 
   -- grow
-  grow-whole : (count : ℕ) → refusal (growTable v count (o .byteCount)) ≡ 0 → (after : Observations)
-      → Stored (geometry v) (recordStore (recordOf (grown v count))) o after
-      → Up g (grown v count) after (accepting (grow count) model) (some (callsLeftOf (tallyOf (grown v count))))
-  unfolding accepting finishes saved tallyAfter grown withGrowth geometry
-  grow-whole count e after stored =
+  grow-whole : (count : ℕ) → refusal (growTable v count (o .byteCount)) ≡ 0 → (before after : Observations) → before .byteCount ≡ o .byteCount
+      → Consistent v before p → Stored (geometry v) (recordStore (recordOf (grown v count))) before after
+      → Up g (grown v count) after (record { plain = p; tally = grownTally count (tallyOf v) }) (some (callsLeftOf (tallyOf (grown v count))))
+  unfolding grown withGrowth geometry
+  grow-whole count e before after long there stored =
       let f = grow-accepted v count (o .byteCount) e in
       record {
-        consistent = consistent-grown v o after p c count e stored;
+        consistent = consistent-grown v before after p there count (rw long e) stored;
         same-tally = sym (tally-grown v count (f .is-sound) (f .one-more));
         same-geometry = same;
         calls-told = λ _. refl;
       }
 
-  grow-step : (count : ℕ) → Step g v o model told (grow count) (growOutcome v count o)
-  unfolding growOutcome reporting accepted number reported later
-  grow-step count =
-      judged-step is-up (grow count) (growTable v count (o .byteCount)) [] _ refl (grow-whole count) (λ _. record-not-torn v (grow count) _)
+  grow-judged : (count : ℕ) → Judgement g v o model told (stepOf (grow count) (tallyOf v)) (growOutcome v count o)
+  unfolding growOutcome growEffect reporting accepted number reported later stepOf recording stepped withSave withPending pendingWith
+  grow-judged count =
+      judgement (growTable v count (o .byteCount)) [] _
+      (λ e.
+      let f = grow-accepted v count (o .byteCount) e in
+      record {
+        is-accepted = refl;
+        whole = λ before after long there stored. up-pending (grow-whole count e before after long there stored) _;
+        by-store = record { record-down = f .record-down; blocks-down = f .blocks-down; now-pending = refl; a-record = refl; no-save = refl };
+        lies = unfold Lies in tt;
+      })
 
   -- write
-  write-whole : (x : ℕ) (piece : List ℕ) → refusal (writeTable v x (length piece) (o .byteCount)) ≡ 0 → (after : Observations)
-      → Stored (geometry v) (blockStore (liveSpotOf (tallyOf v) x) piece) o after → Up g v after (accepting (write x piece) model) told
-  unfolding accepting finishes saved tallyAfter
-  write-whole x piece e after stored =
+  write-whole : (x : ℕ) (piece : List ℕ) → refusal (writeTable v x (length piece) (o .byteCount)) ≡ 0 → (before after : Observations) → Consistent v before p
+      → Stored (geometry v) (blockStore (liveSpotOf (tallyOf v) x) piece) before after → Up g v after (record { plain = withBlock x (some piece) p; tally = tallyOf v }) told
+  write-whole x piece e before after there stored =
       let f = write-accepted v x (length piece) (o .byteCount) e in
       record {
-        consistent = consistent-written v o after p c x (f .0 .block-open) (f .1) piece (some piece) (λ b e. cc) stored;
+        consistent = consistent-written v before after p there x (f .0 .block-open) (f .1) piece (some piece) (λ b e. cc) stored;
         same-tally = refl;
         same-geometry = same;
         calls-told = right;
       }
 
-  write-torn : (x : ℕ) (piece : List ℕ) → x < openBlocks (tallyOf v) → Torn v (write x piece) (blockStore (liveSpotOf (tallyOf v) x) piece)
-  unfolding cutStore spoilt recordedOnly withGrowth geometry historyOf tallyOf openBlocks liveSpotOf movedBlocks waiting
+  write-torn : (x : ℕ) (piece : List ℕ) → x < openBlocks (tallyOf v) → Torn v (saving x piece (tallyOf v)) (blockStore (liveSpotOf (tallyOf v) x) piece)
+  unfolding cutStore saving unset isSaved withBlock recordedOnly withPending withGrowth geometry historyOf tallyOf openBlocks liveSpotOf movedBlocks waiting
   write-torn x piece below bytes before after q d may stored =
       consistent-written (recordedOnly v) before after q d x below (none-waits (tallyOf v .mode) (tallyOf v .recorded x)) bytes none
       (λ b e. cc) stored
 
-  write-step : (x : ℕ) (piece : List ℕ) → Step g v o model told (write x piece) (writeOutcome v x piece o)
-  unfolding writeOutcome accepted number reported later
-  write-step x piece =
-      judged-step is-up (write x piece) (writeTable v x (length piece) (o .byteCount)) piece _ refl (write-whole x piece)
-      (λ e. write-torn x piece (write-accepted v x (length piece) (o .byteCount) e .0 .block-open))
+  write-lies : (x : ℕ) (piece : List ℕ) → x < openBlocks (tallyOf v) → Lies v (blockStore (liveSpotOf (tallyOf v) x) piece)
+  unfolding Lies tallyOf
+  write-lies x piece below = spots-apart (tallyOf v) (stage-of v (c .is-sound)) .live-within x below
+
+  write-judged : (x : ℕ) (piece : List ℕ) → Judgement g v o model told (stepOf (write x piece) (tallyOf v)) (writeOutcome v x piece o)
+  unfolding writeOutcome writeEffect doing accepted number reported later stepOf saving stepped withSave withBlock withPending pendingWith
+  write-judged x piece =
+      judgement (writeTable v x (length piece) (o .byteCount)) piece _
+      (λ e.
+      let f = write-accepted v x (length piece) (o .byteCount) e in
+      record {
+        is-accepted = refl;
+        whole = λ before after long there stored. up-pending (write-whole x piece e before after there stored) _;
+        by-store =
+            record {
+              keeps = write-keeps v x piece _ (tallyOf v);
+              record-down = f .2;
+              still-down = f .2;
+              now-pending = refl;
+              torn = write-torn x piece (f .0 .block-open);
+            };
+        lies = write-lies x piece (f .0 .block-open);
+      })
 
   -- read
-  read-step : (x : ℕ) (piece : List ℕ) → Step g v o model told (read x piece) (readOutcome v x piece o)
-  unfolding readOutcome accepted number reported later accepting finishes saved tallyAfter
-  read-step x piece =
-      judged-step is-up (read x piece) (readTable v x (length piece) (o .byteCount)) piece _ refl (λ _ after stored. up-unchanged is-up stored)
-      (λ _. nothing-torn v (read x piece))
+  read-judged : (x : ℕ) (piece : List ℕ) → Judgement g v o model told (stepOf (read x piece) (tallyOf v)) (readOutcome v x piece o)
+  unfolding readOutcome readEffect doing accepted number reported later stepOf leaving stepped withSave withPending pendingWith withGrowth recordedOnly unset isSaved
+  read-judged x piece =
+      judgement (readTable v x (length piece) (o .byteCount)) piece _
+      (λ e.
+      record {
+        is-accepted = refl;
+        whole = λ before after long there stored. up-pending (up-unchanged (up-there before there) stored) _;
+        by-store = (record { same-record = refl; no-record = refl; unset-after = λ f o. refl }, refl, refl);
+        lies = unfold Lies in tt;
+      })
 
   -- copy
-  copy-whole : v .growing ≢ 0 → (x : ℕ) → movesNow (tallyOf v) x ≡ true → tallyOf v .copied x ≡ false → (after : Observations)
-      → Stored (geometry v) (copyStore v x o) o after
+  copy-whole : v .growing ≢ 0 → (x : ℕ) → movesNow (tallyOf v) x ≡ true → tallyOf v .copied x ≡ false → (before after : Observations) → Consistent v before p
+      → Stored (geometry v) (copyStore v x o) before after
       → Up g (withCopy v x) after (record { plain = p; tally = copiedTally x (tallyOf v) }) (some (callsLeftOf (tallyOf (withCopy v x))))
-  unfolding withCopy withGrowth geometry
-  copy-whole on x moves new after stored =
+  unfolding withCopy withGrowth geometry copyStore
+  copy-whole on x moves new before after there stored =
       record {
-        consistent = consistent-copied v o after p c on x moves new stored;
+        consistent = consistent-copied v before after p there on x moves new _ (copy-finds v o o p c on x moves new) stored;
         same-tally = sym (tally-copied v x (c .is-sound) on moves);
         same-geometry = same;
         calls-told = λ _. refl;
@@ -252,85 +311,110 @@ module _ (g : Geometry) (v : Volume) (o : Observations) (p : PlainVolume) (told 
   not-recorded on x new =
       by-test (tallyOf v .recorded x) (λ e. clash (running-of v (c .is-sound) on .recorded-copied x e) new) (λ e. e)
 
-  copy-torn : v .growing ≢ 0 → (x : ℕ) → movesNow (tallyOf v) x ≡ true → tallyOf v .copied x ≡ false → (d : Call)
-      → ((q : PlainVolume) → spoilt d q ≡ q) → Torn v d (copyStore v x o)
-  unfolding copyStore cutStore recordedOnly withGrowth geometry historyOf tallyOf movesNow targetOf
-  copy-torn on x moves new d unspoilt bytes before after q e may stored =
-      rw (unspoilt q) (consistent-torn (recordedOnly v) before after q e on x moves (not-recorded on x new) bytes stored)
+  copy-torn : v .growing ≢ 0 → (x : ℕ) → movesNow (tallyOf v) x ≡ true → tallyOf v .copied x ≡ false → (t : Tally) → Torn v (leaving t) (copyStore v x o)
+  unfolding copyStore cutStore leaving unset isSaved recordedOnly withPending withGrowth geometry historyOf tallyOf movesNow targetOf
+  copy-torn on x moves new t bytes before after q e may stored =
+      consistent-torn (recordedOnly v) before after q e on x moves (not-recorded on x new) bytes stored
 
-  copy-step : (x : ℕ) → Step g v o model told (copy x) (copyOutcome v x o)
-  unfolding copyOutcome reporting accepted number reported later accepting finishes saved tallyAfter spoilt
-  copy-step x =
-      judged-step is-up (copy x) (copyTable v x (o .byteCount)) [] _ refl
-      (λ e. let f = copy-accepted v x (o .byteCount) e in copy-whole (f .advances .is-growing) x (f .moves) (f .not-copied))
+  copy-stores : v .growing ≢ 0 → v .pending .records ≡ false → (x : ℕ) → movesNow (tallyOf v) x ≡ true → tallyOf v .copied x ≡ false
+      → ByStore v (leaving (copiedTally x (tallyOf v))) (withPending (withCopy v x) (pendingWith (withCopy v x .pending) (copyStore v x o))) (copyStore v x o)
+  unfolding copyStore
+  copy-stores on down x moves new =
+      record {
+        keeps = copy-keeps v x _ _;
+        record-down = down;
+        still-down = unfold withPending pendingWith withCopy withGrowth in down;
+        now-pending = unfold withPending pendingWith in refl;
+        torn = unfold copyStore in copy-torn on x moves new _;
+      }
+
+  copy-lies : v .growing ≢ 0 → (x : ℕ) → movesNow (tallyOf v) x ≡ true → tallyOf v .copied x ≡ false → Lies v (copyStore v x o)
+  unfolding copyStore Lies
+  copy-lies on x moves new =
+      let r = running-of v (c .is-sound) on in
+      unfold tallyOf in spots-apart (tallyOf v) (stage-of v (c .is-sound)) .target-within x (copy-unrecorded (tallyOf v) r x moves new)
+
+  copy-judged : (x : ℕ) → Judgement g v o model told (stepOf (copy x) (tallyOf v)) (copyOutcome v x o)
+  unfolding copyOutcome copyEffect reporting accepted number reported later stepOf stepped withSave
+  copy-judged x =
+      judgement (copyTable v x (o .byteCount)) [] _
       (λ e.
       let f = copy-accepted v x (o .byteCount) e in
-      copy-torn (f .advances .is-growing) x (f .moves) (f .not-copied) (copy x) (λ q. refl))
+      let on = f .0 .advances .is-growing in
+      record {
+        is-accepted = refl;
+        whole = λ before after long there stored. unfold leaving in up-pending (copy-whole on x (f .0 .moves) (f .0 .not-copied) before after there stored) _;
+        by-store = copy-stores on (f .1) x (f .0 .moves) (f .0 .not-copied);
+        lies = copy-lies on x (f .0 .moves) (f .0 .not-copied);
+      })
 
   -- checkpoint
-  checkpoint-whole : v .growing ≢ 0 → (after : Observations) → Stored (geometry v) (checkpointStore v) o after
+  checkpoint-whole : v .growing ≢ 0 → (before after : Observations) → Consistent v before p → Stored (geometry v) (checkpointStore v) before after
       → Up g (checkpointed v) after
       (record { plain = cond (checkpointFinishes (tallyOf v)) (withAdded (disks v * v .rows) p) p; tally = recordedTally (tallyOf v) })
       (some (callsLeftOf (tallyOf (checkpointed v))))
   unfolding checkpointStore
-  checkpoint-whole on after stored =
+  checkpoint-whole on before after there stored =
       record {
-        consistent = consistent-checkpointed v o after p c on stored;
+        consistent = consistent-checkpointed v before after p there on stored;
         same-tally = sym (tally-checkpointed v (c .is-sound) on);
         same-geometry = geometry-checkpointed v ∙ same;
         calls-told = λ _. refl;
       }
 
-  checkpoint-step : Step g v o model told checkpoint (checkpointOutcome v o)
-  unfolding checkpointOutcome checkpointStore reporting accepted number reported later accepting finishes saved tallyAfter tallyOf disks
-  checkpoint-step =
-      judged-step is-up checkpoint (checkpointTable v (o .byteCount)) [] _ refl
-      (λ e. checkpoint-whole (checkpoint-accepted v (o .byteCount) e .0 .is-growing)) (λ _. record-not-torn v checkpoint _)
+  checkpoint-judged : Judgement g v o model told (stepOf checkpoint (tallyOf v)) (checkpointOutcome v o)
+  unfolding checkpointOutcome checkpointEffect checkpointStore reporting accepted number reported later stepOf recording stepped withSave tallyOf disks withPending pendingWith
+  checkpoint-judged =
+      judgement (checkpointTable v (o .byteCount)) [] _
+      (λ e.
+      let f = checkpoint-accepted v (o .byteCount) e in
+      record {
+        is-accepted = refl;
+        whole = λ before after long there stored. up-pending (checkpoint-whole (f .0 .is-growing) before after there stored) _;
+        by-store = record { record-down = f .2; blocks-down = f .3; now-pending = refl; a-record = refl; no-save = refl };
+        lies = unfold Lies in tt;
+      })
 
   -- advance, by the block that is next
-  advance-whole : v .growing ≢ 0 → (next : Option ℕ) → nextBlock (tallyOf v) ≡ next → (after : Observations)
-      → Stored (geometry v) (advancing v next o .store) o after
-      → Up g (advancing v next o .reply .state) after
-      (record { plain = cond (advanceFinishes next (tallyOf v)) (withAdded (disks v * v .rows) p) p; tally = advancedTally next (tallyOf v) })
-      (later told (reported (advancing v next o .reply .answer)))
-  unfolding advancing telling advanceFinishes advancedTally later reported
-  advance-whole on none e = checkpoint-whole on
-  advance-whole on (some x) e = let f = next-some (tallyOf v) x e in copy-whole on x (f .0) (f .1)
+  advance-effect : (next : Option ℕ) → nextBlock (tallyOf v) ≡ next → v .growing ≢ 0 → v .pending .records ≡ false
+      → (isNone next && v .pending .blocks) ≡ false → Effect g v o model told (advanceStep next (tallyOf v)) (advancing v next o)
+  unfolding advancing telling accepted number reported later advanceStep stepped withSave
+  advance-effect none e on down blocks =
+      record {
+        is-accepted = refl;
+        whole = λ before after long there stored. unfold recording tallyOf disks in up-pending (checkpoint-whole on before after there stored) _;
+        by-store = unfold checkpointStore recording in
+            record { record-down = down; blocks-down = blocks; now-pending = unfold withPending pendingWith in refl; a-record = refl; no-save = refl };
+        lies = unfold checkpointStore Lies in tt;
+      }
+  advance-effect (some x) e on down blocks =
+      let f = next-some (tallyOf v) x e in
+      record {
+        is-accepted = refl;
+        whole = λ before after long there stored. unfold leaving in up-pending (copy-whole on x (f .0) (f .1) before after there stored) _;
+        by-store = copy-stores on down x (f .0) (f .1);
+        lies = copy-lies on x (f .0) (f .1);
+      }
 
-  advance-torn : v .growing ≢ 0 → (next : Option ℕ) → nextBlock (tallyOf v) ≡ next → Torn v advance (advancing v next o .store)
-  unfolding advancing telling checkpointStore spoilt
-  advance-torn on none e = record-not-torn v advance _
-  advance-torn on (some x) e = let f = next-some (tallyOf v) x e in copy-torn on x (f .0) (f .1) advance (λ q. refl)
+  advance-judged : Judgement g v o model told (stepOf advance (tallyOf v)) (advanceOutcome v o)
+  unfolding advanceOutcome advanceEffect stepOf
+  advance-judged =
+      judgement (advanceTable v (o .byteCount)) [] (advancing v (nextBlock (tallyOf v)) o)
+      (λ e. let f = advance-accepted v (o .byteCount) e in advance-effect (nextBlock (tallyOf v)) refl (f .0 .is-growing) (f .1) (f .2))
 
-  advance-step : Step g v o model told advance (advanceOutcome v o)
-  unfolding advanceOutcome accepting finishes saved tallyAfter tallyOf disks
-  advance-step =
-      let next = nextBlock (tallyOf v) in
-      judged-step is-up advance (advanceTable v (o .byteCount)) [] (advancing v next o) (advance-told v o next)
-      (λ e. advance-whole (advance-accepted v (o .byteCount) e .is-growing) next refl)
-      (λ e. advance-torn (advance-accepted v (o .byteCount) e .is-growing) next refl)
+  each-judged : (d : Call) → settles d ≡ false → Judgement g v o model told (stepOf d (tallyOf v)) (callOutcome d v o)
+  unfolding callOutcome settles
+  each-judged (grow count) s = grow-judged count
+  each-judged (copy x) s = copy-judged x
+  each-judged checkpoint s = checkpoint-judged
+  each-judged advance s = advance-judged
+  each-judged (write x piece) s = write-judged x piece
+  each-judged (read x piece) s = read-judged x piece
+  each-judged restart s = absurd (true≢false s)
+  each-judged flushed s = absurd (true≢false s)
 
-  -- restart
-  restart-step : Step g v o model told restart (restartOutcome o)
-  unfolding reporting accepted number reported
-  restart-step =
-      let d = up-down is-up in
-      rw (restart-found d)
-      (accepted-step is-up restart (reporting (found d) noStore) refl
-      (λ after stored. up-unchanged (restart-up d told) (rw (d .same-geometry, sym same) stored)) (nothing-torn v restart))
-
-  each-step : (d : Call) → Step g v o model told d (callOutcome d v o)
-  unfolding callOutcome
-  each-step (grow count) = grow-step count
-  each-step (copy x) = copy-step x
-  each-step checkpoint = checkpoint-step
-  each-step advance = advance-step
-  each-step (write x piece) = write-step x piece
-  each-step (read x piece) = read-step x piece
-  each-step restart = restart-step
-
-pub step : {g : Geometry} {v : Volume} {o : Observations} {k : Model} {told : Option ℕ} → Up g v o k told → (c : Call)
-    → Step g v o k told c (callOutcome c v o)
-step {g = g} {v = v} {o = o} {k = k} {told = told} u c =
-    subst (λ (k : Model). Step g v o k told c (callOutcome c v o)) (λ i. record { plain = k .plain; tally = sym (u .same-tally) i })
-    (each-step g v o (k .plain) told (u .consistent) (u .same-geometry) (u .calls-told) c)
+pub call-judged : {g : Geometry} {v : Volume} {o : Observations} {k : Model} {told : Option ℕ} → Up g v o k told → (c : Call) → settles c ≡ false
+    → Judgement g v o k told (stepOf c (k .tally)) (callOutcome c v o)
+call-judged {g = g} {v = v} {o = o} {k = k} {told = told} u c s =
+    subst (λ (k : Model). Judgement g v o k told (stepOf c (k .tally)) (callOutcome c v o)) (λ i. record { plain = k .plain; tally = sym (u .same-tally) i })
+    (each-judged g v o (k .plain) told (u .consistent) (u .same-geometry) (u .calls-told) c s)

@@ -11,7 +11,7 @@ use Rattle.base.proofs.Booleans.{and-left, and-right, and-both, clash, by-test}
 use Rattle.layout.specs.History.{Within, diskCount, oldCount, addedCount, rising}
 use Rattle.layout.specs.Laws.{Bijection, LookUps}
 use Rattle.layout.specs.Live.{liveSpot}
-use Rattle.layout.specs.Tally.{Tally, notGrowing, growing, byMode, openBlocks, recordedBy, movedBlocks, liveSpotOf, waiting, movesNow, targetOf}
+use Rattle.layout.specs.Tally.{Tally, notGrowing, growing, isRunning, openBlocks, recordedBy, movedBlocks, liveSpotOf, waiting, movesNow, targetOf}
 use Rattle.layout.specs.Windows.{windows, moving, windowOf, movingIn}
 use Rattle.layout.proofs.Bijection.{spot-injective}
 use Rattle.layout.proofs.NextBlocks.{moving-old}
@@ -37,7 +37,7 @@ pub data Stage (t : Tally) : Type 0 where
 
 -- a moving block of the window that is not recorded: a copy of it goes to its target
 unfoldable pub unrecorded : (t : Tally) (x : ℕ) → Bool
-unrecorded t x = byMode (t .mode) false (movesNow t x && not (t .recorded x))
+unrecorded t x = isRunning (t .mode) && (movesNow t x && not (t .recorded x))
 
 -- spots lie on the disks and are apart from each other
 pub record SpotsApart (t : Tally) : Type 0 where

@@ -8,11 +8,24 @@ use printing::counted;
 use printing::labelled;
 use printing::put_bytes;
 use printing::text;
+use volume::Reply;
 use volume::Volume;
 
 // The start of a line.
 pub fn show_medium(length: usize) {
     counted(b"medium of ", length, b" bytes, ");
+}
+
+// The reply, with its store down: document 01's cases have a flushed after each store.
+fn stored(reply: Reply) -> Reply {
+    let state = reply.state;
+    let answer = reply.answer;
+    let down = state.flushed();
+    let after = down.state;
+    Reply {
+        state: after,
+        answer,
+    }
 }
 
 // What changed on the medium, and the end of the line.
@@ -28,7 +41,7 @@ pub fn show_format(medium: &mut [u8], size: usize, rows: usize, disks: usize) ->
     labelled(b"format: Z", size);
     labelled(b", rows", rows);
     labelled(b", disks", disks);
-    let reply = Volume::format(medium, size, rows, disks);
+    let reply = stored(Volume::format(medium, size, rows, disks));
     show_reply(reply, zeros(), b"of zeros");
     end_line(before, medium);
     let state = reply.state;
@@ -55,7 +68,7 @@ pub fn show_grow(v: Volume, medium: &mut [u8], count: usize) -> Volume {
     put_bytes(before, 0, medium);
     show_state(v);
     counted(b": grow to ", count, b" disks");
-    let reply = v.grow(medium, count);
+    let reply = stored(v.grow(medium, count));
     show_reply(reply, v, b"as it was");
     end_line(before, medium);
     let state = reply.state;
@@ -77,7 +90,7 @@ pub fn show_write(v: Volume, medium: &mut [u8], x: usize, piece: &[u8]) {
     put_bytes(before, 0, medium);
     put_bytes(piece_before, 0, piece);
     show_block(v, b": write block", x, piece.len());
-    let reply = v.write(medium, Block(x), piece);
+    let reply = stored(v.write(medium, Block(x), piece));
     show_reply(reply, v, b"as it was");
     show_bytes(b", piece", piece_before, piece);
     end_line(before, medium);
@@ -103,7 +116,7 @@ pub fn show_copy(v: Volume, medium: &mut [u8], x: usize) -> Volume {
     put_bytes(before, 0, medium);
     show_state(v);
     labelled(b": copy block", x);
-    let reply = v.copy(medium, Block(x));
+    let reply = stored(v.copy(medium, Block(x)));
     show_reply(reply, v, b"as it was");
     end_line(before, medium);
     let state = reply.state;
@@ -116,7 +129,7 @@ pub fn show_checkpoint(v: Volume, medium: &mut [u8]) -> Volume {
     put_bytes(before, 0, medium);
     show_state(v);
     text(b": checkpoint");
-    let reply = v.checkpoint(medium);
+    let reply = stored(v.checkpoint(medium));
     show_reply(reply, v, b"as it was");
     end_line(before, medium);
     let state = reply.state;
@@ -129,7 +142,7 @@ pub fn show_advance(v: Volume, medium: &mut [u8]) -> Volume {
     put_bytes(before, 0, medium);
     show_state(v);
     text(b": advance");
-    let reply = v.advance(medium);
+    let reply = stored(v.advance(medium));
     show_reply(reply, v, b"as it was");
     end_line(before, medium);
     let state = reply.state;

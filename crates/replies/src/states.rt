@@ -1,5 +1,14 @@
 // States of volumes with 512-byte blocks, made by hand, and two states compared.
+use volume::Pending;
 use volume::Volume;
+
+// Nothing is pending.
+fn none_pending() -> Pending {
+    Pending {
+        records: false,
+        blocks: false,
+    }
+}
 
 // The marks from `from` up to, not including, `end`.
 fn marks_from(from: usize, end: usize) -> [bool; 64] {
@@ -16,6 +25,7 @@ fn marks_from(from: usize, end: usize) -> [bool; 64] {
 
 // The state of zeros, without the volume's own function for it.
 pub fn zeros() -> Volume {
+    let pending = none_pending();
     Volume {
         size: 0,
         rows: 0,
@@ -25,11 +35,13 @@ pub fn zeros() -> Volume {
         window: 0,
         recorded: 0,
         copied: 0,
+        pending,
     }
 }
 
 // t growths, none under way, with 5 rows.
 pub fn resting(counts: [usize; 8], t: usize) -> Volume {
+    let pending = none_pending();
     Volume {
         size: 512,
         rows: 5,
@@ -39,6 +51,7 @@ pub fn resting(counts: [usize; 8], t: usize) -> Volume {
         window: 0,
         recorded: 0,
         copied: 0,
+        pending,
     }
 }
 
@@ -46,6 +59,7 @@ pub fn resting(counts: [usize; 8], t: usize) -> Volume {
 pub fn in_growth(counts: [usize; 8], t: usize, recorded: usize, copied: usize) -> Volume {
     let first_recorded = marks::word_of(marks_from(0, recorded));
     let first_copied = marks::word_of(marks_from(0, copied));
+    let pending = none_pending();
     Volume {
         size: 512,
         rows: 5,
@@ -55,6 +69,7 @@ pub fn in_growth(counts: [usize; 8], t: usize, recorded: usize, copied: usize) -
         window: 0,
         recorded: first_recorded,
         copied: first_copied,
+        pending,
     }
 }
 
@@ -62,6 +77,7 @@ pub fn in_growth(counts: [usize; 8], t: usize, recorded: usize, copied: usize) -
 pub fn in_window(rows: usize, w: usize, from: usize, end: usize) -> Volume {
     let recorded = marks::word_of(marks_from(from, end));
     let copied = marks::word_of(marks_from(from, end));
+    let pending = none_pending();
     Volume {
         size: 512,
         rows,
@@ -71,6 +87,7 @@ pub fn in_window(rows: usize, w: usize, from: usize, end: usize) -> Volume {
         window: w,
         recorded,
         copied,
+        pending,
     }
 }
 
@@ -119,6 +136,14 @@ fn same_numbers(a: Volume, b: Volume) -> bool {
     a.window == b.window
 }
 
+// Is the same pending in both?
+fn same_pending(a: Pending, b: Pending) -> bool {
+    if a.records != b.records {
+        return false;
+    }
+    a.blocks == b.blocks
+}
+
 // Are all fields of both the same?
 pub(crate) fn same_state(a: Volume, b: Volume) -> bool {
     if !same_numbers(a, b) {
@@ -132,5 +157,10 @@ pub(crate) fn same_state(a: Volume, b: Volume) -> bool {
     if a.recorded != b.recorded {
         return false;
     }
-    a.copied == b.copied
+    if a.copied != b.copied {
+        return false;
+    }
+    let pending = a.pending;
+    let other_pending = b.pending;
+    same_pending(pending, other_pending)
 }

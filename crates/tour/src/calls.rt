@@ -13,11 +13,23 @@ use volume::HolderAnswer;
 use volume::Reply;
 use volume::Volume;
 
+// The reply, with its store down: a flushed follows each call here.
+pub fn stored(reply: Reply) -> Reply {
+    let state = reply.state;
+    let answer = reply.answer;
+    let down = state.flushed();
+    let after = down.state;
+    Reply {
+        state: after,
+        answer,
+    }
+}
+
 pub fn show_format(medium: &mut [u8], size: usize, rows: usize, disks: usize) -> Volume {
     counted(b"  format with ", disks, b" disks of ");
     counted(b"", rows, b" rows, blocks of ");
     counted(b"", size, b" bytes: ");
-    let reply = Volume::format(medium, size, rows, disks);
+    let reply = stored(Volume::format(medium, size, rows, disks));
     let answer = reply.answer;
     show_answer(answer);
     let state = reply.state;
@@ -26,7 +38,7 @@ pub fn show_format(medium: &mut [u8], size: usize, rows: usize, disks: usize) ->
 
 pub fn show_grow(v: Volume, medium: &mut [u8], count: usize) -> Reply {
     counted(b"  grow to ", count, b" disks: ");
-    let reply = v.grow(medium, count);
+    let reply = stored(v.grow(medium, count));
     let answer = reply.answer;
     show_answer(answer);
     reply
@@ -42,7 +54,7 @@ pub fn show_restart(medium: &[u8]) -> Reply {
 
 pub fn show_checkpoint(v: Volume, medium: &mut [u8]) -> Volume {
     text(b"  checkpoint: ");
-    let reply = v.checkpoint(medium);
+    let reply = stored(v.checkpoint(medium));
     let answer = reply.answer;
     show_answer(answer);
     let state = reply.state;

@@ -1,4 +1,5 @@
 // Advance calls, some or as many as were reported.
+use super::calls::stored;
 use super::words::show_answer;
 use printing::counted;
 use printing::text;
@@ -38,7 +39,7 @@ pub fn advance_times(reply: Reply, medium: &mut [u8], times: usize) -> Reply {
     while k < times {
         text(b"  advance: ");
         let state = last.state;
-        last = state.advance(medium);
+        last = stored(state.advance(medium));
         let answer = last.answer;
         show_answer(answer);
         k += 1;

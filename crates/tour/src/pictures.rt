@@ -1,5 +1,6 @@
 // Pictures of 512 bytes, saved and read back. Bytes 0 and 1 of a picture are its block and its version. A lent list has the version
 // last saved of each block; 0 is none.
+use super::calls::stored;
 use super::words::show_answer;
 use layout::Block;
 use printing::counted;
@@ -22,7 +23,7 @@ fn write_picture(v: Volume, medium: &mut [u8], x: usize, version: u8) -> Reply {
     let mut space = [0u8; 512];
     let piece: &mut [u8] = &mut space;
     draw(piece, x, version);
-    v.write(medium, Block(x), piece)
+    stored(v.write(medium, Block(x), piece))
 }
 
 // Keeps the version if its write was done, and tells whether it was.

@@ -1,7 +1,7 @@
 -- What an accepted call knows: the facts that hold where a call's table refuses nothing. Assumes nothing.
 use Prim.Native.Nat.{ℕ, _≤_, _<_}
 use mathlib.Core.Path.{_≡_, refl}
-use mathlib.Core.Bool.{Bool, true, false, not}
+use mathlib.Core.Bool.{Bool, true, false, not, _&&_}
 use mathlib.Core.List.{List, [], _∷_}
 use mathlib.Core.Logic.{_≢_}
 use mathlib.Core.Option.{Option, none, some}
@@ -14,12 +14,12 @@ use Rattle.base.proofs.Refusals.{passed, held}
 use Rattle.layout.specs.declared.Spot.{Spot}
 use Rattle.layout.specs.History.{Within}
 use Rattle.layout.specs.Limits.{mostDisks, mostGrowths}
-use Rattle.layout.specs.Tally.{openBlocks, liveBlockOf, waiting, movesNow}
+use Rattle.layout.specs.Tally.{openBlocks, liveBlockOf, waiting, movesNow, nextBlock}
 use Rattle.marks.specs.Marks.{within}
 use Rattle.medium.specs.declared.Geometry.{Geometry}
 use Rattle.medium.specs.Medium.{recordBytes, bytesNeeded, Observations}
 use Rattle.volume.specs.declared.Volume.{Volume}
-use Rattle.volume.specs.Calls.{tooShort, formatTable, restartTable, sectorTable, growTable, writeTable, readTable, copyTable, checkpointTable, advanceTable, addressTable, holderTable, isNone}
+use Rattle.volume.specs.Calls.{tooShort, formatTable, restartTable, sectorTable, growTable, writeTable, readTable, copyTable, checkpointTable, advanceTable, growthTable, addressTable, holderTable, isNone}
 use Rattle.volume.specs.Records.{stateRead, isSoundRecord}
 use Rattle.volume.specs.Sound.{sizeHolds, rowsHold, disksHold, sound}
 use Rattle.volume.specs.States.{geometry, historyOf, disks, tallyOf}
@@ -78,6 +78,8 @@ pub record GrowFacts (v : Volume) (count len : ℕ) : Type 0 where
   pub more-disks : disks v < count
   pub disks-most : count ≤ mostDisks
   pub room : bytesNeeded (geometry v) count ≤ len
+  pub record-down : v .pending .records ≡ false
+  pub blocks-down : v .pending .blocks ≡ false
 
 pub grow-accepted : (v : Volume) (count len : ℕ) → refusal (growTable v count len) ≡ 0 → GrowFacts v count len
 unfolding growTable
@@ -87,7 +89,9 @@ grow-accepted v count len e =
     let c = passed 9 (eqb (v .growths) mostGrowths) _ (omega arith) (b .1) in
     let d = passed 8 (leb count (disks v)) _ (omega arith) (c .1) in
     let f = passed 8 (ltb mostDisks count) _ (omega arith) (d .1) in
-    let g = passed 2 (tooShort (geometry v) count len) [] (omega arith) (f .1) in
+    let g = passed 2 (tooShort (geometry v) count len) _ (omega arith) (f .1) in
+    let h = passed 19 (v .pending .records) _ (omega arith) (g .1) in
+    let i = passed 18 (v .pending .blocks) [] (omega arith) (h .1) in
     record {
       is-sound = a .0;
       not-growing = eqb-true (v .growing) 0 (b .0);
@@ -95,6 +99,8 @@ grow-accepted v count len e =
       more-disks = leb-false count (disks v) (d .0);
       disks-most = ltb-false mostDisks count (f .0);
       room = long-enough (geometry v) count len (g .0);
+      record-down = h .0;
+      blocks-down = i .0;
     }
 
 -- ---- read and write
@@ -134,11 +140,13 @@ pub read-accepted : (v : Volume) (x n len : ℕ) → refusal (readTable v x n le
 unfolding readTable
 read-accepted v x n len e = read-tests v x n len [] e .0
 
-pub write-accepted : (v : Volume) (x n len : ℕ) → refusal (writeTable v x n len) ≡ 0 → ReadFacts v x n len × (waiting (tallyOf v) x ≡ false)
+pub write-accepted : (v : Volume) (x n len : ℕ) → refusal (writeTable v x n len) ≡ 0
+    → ReadFacts v x n len × (waiting (tallyOf v) x ≡ false) × (v .pending .records ≡ false)
 unfolding writeTable
 write-accepted v x n len e =
-    let a = read-tests v x n len ((7, waiting (tallyOf v) x) ∷ []) e in
-    (a .0, passed 7 (waiting (tallyOf v) x) [] (omega arith) (a .1) .0)
+    let a = read-tests v x n len ((7, waiting (tallyOf v) x) ∷ (19, v .pending .records) ∷ []) e in
+    let b = passed 7 (waiting (tallyOf v) x) _ (omega arith) (a .1) in
+    (a .0, b .0, passed 19 (v .pending .records) [] (omega arith) (b .1) .0)
 
 -- ---- copy, checkpoint and advance
 
@@ -166,26 +174,40 @@ advance-tests v len table e =
       c .1,
     )
 
-pub advance-accepted : (v : Volume) (len : ℕ) → refusal (advanceTable v len) ≡ 0 → AdvanceFacts v len
+-- the tests that copy, checkpoint and advance share
+pub growth-accepted : (v : Volume) (len : ℕ) → refusal (growthTable v len) ≡ 0 → AdvanceFacts v len
+unfolding growthTable advanceTable
+growth-accepted v len e = advance-tests v len [] e .0
+
+-- a record store is pending, or is due with block stores pending: in neither case is it accepted
+pub advance-accepted : (v : Volume) (len : ℕ) → refusal (advanceTable v len) ≡ 0
+    → AdvanceFacts v len × (v .pending .records ≡ false) × ((isNone (nextBlock (tallyOf v)) && v .pending .blocks) ≡ false)
 unfolding advanceTable
-advance-accepted v len e = advance-tests v len [] e .0
+advance-accepted v len e =
+    let a = advance-tests v len _ e in
+    let b = passed 19 (v .pending .records) _ (omega arith) (a .1) in
+    (a .0, b .0, passed 18 (isNone (nextBlock (tallyOf v)) && v .pending .blocks) [] (omega arith) (b .1) .0)
 
 pub checkpoint-accepted : (v : Volume) (len : ℕ) → refusal (checkpointTable v len) ≡ 0
-    → AdvanceFacts v len × (within (marksOf (v .copied)) (marksOf (v .recorded)) ≡ false)
+    → AdvanceFacts v len × (within (marksOf (v .copied)) (marksOf (v .recorded)) ≡ false) × (v .pending .records ≡ false) × (v .pending .blocks ≡ false)
 unfolding checkpointTable
 checkpoint-accepted v len e =
-    let a = advance-tests v len ((12, within (marksOf (v .copied)) (marksOf (v .recorded))) ∷ []) e in
-    (a .0, passed 12 (within (marksOf (v .copied)) (marksOf (v .recorded))) [] (omega arith) (a .1) .0)
+    let a = advance-tests v len _ e in
+    let b = passed 12 (within (marksOf (v .copied)) (marksOf (v .recorded))) _ (omega arith) (a .1) in
+    let c = passed 19 (v .pending .records) _ (omega arith) (b .1) in
+    (a .0, b .0, c .0, passed 18 (v .pending .blocks) [] (omega arith) (c .1) .0)
 
-pub copy-accepted : (v : Volume) (x len : ℕ) → refusal (copyTable v x len) ≡ 0 → CopyFacts v x len
+pub copy-accepted : (v : Volume) (x len : ℕ) → refusal (copyTable v x len) ≡ 0 → CopyFacts v x len × (v .pending .records ≡ false)
 unfolding copyTable
 copy-accepted v x len e =
     let t = tallyOf v in
-    let a = advance-tests v len ((3, leb (openBlocks t) x) ∷ (10, not (movesNow t x)) ∷ (11, t .copied x) ∷ []) e in
+    let a = advance-tests v len _ e in
     let b = passed 3 (leb (openBlocks t) x) _ (omega arith) (a .1) in
     let c = held 10 (movesNow t x) _ (omega arith) (b .1) in
-    let d = passed 11 (t .copied x) [] (omega arith) (c .1) in
-    record { advances = a .0; block-open = leb-false (openBlocks t) x (b .0); moves = c .0; not-copied = d .0 }
+    let d = passed 11 (t .copied x) _ (omega arith) (c .1) in (
+      record { advances = a .0; block-open = leb-false (openBlocks t) x (b .0); moves = c .0; not-copied = d .0 },
+      passed 19 (v .pending .records) [] (omega arith) (d .1) .0,
+    )
 
 -- ---- address and holder
 

@@ -1,16 +1,21 @@
--- What the code of format and grow needs. Assumes nothing.
+-- What the code of format and grow needs, and the replies of calls that store. Assumes nothing.
 use Prim.Native.Nat.{ℕ, _≤_, _<_, _^_}
 use mathlib.Core.Path.{_≡_}
 use mathlib.Core.Bool.{true}
 use mathlib.Core.List.{List}
 use native.Mathlib.Omega.{arith}
 use Rattle.layout.specs.Limits.{mostDisks, mostRows}
+use Rattle.layout.specs.Tally.{callsLeftOf}
 use Rattle.medium.specs.declared.Geometry.{Geometry}
-use Rattle.medium.specs.Medium.{bytesNeeded, recordStore, apply}
+use Rattle.medium.specs.Medium.{bytesNeeded, Store, recordStore, apply}
+use Rattle.volume.specs.declared.Advanced.{Advanced}
+use Rattle.volume.specs.declared.Answer.the-variants.{Done, CallsLeft, Told}
+use Rattle.volume.specs.declared.Reply.{Reply}
 use Rattle.volume.specs.declared.Volume.{Volume}
+use Rattle.volume.specs.Calls.{doing, reporting, telling}
 use Rattle.volume.specs.Records.{recordOf}
 use Rattle.volume.specs.Sound.{sizeHolds, rowsHold, disksHold, sound}
-use Rattle.volume.specs.States.{geometry, disks}
+use Rattle.volume.specs.States.{geometry, disks, tallyOf, withPending, pendingWith, afterStore}
 use Rattle.volume.proofs.ByteBounds.{bytes-bound}
 use Rattle.volume.proofs.SoundLaws.{size-facts, from-one, sound-facts}
 
@@ -32,3 +37,22 @@ pub record-stored : (w v : Volume) (g : Geometry) (m after : List ℕ) → w ≡
     → after ≡ apply g (recordStore (recordOf v)) m
 unfolding apply
 record-stored w v g m after same made = rw same at made
+
+-- ---- what is handed back after a store: the state w that the call came to, with the store pending
+
+module _ (v w u : Volume) (store : Store) (n : w ≡ v) (m : u ≡ withPending w (pendingWith (w .pending) store)) where
+  state-after : u ≡ afterStore v store
+  state-after = rw n at m
+
+  pub done-made : (piece : List ℕ) → record { state = u; answer = Done } ≡ doing v store piece .reply
+  unfolding doing
+  done-made piece = rw state-after
+
+  module _ (left : ℕ) (l : left ≡ callsLeftOf (tallyOf v)) (r : Reply) where
+    pub report-made : r ≡ record { state = u; answer = CallsLeft left } → r ≡ reporting v store .reply
+    unfolding reporting
+    report-made made = rw (state-after, l) at made
+
+    pub tell-made : (did : Advanced) → r ≡ record { state = u; answer = Told did left } → r ≡ telling v did store .reply
+    unfolding telling
+    tell-made did made = rw (state-after, l) at made

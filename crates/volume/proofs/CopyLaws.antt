@@ -66,7 +66,7 @@ source-spot v x len f =
 
 pub copy-source : (v : Volume) (x byteCount : ℕ) → refusal (copyTable v x byteCount) ≡ 0
     → liveSpotOf (tallyOf v) x ≡ oldSpot (v .rows) (historyOf v) x
-copy-source v x byteCount e = source-spot v x byteCount (copy-accepted v x byteCount e)
+copy-source v x byteCount e = source-spot v x byteCount (copy-accepted v x byteCount e .0)
 
 -- ---- no copy waits to be recorded
 

@@ -1,14 +1,14 @@
 -- What the code of copy, checkpoint and advance needs. Assumes nothing.
 use Prim.Native.Nat.{ℕ, _+_, _-_, _≤_, _<_}
 use mathlib.Core.Path.{_≡_, refl, sym, _∙_}
-use mathlib.Core.Bool.{Bool, true, false, cond, not}
+use mathlib.Core.Bool.{Bool, true, false, cond, not, _&&_}
 use mathlib.Core.List.{List}
 use mathlib.Core.Logic.{_≢_}
 use mathlib.Core.Option.{Option, none, some}
 use native.Mathlib.Numerals.{add-one}
 use native.Mathlib.Omega.{arith}
 use lib.Dec.{eqb, leb}
-use borrow.Author.Tests.{le-leb, lt-leb, eq-eqb, ne-eqb}
+use borrow.Author.Tests.{le-leb, lt-leb, le-ltb, eq-eqb, ne-eqb}
 use Rattle.base.specs.Refusals.{refusal}
 use Rattle.base.proofs.Booleans.{and-left}
 use Rattle.layout.specs.declared.Block.{Block}
@@ -21,7 +21,6 @@ use Rattle.layout.specs.Tally.{openBlocks, liveSpotOf, callsLeftOf, movesNow, t
 use Rattle.layout.specs.Windows.{windows, oldSpot, moving, windowOf, movingIn, markOf, markedBlocks, partMoved, allCopied}
 use Rattle.layout.proofs.Theorems.{some-added, marks-fit}
 use Rattle.layout.proofs.WindowsCode.{windows-most}
-use Rattle.marks.specs.declared.NextCopy.{NextCopy}
 use Rattle.marks.specs.declared.NextCopy.the-variants.{CopyOf, AllCopied}
 use Rattle.marks.specs.Marks.{markCount, within, asNextCopy}
 use Rattle.marks.specs.Words.{marksOf}
@@ -34,12 +33,12 @@ use Rattle.volume.specs.declared.Advanced.the-variants.{Copied}
 use Rattle.volume.specs.declared.Answer.the-variants.{Told}
 use Rattle.volume.specs.declared.Reply.{Reply}
 use Rattle.volume.specs.declared.Volume.{Volume}
-use Rattle.volume.specs.Calls.{Outcome, telling, judged, tooShort, copyTable, copyStore, checkpointTable, checkpointStore, advanceTable, checkpointTold, advancing}
+use Rattle.volume.specs.Calls.{Outcome, telling, judged, isNone, tooShort, blockRows, recordRows, copyTable, copyStore, checkpointTable, checkpointStore, advanceTable, growthTable, checkpointTold, advancing, advanceEffect}
 use Rattle.volume.specs.Records.{recordOf}
 use Rattle.volume.specs.Sound.{sound}
-use Rattle.volume.specs.States.{geometry, historyOf, disks, tallyOf, withGrowth, withMark, withCopy, checkpointed}
-use Rattle.volume.proofs.Accepted.{CopyFacts}
-use Rattle.volume.proofs.CallsCode.{record-stored}
+use Rattle.volume.specs.States.{geometry, historyOf, disks, tallyOf, withPending, recordPending, blockPending, pendingWith, withGrowth, withMark, withCopy, checkpointed}
+use Rattle.volume.proofs.Accepted.{AdvanceFacts, CopyFacts}
+use Rattle.volume.proofs.CallsCode.{record-stored, tell-made}
 use Rattle.volume.proofs.CopyLaws.{moves-open, source-spot}
 use Rattle.volume.proofs.Judged.{refused-when, accepted-when}
 use Rattle.volume.proofs.LiveCode.{countsNow, history-limits, has-growth}
@@ -56,13 +55,13 @@ moves-told : (v : Volume) (x : ℕ) → movingIn (v .rows) (countsNow v) (v .win
 unfolding movesNow tallyOf historyOf
 moves-told v x = refl
 
--- ---- refusals: the tables of a copy and of a checkpoint are that of an advance, and more tests
+-- ---- refusals: the tables of a copy, a checkpoint and an advance are the tests that they share, and more tests
 
 module _ (v : Volume) (len : ℕ) where
   more-tests : (rest : ℕ)
       → cond (not (sound v)) 1 (cond (tooShort (geometry v) (disks v) len) 2 (cond (eqb (v .growing) 0) 5 rest))
-      ≡ judged (advanceTable v len) (λ k. k) rest
-  unfolding advanceTable refusal
+      ≡ judged (growthTable v len) (λ k. k) rest
+  unfolding growthTable advanceTable refusal
   more-tests rest = by (not (sound v)) (tooShort (geometry v) (disks v) len) (eqb (v .growing) 0)
     where
       by : (a b c : Bool)
@@ -73,27 +72,32 @@ module _ (v : Volume) (len : ℕ) where
       by false false true = refl
       by false false false = refl
 
-  -- refused as an advance would be
-  module _ (k : ℕ) (e : k ≡ refusal (advanceTable v len)) (h : k ≢ 0) where
+  -- refused by those
+  module _ (k : ℕ) (e : k ≡ refusal (growthTable v len)) (h : k ≢ 0) where
+    pub advance-refused : k ≡ refusal (advanceTable v len)
+    unfolding advanceTable refusal
+    advance-refused = sym (more-tests _ ∙ refused-when (growthTable v len) (λ n. n) _ k e h)
+
     pub checkpoint-refused : k ≡ refusal (checkpointTable v len)
     unfolding checkpointTable refusal
-    checkpoint-refused = sym (more-tests _ ∙ refused-when (advanceTable v len) (λ n. n) _ k e h)
+    checkpoint-refused = sym (more-tests _ ∙ refused-when (growthTable v len) (λ n. n) _ k e h)
 
     pub copy-refused : (x : ℕ) → k ≡ refusal (copyTable v x len)
     unfolding copyTable refusal
-    copy-refused x = sym (more-tests _ ∙ refused-when (advanceTable v len) (λ n. n) _ k e h)
+    copy-refused x = sym (more-tests _ ∙ refused-when (growthTable v len) (λ n. n) _ k e h)
 
   -- what is left to test
-  module _ (k : ℕ) (e : k ≡ refusal (advanceTable v len)) (h : k ≡ 0) where
-    pub checkpoint-left : (kept : Bool) → kept ≡ within (marksOf (v .copied)) (marksOf (v .recorded)) → cond kept 12 0 ≡ refusal (checkpointTable v len)
+  module _ (k : ℕ) (e : k ≡ refusal (growthTable v len)) (h : k ≡ 0) where
+    pub checkpoint-left : (kept : Bool) → kept ≡ within (marksOf (v .copied)) (marksOf (v .recorded))
+        → cond kept 12 (refusal (recordRows v)) ≡ refusal (checkpointTable v len)
     unfolding checkpointTable refusal
-    checkpoint-left kept f = rw f (sym (more-tests _ ∙ accepted-when (advanceTable v len) (λ n. n) _ k e h))
+    checkpoint-left kept f = rw f (sym (more-tests _ ∙ accepted-when (growthTable v len) (λ n. n) _ k e h))
 
     copy-tests : (x : ℕ)
         → refusal (copyTable v x len)
-        ≡ cond (leb (openBlocks (tallyOf v)) x) 3 (cond (not (movesNow (tallyOf v) x)) 10 (cond (tallyOf v .copied x) 11 0))
+        ≡ cond (leb (openBlocks (tallyOf v)) x) 3 (cond (not (movesNow (tallyOf v) x)) 10 (cond (tallyOf v .copied x) 11 (refusal (blockRows v))))
     unfolding copyTable refusal
-    copy-tests x = more-tests _ ∙ accepted-when (advanceTable v len) (λ n. n) _ k e h
+    copy-tests x = more-tests _ ∙ accepted-when (growthTable v len) (λ n. n) _ k e h
 
     pub copy-not-open : (x : ℕ) → openBlocks (tallyOf v) ≤ x → 3 ≡ refusal (copyTable v x len)
     copy-not-open x a = sym (copy-tests x ∙ simp (le-leb (openBlocks (tallyOf v)) x a))
@@ -102,9 +106,25 @@ module _ (v : Volume) (len : ℕ) where
       pub copy-not-moving : now ≡ false → 10 ≡ refusal (copyTable v x len)
       copy-not-moving f = sym (copy-tests x ∙ simp (lt-leb (openBlocks (tallyOf v)) x a, ← moves-told v x, ← b, f))
 
-      pub copy-left : now ≡ true → (copied : Bool) → copied ≡ markedNow v x → cond copied 11 0 ≡ refusal (copyTable v x len)
+      pub copy-left : now ≡ true → (copied : Bool) → copied ≡ markedNow v x
+          → cond copied 11 (refusal (blockRows v)) ≡ refusal (copyTable v x len)
       unfolding tallyOf historyOf
       copy-left f copied d = sym (copy-tests x ∙ simp (lt-leb (openBlocks (tallyOf v)) x a, sym (moves-told v x) ∙ sym b ∙ f, d))
+
+-- what is left to test of an advance, by its step
+module _ (v : Volume) (len : ℕ) (f : AdvanceFacts v len) where
+  advance-left : refusal (advanceTable v len)
+      ≡ cond (v .pending .records) 19 (cond (isNone (nextBlock (tallyOf v)) && v .pending .blocks) 18 0)
+  unfolding advanceTable refusal tooShort
+  advance-left = simp (f .is-sound, le-ltb _ _ (f .room), ne-eqb _ _ (f .is-growing))
+
+  pub record-due : nextBlock (tallyOf v) ≡ none → refusal (recordRows v) ≡ refusal (advanceTable v len)
+  unfolding refusal
+  record-due e = sym (advance-left ∙ rw e)
+
+  pub block-due : (x : ℕ) → nextBlock (tallyOf v) ≡ some x → refusal (blockRows v) ≡ refusal (advanceTable v len)
+  unfolding refusal
+  block-due x e = sym (advance-left ∙ rw e)
 
 -- ---- a block that is copied
 
@@ -174,7 +194,7 @@ copied-asks v x len f j e =
 module _ (v : Volume) where
   -- whether w is full and the last window
   full-told : allCopied (v .rows) (countsNow v) (v .window) (markedNow v) ≡ windowFull (tallyOf v)
-  unfolding windowFull tallyOf historyOf
+  unfolding windowFull allCopied movesNow tallyOf historyOf
   full-told = refl
 
   last-told : (g : GrowthDisks) → g ≡ newestGrowth (countsNow v) → (r : ℕ) → r ≡ windows (g .old) (g .added) (v .rows)
@@ -207,64 +227,48 @@ window-most v e runs =
 
 -- ---- what the two arms of `let NextCopy::CopyOf(x, part, p, j)` know
 
-next-none : (s : ℕ) (h : List ℕ) (found : Option ℕ) → asNextCopy s h found ≡ AllCopied → found ≡ none
+pub next-none : (s : ℕ) (h : List ℕ) (found : Option ℕ) → asNextCopy s h found ≡ AllCopied → found ≡ none
 unfolding asNextCopy
 next-none s h none e = refl
 next-none s h (some x) e = cc
 
-next-some : (s : ℕ) (h : List ℕ) (found : Option ℕ) (x : Block) (part : Part) (p : Spot) (j : ℕ) → asNextCopy s h found ≡ CopyOf x part p j
+pub next-some : (s : ℕ) (h : List ℕ) (found : Option ℕ) (x : Block) (part : Part) (p : Spot) (j : ℕ) → asNextCopy s h found ≡ CopyOf x part p j
     → (found ≡ some (x .0)) × (part ≡ partMoved s h (x .0)) × (p ≡ oldSpot s h (x .0)) × (j ≡ markOf s h (x .0))
 unfolding asNextCopy
 next-some s h none x part p j e = (cc, cc, cc, cc)
 next-some s h (some y) x part p j e = (cc, cc, cc, cc)
 
 -- the reply and the store of an advance
-module _ (v : Volume) where
-  abbrev nextCopy : NextCopy
-  nextCopy = asNextCopy (v .rows) (historyOf v) (nextBlock (tallyOf v))
+module _ (v : Volume) (o : Observations) where
+  abbrev advanced : Outcome
+  advanced = advanceEffect v o
 
-  abbrev advanced : (o : Observations) → Outcome
-  advanced o = advancing v (nextBlock (tallyOf v)) o
+  module _ (e : nextBlock (tallyOf v) ≡ none) (w : Volume) (n : w ≡ checkpointed v) where
+    records : advanced ≡ telling (checkpointed v) (checkpointTold (checkpointed v)) (checkpointStore v)
+    unfolding advanceEffect advancing
+    records = rw e
 
-  module _ (e : nextCopy ≡ AllCopied) (w : Volume) (n : w ≡ checkpointed v) (o : Observations) where
-    records : advanced o ≡ telling (checkpointed v) (checkpointTold (checkpointed v)) (checkpointStore v)
-    unfolding advancing
-    records = rw (next-none (v .rows) (historyOf v) (nextBlock (tallyOf v)) e)
-
-    pub records-told : (did : Advanced) → did ≡ checkpointTold w → (r : Reply)
-        → r ≡ record { state = w; answer = Told did (callsLeftOf (tallyOf w)) } → r ≡ advanced o .reply
-    unfolding telling
-    records-told did told r made = rw records (rw (told, n) at made)
+    pub records-told : (u : Volume) → u ≡ withPending w (recordPending (w .pending)) → (did : Advanced) → did ≡ checkpointTold w
+        → (left : ℕ) → left ≡ callsLeftOf (tallyOf w) → (r : Reply) → r ≡ record { state = u; answer = Told did left } → r ≡ advanced .reply
+    unfolding pendingWith checkpointStore
+    records-told u m did told left l r made =
+        rw records (tell-made (checkpointed v) w u (checkpointStore v) n m left (rw n at l) r (checkpointTold (checkpointed v)) (rw (told, n) at made))
 
     pub records-stored : (g : Geometry) (m after : List ℕ) → after ≡ apply (geometry w) (recordStore (recordOf w)) m
-        → after ≡ apply g (advanced o .store) m
+        → after ≡ apply g (advanced .store) m
     unfolding telling checkpointStore
     records-stored g m after made = rw records (record-stored w (checkpointed v) g m after n made)
 
-  module _ (x : Block) (part : Part) (p : Spot) (j : ℕ) (e : nextCopy ≡ CopyOf x part p j) where
-    copy-next : (nextBlock (tallyOf v) ≡ some (x .0)) × (part ≡ partMoved (v .rows) (historyOf v) (x .0))
-        × (p ≡ oldSpot (v .rows) (historyOf v) (x .0)) × (j ≡ markOf (v .rows) (historyOf v) (x .0))
-    copy-next = next-some (v .rows) (historyOf v) (nextBlock (tallyOf v)) x part p j e
+  module _ (x : Block) (part : Part) (e : nextBlock (tallyOf v) ≡ some (x .0)) (p : part ≡ partMoved (v .rows) (historyOf v) (x .0)) where
+    copies : advanced ≡ telling (withCopy v (x .0)) (Copied x part) (copyStore v (x .0) o)
+    unfolding advanceEffect advancing
+    copies = rw (e, p)
 
-    pub next-is : nextBlock (tallyOf v) ≡ some (x .0)
-    next-is = copy-next .0
+    pub copies-told : (w : Volume) → w ≡ withCopy v (x .0) → (u : Volume) → u ≡ withPending w (blockPending (w .pending))
+        → (left : ℕ) → left ≡ callsLeftOf (tallyOf (withCopy v (x .0))) → (r : Reply) → r ≡ record { state = u; answer = Told (Copied x part) left } → r ≡ advanced .reply
+    unfolding pendingWith copyStore
+    copies-told w n u m left l r made = rw copies (tell-made (withCopy v (x .0)) w u (copyStore v (x .0) o) n m left l r (Copied x part) made)
 
-    pub next-spot : p ≡ oldSpot (v .rows) (historyOf v) (x .0)
-    next-spot = copy-next .2
-
-    pub next-mark : j ≡ markOf (v .rows) (historyOf v) (x .0)
-    next-mark = copy-next .3
-
-    module _ (o : Observations) where
-      copies : advanced o ≡ telling (withCopy v (x .0)) (Copied x part) (copyStore v (x .0) o)
-      unfolding advancing
-      copies = rw (copy-next .0, copy-next .1)
-
-      pub copies-told : (w : Volume) → w ≡ withCopy v (x .0) → (r : Reply)
-          → r ≡ record { state = w; answer = Told (Copied x part) (callsLeftOf (tallyOf w)) } → r ≡ advanced o .reply
-      unfolding telling
-      copies-told w n r made = rw copies (rw n at made)
-
-      pub copies-stored : (g : Geometry) (m after : List ℕ) → after ≡ apply g (copyStore v (x .0) o) m → after ≡ apply g (advanced o .store) m
-      unfolding telling
-      copies-stored g m after made = rw copies made
+    pub copies-stored : (g : Geometry) (m after : List ℕ) → after ≡ apply g (copyStore v (x .0) o) m → after ≡ apply g (advanced .store) m
+    unfolding telling
+    copies-stored g m after made = rw copies made

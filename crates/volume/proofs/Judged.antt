@@ -77,6 +77,9 @@ pub found-there : (r : ℕ) (q p : Spot) (i j : ℕ) → 0 ≡ r → q ≡ p →
 unfolding foundAt
 found-there r q p i j e f g = rw (← e, f, g)
 
+pub found-same : (f : SpotFound) (r k : ℕ) (q p : Spot) (i j : ℕ) → f ≡ foundAt r q i → r ≡ k → q ≡ p → i ≡ j → f ≡ foundAt k p j
+found-same f r k q p i j e a b d = rw (← a, ← b, ← d) e
+
 pub refusal-found : (f : SpotFound) (k : ℕ) (p : Spot) (j : ℕ) → f ≡ foundAt k p j → f .refusal ≡ k
 unfolding foundAt
 refusal-found f k p j e = rw e

@@ -12,7 +12,7 @@ use borrow.Author.Tests.{ltb-true, ltb-false}
 use Rattle.base.proofs.Booleans.{by-test}
 use Rattle.volume.specs.declared.Volume.{Volume}
 use Rattle.volume.specs.Records.{numbersOf, stateOf}
-use Rattle.volume.specs.States.{newState, withGrowth}
+use Rattle.volume.specs.States.{nonePending, withPending, newState, withGrowth}
 use Rattle.volume.proofs.RecordCode.{thirteen-listed, counts-listed}
 use Rattle.marks.specs.Words.{wordOf}
 
@@ -53,8 +53,8 @@ module _ (v : Volume) (e : length (v .counts) ≡ 8) where
       after-growths (v .counts) (v .growing) (v .window) e (λ j n. P (suc (suc (suc j))) n) c g w k (omega arith)
 
   -- the state with a state's numbers
-  pub state-back : (marks : List Bool) → stateOf (numbersOf v) marks ≡ withGrowth v (v .growths) (v .counts) (v .growing) (v .window) (wordOf marks) (wordOf marks)
-  unfolding numbersOf stateOf withGrowth newState
+  pub state-back : (marks : List Bool) → stateOf (numbersOf v) marks ≡ withPending (withGrowth v (v .growths) (v .counts) (v .growing) (v .window) (wordOf marks) (wordOf marks)) nonePending
+  unfolding numbersOf stateOf withPending withGrowth newState
   state-back marks =
       rw (
         counts-taken (v .counts) (v .growing) (v .window) e,

@@ -26,7 +26,7 @@ use Rattle.volume.specs.declared.Volume.{Volume}
 use Rattle.volume.specs.Laws.{SoundFacts, RestFacts, GrowthFacts}
 use Rattle.volume.specs.Records.{numbersOf, recordOf, stateOf, stateRead, isSoundRecord}
 use Rattle.volume.specs.Sound.{movingOf, sound}
-use Rattle.volume.specs.States.{historyOf, tallyOf, withGrowth, recordedOnly}
+use Rattle.volume.specs.States.{historyOf, tallyOf, withGrowth, recordedOnly, withPending, nonePending, newState}
 use Rattle.volume.proofs.NumberLists.{numbers-each, state-back, numbers-back}
 use Rattle.volume.proofs.RecordCode.{numbers-listed}
 use Rattle.volume.proofs.SoundLaws.{sound-facts, facts-sound}
@@ -101,11 +101,11 @@ within-within : (a b c : List Bool) → within a b ≡ true → within b c ≡ t
 within-within a b c e f = within-make a c (λ j h t. within-use b c f j h (within-use a b e j h t))
 
 recorded-rest : (v : Volume) → RestFacts v → RestFacts (recordedOnly v)
-unfolding recordedOnly withGrowth
+unfolding recordedOnly withPending withGrowth
 recorded-rest v r = record { window-zero = r .window-zero; none-recorded = r .none-recorded; none-copied = r .none-recorded }
 
 recorded-growth : (v : Volume) → GrowthFacts v → GrowthFacts (recordedOnly v)
-unfolding recordedOnly withGrowth historyOf tallyOf movingOf
+unfolding recordedOnly withPending withGrowth historyOf tallyOf movingOf
 recorded-growth v g =
     record {
       growing-one = g .growing-one;
@@ -117,7 +117,7 @@ recorded-growth v g =
     }
 
 recorded-facts : (v : Volume) → SoundFacts v → SoundFacts (recordedOnly v)
-unfolding recordedOnly withGrowth historyOf
+unfolding recordedOnly withPending withGrowth historyOf
 recorded-facts v f =
     record {
       counts-length = f .counts-length;
@@ -166,7 +166,7 @@ read-recorded bytes e =
     ∙ ap (λ (l : List ℕ). sector l marks) (numbers-back (readRecord bytes .numbers) marks (r .0 .numbers-length)) ∙ sym (r .1)
 
 pub read-no-copies : (bytes : List ℕ) → recordedOnly (stateRead bytes) ≡ stateRead bytes
-unfolding recordedOnly stateRead stateOf withGrowth
+unfolding recordedOnly withPending stateRead stateOf withGrowth newState nonePending
 read-no-copies bytes = refl
 
 pub not-a-record : (bytes : List ℕ) → isSoundRecord bytes ≡ false → (v : Volume) → sound v ≡ true → recordOf v ≢ bytes

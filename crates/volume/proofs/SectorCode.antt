@@ -15,7 +15,7 @@ use Rattle.record.specs.Sector.{readRecord}
 use Rattle.volume.specs.declared.Volume.{Volume}
 use Rattle.volume.specs.declared.Answer.the-variants.{Refused}
 use Rattle.volume.specs.declared.Reply.{Reply}
-use Rattle.volume.specs.Calls.{Outcome, refused, reporting, tooShort, restartTable, sectorTable, sectorOutcome}
+use Rattle.volume.specs.Calls.{Outcome, refused, reporting, restartEffect, tooShort, restartTable, sectorTable, sectorOutcome}
 use Rattle.volume.specs.Records.{stateRead, isSoundRecord}
 use Rattle.volume.specs.Sound.{sound}
 use Rattle.volume.specs.States.{geometry, disks, zeros}
@@ -47,7 +47,7 @@ record-or-not m false h e = rw (le-ltb (length m) recordBytes h, e)
 
 pub reply-refused : (o : Observations) (r : Reply) (k : ℕ) → r ≡ sectorOutcome o .reply → r .answer ≡ Refused k
     → (k ≡ refusal (sectorTable o)) × (k ≢ 0) × (r ≡ record { state = zeros; answer = Refused k })
-unfolding sectorOutcome refused reporting
+unfolding sectorOutcome restartEffect refused reporting
 reply-refused o r k e told =
     judged-cases
     (λ out. r ≡ out .reply → out .reply .answer ≡ Refused k → (k ≡ refusal (sectorTable o)) × (k ≢ 0) × (r ≡ record { state = zeros; answer = Refused k }))
@@ -60,7 +60,7 @@ reply-refused o r k e told =
 pub reply-taken : (o : Observations) (r : Reply) → r ≡ sectorOutcome o .reply
     → (tagOf the-type (r .answer) ≡ 1) ⊎ ((tagOf the-type (r .answer) ≡ 2) ⊎ (tagOf the-type (r .answer) ≡ 3))
     → (refusal (sectorTable o) ≡ 0) × (r ≡ reporting (stateRead (o .sector)) noStore .reply)
-unfolding sectorOutcome refused
+unfolding sectorOutcome restartEffect refused
 reply-taken o r e other =
     let taken : refusal (sectorTable o) ≡ 0 =
     judged-cases

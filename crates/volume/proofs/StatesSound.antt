@@ -15,25 +15,32 @@ use Rattle.base.proofs.Booleans.{cond-cases}
 use Rattle.layout.specs.History.{history, rising, oldCount, addedCount}
 use Rattle.layout.specs.Limits.{Limits, mostDisks, mostGrowths, mostRows}
 use Rattle.layout.specs.Tally.{movesNow, windowFull, lastWindow}
-use Rattle.layout.specs.Windows.{windows, movingIn, markOf, markedBlocks}
+use Rattle.layout.specs.Windows.{windows, movingIn, markOf, markedBlocks, allCopied}
 use Rattle.layout.proofs.HistoryCode.{history-disks, rising-first, rising-more, limits-made, newest-old}
 use Rattle.layout.proofs.MarkSpots.{row-window}
 use Rattle.layout.proofs.Theorems.{some-added}
 use Rattle.marks.specs.Marks.{markCount, within}
 use Rattle.marks.proofs.MarkSets.{within-self, none-within, set-within, within-set, its-mark, one-unmarked, all-by-marks, some-moving}
 use Rattle.medium.specs.Medium.{Observations}
+use Rattle.volume.specs.declared.Pending.{Pending}
 use Rattle.volume.specs.declared.Volume.{Volume}
 use Rattle.volume.specs.Calls.{formatTable, restartTable, sectorTable, growTable}
 use Rattle.volume.specs.Laws.{RestFacts, GrowthFacts, SoundFacts}
 use Rattle.volume.specs.Records.{stateRead}
-use Rattle.volume.specs.Sound.{rowsHold, disksHold, movingOf, sound}
-use Rattle.volume.specs.States.{historyOf, disks, tallyOf, newState, withGrowth, grown, inStage, withCopy, checkpointed}
+use Rattle.volume.specs.Sound.{rowsHold, disksHold, limitsHold, stageHolds, typesHold, movingOf, sound}
+use Rattle.volume.specs.States.{historyOf, disks, tallyOf, newState, withPending, withGrowth, grown, inStage, withCopy, checkpointed}
 use Rattle.volume.proofs.Accepted.{GrowFacts, format-accepted, restart-accepted, sector-accepted, grow-accepted}
 use Rattle.volume.proofs.RecordLaws.{read-sound}
 use Rattle.volume.proofs.SoundLaws.{SizeFacts, size-facts, from-one, sound-facts, some-old, facts-sound}
 use Rattle.marks.specs.Words.{marksOf, wordOf}
 use Rattle.marks.proofs.Bits.{bits-length}
 use Rattle.marks.proofs.MarkWords.{no-marks, marks-of-word, word-of-fits}
+
+-- ---- what is pending
+
+pub pending-sound : (v : Volume) (p : Pending) → sound (withPending v p) ≡ sound v
+unfolding sound withPending typesHold limitsHold stageHolds historyOf
+pending-sound v p = refl
 
 -- ---- format
 
@@ -215,7 +222,7 @@ module _ (v : Volume) (e : sound v ≡ true) (runs : v .growing ≢ 0) where
   -- a window that is not full has a block to copy
   one-uncopied : windowFull (tallyOf v) ≡ false
       → (x : ℕ) × (movingIn (v .rows) (historyOf v) (v .window) x ≡ true) × (tallyOf v .copied x ≡ false)
-  unfolding tallyOf windowFull
+  unfolding tallyOf windowFull allCopied movesNow historyOf
   one-uncopied not-full =
       let full = all-by-marks (v .rows) (historyOf v) (facts .limits) old (v .window) (marksOf (v .copied)) in
       one-unmarked (v .rows) (historyOf v) (facts .limits) old (v .window) (marksOf (v .copied)) (full ∙ not-full)

@@ -18,7 +18,7 @@ use Rattle.medium.specs.declared.Geometry.{Geometry}
 use Rattle.medium.specs.Medium.{bytesNeeded, Observations, observe, recordStore, Inside, StoreFits}
 use Rattle.medium.proofs.Theorems.{medium-laws}
 use Rattle.volume.specs.declared.Volume.{Volume}
-use Rattle.volume.specs.Calls.{Outcome, refused, reporting, telling, judged, formatTable, formatOutcome, growTable, growOutcome, writeTable, writeOutcome, copyTable, copyStore, copyOutcome, checkpointTable, checkpointStore, checkpointOutcome, advanceTable, advancing, advanceOutcome}
+use Rattle.volume.specs.Calls.{Outcome, refused, reporting, telling, judged, doing, formatEffect, growEffect, writeEffect, copyEffect, checkpointEffect, advanceEffect, formatTable, formatOutcome, growTable, growOutcome, writeTable, writeOutcome, copyTable, copyStore, copyOutcome, checkpointTable, checkpointStore, checkpointOutcome, advanceTable, advancing, advanceOutcome}
 use Rattle.volume.specs.Records.{recordOf}
 use Rattle.volume.specs.Sound.{sound}
 use Rattle.volume.specs.States.{geometry, historyOf, disks, tallyOf, newState, zeros, grown, checkpointed}
@@ -43,20 +43,20 @@ judged-fits g len table v piece accepted f =
     judged-cases (λ (out : Outcome). StoreFits g len (out .store)) table (λ k. refused v k piece) accepted f (λ _. tt)
 
 pub format-fits : (z s n : ℕ) (o : Observations) → StoreFits (record { size = z; rows = s }) (o .byteCount) (formatOutcome z s n o .store)
-unfolding formatOutcome
+unfolding formatOutcome formatEffect doing
 format-fits z s n o =
     judged-fits (record { size = z; rows = s }) (o .byteCount) (formatTable z s n (o .byteCount)) zeros [] _
     (λ e. record-fits (record { size = z; rows = s }) n (o .byteCount) (newState z s n) (format-accepted z s n (o .byteCount) e .room))
 
 pub grow-fits : (v : Volume) (count : ℕ) (o : Observations) → StoreFits (geometry v) (o .byteCount) (growOutcome v count o .store)
-unfolding growOutcome reporting
+unfolding growOutcome growEffect reporting
 grow-fits v count o =
     judged-fits (geometry v) (o .byteCount) (growTable v count (o .byteCount)) v [] _
     (λ e. record-fits (geometry v) count (o .byteCount) (grown v count) (grow-accepted v count (o .byteCount) e .room))
 
 pub write-fits : (v : Volume) (x : ℕ) (piece : List ℕ) (o : Observations)
     → StoreFits (geometry v) (o .byteCount) (writeOutcome v x piece o .store)
-unfolding writeOutcome StoreFits geometry
+unfolding writeOutcome writeEffect doing StoreFits geometry
 write-fits v x piece o =
     judged-fits (geometry v) (o .byteCount) (writeTable v x (length piece) (o .byteCount)) v piece _
     (λ e.
@@ -80,41 +80,53 @@ copy-inside v x len e runs m room =
     record { row = i .row; fits = omega (arith, i .fits) }
 
 -- a spot in the medium has a block's bytes
-bytes-whole : (g : Geometry) (m : List ℕ) (p : Spot) → Inside g (length m) p → length (observe m .bytesAt g p) ≡ g .size
-unfolding observe
-bytes-whole g m p i = simp (length-take, length-drop) (omega (arith, i .fits))
+pub record Sized (g : Geometry) (o : Observations) : Type 0 where
+  pub bytes-whole : (p : Spot) → Inside g (o .byteCount) p → length (o .bytesAt g p) ≡ g .size
 
-copied-fits : (v : Volume) (x : ℕ) (m : List ℕ) → CopyFacts v x (length m) → StoreFits (geometry v) (length m) (copyStore v x (observe m))
+pub sized : (g : Geometry) (m : List ℕ) → Sized g (observe m)
+unfolding observe
+sized g m = record { bytes-whole = λ p i. simp (length-take, length-drop) (omega (arith, i .fits)) }
+
+copied-fits : (v : Volume) (x : ℕ) (o : Observations) → Sized (geometry v) o → CopyFacts v x (o .byteCount)
+    → StoreFits (geometry v) (o .byteCount) (copyStore v x o)
 unfolding copyStore StoreFits
-copied-fits v x m f =
+copied-fits v x o s f =
     let a = f .advances in (
-      copy-inside v x (length m) (a .is-sound) (a .is-growing) (f .moves) (a .room),
-      bytes-whole (geometry v) m (liveSpotOf (tallyOf v) x) (live-inside v x (length m) (a .is-sound) (f .block-open) (a .room)),
+      copy-inside v x (o .byteCount) (a .is-sound) (a .is-growing) (f .moves) (a .room),
+      s .bytes-whole (liveSpotOf (tallyOf v) x) (live-inside v x (o .byteCount) (a .is-sound) (f .block-open) (a .room)),
     )
 
 recorded-fits : (v : Volume) (len : ℕ) → AdvanceFacts v len → StoreFits (geometry v) len (checkpointStore v)
 unfolding checkpointStore
 recorded-fits v len f = record-fits (geometry v) (disks v) len (checkpointed v) (f .room)
 
+pub sized-copy-fits : (v : Volume) (x : ℕ) (o : Observations) → Sized (geometry v) o → StoreFits (geometry v) (o .byteCount) (copyOutcome v x o .store)
+unfolding copyOutcome copyEffect reporting
+sized-copy-fits v x o s =
+    judged-fits (geometry v) (o .byteCount) (copyTable v x (o .byteCount)) v [] _ (λ e. copied-fits v x o s (copy-accepted v x (o .byteCount) e .0))
+
 pub copy-fits : (v : Volume) (x : ℕ) (m : List ℕ) → StoreFits (geometry v) (length m) (copyOutcome v x (observe m) .store)
-unfolding copyOutcome reporting observe
-copy-fits v x m =
-    judged-fits (geometry v) (length m) (copyTable v x (length m)) v [] _ (λ e. copied-fits v x m (copy-accepted v x (length m) e))
+unfolding observe
+copy-fits v x m = sized-copy-fits v x (observe m) (sized (geometry v) m)
 
 pub checkpoint-fits : (v : Volume) (o : Observations) → StoreFits (geometry v) (o .byteCount) (checkpointOutcome v o .store)
-unfolding checkpointOutcome reporting
+unfolding checkpointOutcome checkpointEffect reporting
 checkpoint-fits v o =
     judged-fits (geometry v) (o .byteCount) (checkpointTable v (o .byteCount)) v [] _
     (λ e. recorded-fits v (o .byteCount) (checkpoint-accepted v (o .byteCount) e .0))
 
-advancing-fits : (v : Volume) (m : List ℕ) → AdvanceFacts v (length m) → (next : Option ℕ) → nextBlock (tallyOf v) ≡ next
-    → StoreFits (geometry v) (length m) (advancing v next (observe m) .store)
+advancing-fits : (v : Volume) (o : Observations) → Sized (geometry v) o → AdvanceFacts v (o .byteCount) → (next : Option ℕ) → nextBlock (tallyOf v) ≡ next
+    → StoreFits (geometry v) (o .byteCount) (advancing v next o .store)
 unfolding advancing telling
-advancing-fits v m f none e = recorded-fits v (length m) f
-advancing-fits v m f (some x) e = copied-fits v x m (next-facts v x (length m) f e)
+advancing-fits v o s f none e = recorded-fits v (o .byteCount) f
+advancing-fits v o s f (some x) e = copied-fits v x o s (next-facts v x (o .byteCount) f e)
+
+pub sized-advance-fits : (v : Volume) (o : Observations) → Sized (geometry v) o → StoreFits (geometry v) (o .byteCount) (advanceOutcome v o .store)
+unfolding advanceOutcome advanceEffect
+sized-advance-fits v o s =
+    judged-fits (geometry v) (o .byteCount) (advanceTable v (o .byteCount)) v [] (advancing v (nextBlock (tallyOf v)) o)
+    (λ e. advancing-fits v o s (advance-accepted v (o .byteCount) e .0) (nextBlock (tallyOf v)) refl)
 
 pub advance-fits : (v : Volume) (m : List ℕ) → StoreFits (geometry v) (length m) (advanceOutcome v (observe m) .store)
-unfolding advanceOutcome observe
-advance-fits v m =
-    judged-fits (geometry v) (length m) (advanceTable v (length m)) v [] (advancing v (nextBlock (tallyOf v)) (observe m))
-    (λ e. advancing-fits v m (advance-accepted v (length m) e) (nextBlock (tallyOf v)) refl)
+unfolding observe
+advance-fits v m = sized-advance-fits v (observe m) (sized (geometry v) m)

@@ -1,7 +1,7 @@
--- Document 01, "Calls" and "Looking up spots": for each call the table of its refusals, in the order written, and what it hands back,
--- stores and shows. Calls see a medium through its observations. Assumes nothing.
+-- Document 01, "Calls" and "Looking up spots", and document 02, W4: for each call the table of its refusals, in the order written, and its
+-- effect where none holds: what it hands back, stores and shows. Calls see a medium through its observations. Assumes nothing.
 use Prim.Native.Nat.{ℕ}
-use mathlib.Core.Bool.{Bool, true, false, cond, not}
+use mathlib.Core.Bool.{Bool, true, false, cond, not, _&&_}
 use mathlib.Core.List.{List, [], _∷_}
 use mathlib.Core.Option.{Option, none, some}
 use lib.Dec.{eqb, leb, ltb}
@@ -25,7 +25,7 @@ use Rattle.volume.specs.declared.AddressAnswer.the-variants as address
 use Rattle.volume.specs.declared.AddressReply.{AddressReply}
 use Rattle.volume.specs.declared.HolderAnswer.the-variants as holder
 use Rattle.volume.specs.declared.HolderReply.{HolderReply}
-use Rattle.volume.specs.States.{geometry, historyOf, disks, tallyOf, newState, zeros, grown, withCopy, checkpointed}
+use Rattle.volume.specs.States.{geometry, historyOf, disks, tallyOf, nonePending, newState, withPending, afterStore, zeros, grown, withCopy, checkpointed}
 use Rattle.volume.specs.Sound.{sizeHolds, rowsHold, disksHold, sound}
 use Rattle.volume.specs.Records.{recordOf, stateRead, isSoundRecord}
 
@@ -39,13 +39,18 @@ pub record Outcome : Type 0 where
 unfoldable pub refused : (v : Volume) (k : ℕ) (piece : List ℕ) → Outcome
 refused v k piece = record { reply = record { state = v; answer = Refused k }; store = noStore; piece = piece }
 
--- a call that reports the advance calls left of the state that it hands back
-unfoldable pub reporting : (v : Volume) (store : Store) → Outcome
-reporting v store = record { reply = record { state = v; answer = CallsLeft (callsLeftOf (tallyOf v)) }; store = store; piece = [] }
+-- an accepted call: its store is pending in the state that it hands back. One that reports nothing; one that reports the advance calls left;
+-- one that also tells what an advance did
+unfoldable pub doing : (v : Volume) (store : Store) (piece : List ℕ) → Outcome
+doing v store piece = record { reply = record { state = afterStore v store; answer = Done }; store = store; piece = piece }
 
--- the same, with what an advance did
+unfoldable pub reporting : (v : Volume) (store : Store) → Outcome
+reporting v store =
+    record { reply = record { state = afterStore v store; answer = CallsLeft (callsLeftOf (tallyOf v)) }; store = store; piece = [] }
+
 unfoldable pub telling : (v : Volume) (did : Advanced) (store : Store) → Outcome
-telling v did store = record { reply = record { state = v; answer = Told did (callsLeftOf (tallyOf v)) }; store = store; piece = [] }
+telling v did store =
+    record { reply = record { state = afterStore v store; answer = Told did (callsLeftOf (tallyOf v)) }; store = store; piece = [] }
 
 -- refused by its table, with the number, or accepted
 abbrev pub judged : {A : Type 0} (table : List (ℕ × Bool)) (refusing : ℕ → A) (accepted : A) → A
@@ -59,6 +64,10 @@ foundAt k p j = record { refusal = k; spot = cond (eqb k 0) p (record { disk = 0
 unfoldable pub tooShort : (g : Geometry) (n byteCount : ℕ) → Bool
 tooShort g n byteCount = ltb byteCount (bytesNeeded g n)
 
+abbrev pub isNone : (found : Option ℕ) → Bool
+isNone none = true
+isNone (some x) = false
+
 -- ---- "Format: 8, Z, s or N[0] outside the limits; 2. It stores a record with t = 0. Refused, it hands back a state of zeros."
 
 unfoldable pub formatTable : (z s n byteCount : ℕ) → List (ℕ × Bool)
@@ -69,10 +78,11 @@ formatTable z s n byteCount =
     ∷ (2, tooShort (record { size = z; rows = s }) n byteCount)
     ∷ []
 
+unfoldable pub formatEffect : (z s n : ℕ) → Outcome
+formatEffect z s n = doing (newState z s n) (recordStore (recordOf (newState z s n))) []
+
 unfoldable pub formatOutcome : (z s n : ℕ) (o : Observations) → Outcome
-formatOutcome z s n o =
-    judged (formatTable z s n (o .byteCount)) (λ k. refused zeros k [])
-    (record { reply = record { state = newState z s n; answer = Done }; store = recordStore (recordOf (newState z s n)); piece = [] })
+formatOutcome z s n o = judged (formatTable z s n (o .byteCount)) (λ k. refused zeros k []) (formatEffect z s n)
 
 -- ---- "Restart: 2, below 512 bytes; 13, bytes 0 to 511 are no sound state's record; 2. It stores nothing and sets copied to recorded. A
 -- refusal gives a state of zeros."
@@ -84,8 +94,11 @@ restartTable o =
     ∷ (2, tooShort (geometry (stateRead (o .sector))) (disks (stateRead (o .sector))) (o .byteCount))
     ∷ []
 
+unfoldable pub restartEffect : (o : Observations) → Outcome
+restartEffect o = reporting (stateRead (o .sector)) noStore
+
 unfoldable pub restartOutcome : (o : Observations) → Outcome
-restartOutcome o = judged (restartTable o) (λ k. refused zeros k []) (reporting (stateRead (o .sector)) noStore)
+restartOutcome o = judged (restartTable o) (λ k. refused zeros k []) (restartEffect o)
 
 -- ---- A record sector with no medium behind it, "by restart's rules, 2 for fewer and then 13 but no further 2": document 02, W1.
 
@@ -93,7 +106,28 @@ unfoldable pub sectorTable : (o : Observations) → List (ℕ × Bool)
 sectorTable o = take 2 (restartTable o)
 
 unfoldable pub sectorOutcome : (o : Observations) → Outcome
-sectorOutcome o = judged (sectorTable o) (λ k. refused zeros k []) (reporting (stateRead (o .sector)) noStore)
+sectorOutcome o = judged (sectorTable o) (λ k. refused zeros k []) (restartEffect o)
+
+-- ---- Document 02, W4: "18 when a record store is due and block stores are pending, for grow, checkpoint and advance, and 19 when a record
+-- store is pending, for write, copy, grow, checkpoint and advance; both are tested last, 19 before 18." The last rows of a call that stores a
+-- block, and of one that stores the record.
+
+abbrev pub blockRows : (v : Volume) → List (ℕ × Bool)
+blockRows v = (19, v .pending .records) ∷ []
+
+abbrev pub recordRows : (v : Volume) → List (ℕ × Bool)
+recordRows v = (19, v .pending .records) ∷ (18, v .pending .blocks) ∷ []
+
+-- ---- "Flushed tells us that all earlier stores are down; it refuses only by 1."
+
+unfoldable pub flushedTable : (v : Volume) → List (ℕ × Bool)
+flushedTable v = (1, not (sound v)) ∷ []
+
+unfoldable pub flushedEffect : (v : Volume) → Outcome
+flushedEffect v = doing (withPending v nonePending) noStore []
+
+unfoldable pub flushedOutcome : (v : Volume) → Outcome
+flushedOutcome v = judged (flushedTable v) (λ k. refused v k []) (flushedEffect v)
 
 -- ---- "Grow to a count: 1; 6, growing already; 9, t = 7; 8, count not above N[t] or above 16; 2. It stores the record with the count
 -- added, growing 1, w 0, no marks."
@@ -106,11 +140,13 @@ growTable v count byteCount =
     ∷ (8, leb count (disks v))
     ∷ (8, ltb mostDisks count)
     ∷ (2, tooShort (geometry v) count byteCount)
-    ∷ []
+    ∷ recordRows v
+
+unfoldable pub growEffect : (v : Volume) (count : ℕ) → Outcome
+growEffect v count = reporting (grown v count) (recordStore (recordOf (grown v count)))
 
 unfoldable pub growOutcome : (v : Volume) (count : ℕ) (o : Observations) → Outcome
-growOutcome v count o =
-    judged (growTable v count (o .byteCount)) (λ k. refused v k []) (reporting (grown v count) (recordStore (recordOf (grown v count))))
+growOutcome v count o = judged (growTable v count (o .byteCount)) (λ k. refused v k []) (growEffect v count)
 
 -- ---- "Write block x from a lent piece: 1; 2; 3; 4, piece not Z bytes; 7, x copied but not recorded. It stores the piece at the live spot."
 
@@ -121,12 +157,13 @@ writeTable v x pieceBytes byteCount =
     ∷ (3, leb (openBlocks (tallyOf v)) x)
     ∷ (4, not (eqb pieceBytes (v .size)))
     ∷ (7, waiting (tallyOf v) x)
-    ∷ []
+    ∷ blockRows v
+
+unfoldable pub writeEffect : (v : Volume) (x : ℕ) (piece : List ℕ) → Outcome
+writeEffect v x piece = doing v (blockStore (liveSpotOf (tallyOf v) x) piece) piece
 
 unfoldable pub writeOutcome : (v : Volume) (x : ℕ) (piece : List ℕ) (o : Observations) → Outcome
-writeOutcome v x piece o =
-    judged (writeTable v x (length piece) (o .byteCount)) (λ k. refused v k piece)
-    (record { reply = record { state = v; answer = Done }; store = blockStore (liveSpotOf (tallyOf v) x) piece; piece = piece })
+writeOutcome v x piece o = judged (writeTable v x (length piece) (o .byteCount)) (λ k. refused v k piece) (writeEffect v x piece)
 
 -- ---- "Read into a lent piece: 1; 2; 3; 4. It fills the piece from the live spot."
 
@@ -138,10 +175,11 @@ readTable v x pieceBytes byteCount =
     ∷ (4, not (eqb pieceBytes (v .size)))
     ∷ []
 
+unfoldable pub readEffect : (v : Volume) (x : ℕ) (o : Observations) → Outcome
+readEffect v x o = doing v noStore (o .bytesAt (geometry v) (liveSpotOf (tallyOf v) x))
+
 unfoldable pub readOutcome : (v : Volume) (x : ℕ) (piece : List ℕ) (o : Observations) → Outcome
-readOutcome v x piece o =
-    judged (readTable v x (length piece) (o .byteCount)) (λ k. refused v k piece)
-    (record { reply = record { state = v; answer = Done }; store = noStore; piece = o .bytesAt (geometry v) (liveSpotOf (tallyOf v) x) })
+readOutcome v x piece o = judged (readTable v x (length piece) (o .byteCount)) (λ k. refused v k piece) (readEffect v x o)
 
 -- ---- "Copy block x: 1; 2; 5, not growing; 3; 10, x doesn't move or not in window w; 11, copied already. It stores the old spot's bytes
 -- at the new one and sets the copied mark."
@@ -154,39 +192,56 @@ copyTable v x byteCount =
     ∷ (3, leb (openBlocks (tallyOf v)) x)
     ∷ (10, not (movesNow (tallyOf v) x))
     ∷ (11, tallyOf v .copied x)
-    ∷ []
+    ∷ blockRows v
 
 -- a block that may be copied lives at its old spot
 unfoldable pub copyStore : (v : Volume) (x : ℕ) (o : Observations) → Store
 copyStore v x o = blockStore (targetOf (tallyOf v) x) (o .bytesAt (geometry v) (liveSpotOf (tallyOf v) x))
 
+unfoldable pub copyEffect : (v : Volume) (x : ℕ) (o : Observations) → Outcome
+copyEffect v x o = reporting (withCopy v x) (copyStore v x o)
+
 unfoldable pub copyOutcome : (v : Volume) (x : ℕ) (o : Observations) → Outcome
-copyOutcome v x o = judged (copyTable v x (o .byteCount)) (λ k. refused v k []) (reporting (withCopy v x) (copyStore v x o))
+copyOutcome v x o = judged (copyTable v x (o .byteCount)) (λ k. refused v k []) (copyEffect v x o)
 
 -- ---- "Checkpoint: 1; 2; 5; 12, copied equals recorded. It stores the record with recorded set to copied." In a sound state the recorded
 -- marks are among the copied ones.
+
+abbrev pub nothingToRecord : (v : Volume) → Bool
+nothingToRecord v = within (marksOf (v .copied)) (marksOf (v .recorded))
 
 unfoldable pub checkpointTable : (v : Volume) (byteCount : ℕ) → List (ℕ × Bool)
 checkpointTable v byteCount =
     (1, not (sound v))
     ∷ (2, tooShort (geometry v) (disks v) byteCount)
     ∷ (5, eqb (v .growing) 0)
-    ∷ (12, within (marksOf (v .copied)) (marksOf (v .recorded)))
-    ∷ []
+    ∷ (12, nothingToRecord v)
+    ∷ recordRows v
 
 unfoldable pub checkpointStore : (v : Volume) → Store
 checkpointStore v = recordStore (recordOf (checkpointed v))
 
+unfoldable pub checkpointEffect : (v : Volume) → Outcome
+checkpointEffect v = reporting (checkpointed v) (checkpointStore v)
+
 unfoldable pub checkpointOutcome : (v : Volume) (o : Observations) → Outcome
-checkpointOutcome v o =
-    judged (checkpointTable v (o .byteCount)) (λ k. refused v k []) (reporting (checkpointed v) (checkpointStore v))
+checkpointOutcome v o = judged (checkpointTable v (o .byteCount)) (λ k. refused v k []) (checkpointEffect v)
 
 -- ---- "Advance: 1; 2; 5. It copies the lowest unset copied mark of window w or, when none is left, does the checkpoint. It tells which:
 -- copied with the block and its head, body or tail; recorded; finished, when that checkpoint ended the whole growth."
 
 unfoldable pub advanceTable : (v : Volume) (byteCount : ℕ) → List (ℕ × Bool)
 advanceTable v byteCount =
-    (1, not (sound v)) ∷ (2, tooShort (geometry v) (disks v) byteCount) ∷ (5, eqb (v .growing) 0) ∷ []
+    (1, not (sound v))
+    ∷ (2, tooShort (geometry v) (disks v) byteCount)
+    ∷ (5, eqb (v .growing) 0)
+    ∷ (19, v .pending .records)
+    ∷ (18, isNone (nextBlock (tallyOf v)) && v .pending .blocks)
+    ∷ []
+
+-- the tests that a copy and a checkpoint have too
+unfoldable pub growthTable : (v : Volume) (byteCount : ℕ) → List (ℕ × Bool)
+growthTable v byteCount = take 3 (advanceTable v byteCount)
 
 -- of the state that the checkpoint hands back
 unfoldable pub checkpointTold : (v : Volume) → Advanced
@@ -196,8 +251,11 @@ unfoldable pub advancing : (v : Volume) (next : Option ℕ) (o : Observations) �
 advancing v none o = telling (checkpointed v) (checkpointTold (checkpointed v)) (checkpointStore v)
 advancing v (some x) o = telling (withCopy v x) (Copied (record { 0 = x }) (partMoved (v .rows) (historyOf v) x)) (copyStore v x o)
 
+unfoldable pub advanceEffect : (v : Volume) (o : Observations) → Outcome
+advanceEffect v o = advancing v (nextBlock (tallyOf v)) o
+
 unfoldable pub advanceOutcome : (v : Volume) (o : Observations) → Outcome
-advanceOutcome v o = judged (advanceTable v (o .byteCount)) (λ k. refused v k []) (advancing v (nextBlock (tallyOf v)) o)
+advanceOutcome v o = judged (advanceTable v (o .byteCount)) (λ k. refused v k []) (advanceEffect v o)
 
 -- ---- "Address of block x: 1; 3. It gives the live spot and why it is there"
 
@@ -210,10 +268,6 @@ addressReply v x =
     (record { state = v; answer = address.At (liveSpotOf (tallyOf v) x) (liveReasonOf (tallyOf v) x) })
 
 -- ---- "Holder of (d, b): 1; 14, d ≥ N[t] or b ≥ s; 15, no open block lives there. It gives the block."
-
-abbrev pub isNone : (found : Option ℕ) → Bool
-isNone none = true
-isNone (some x) = false
 
 abbrev pub blockFound : (found : Option ℕ) → ℕ
 blockFound none = 0

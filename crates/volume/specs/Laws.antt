@@ -16,12 +16,13 @@ use Rattle.layout.specs.Windows.{windows, oldSpot, movingIn}
 use Rattle.marks.specs.Marks.{markCount, within}
 use Rattle.marks.specs.Words.{marksOf}
 use Rattle.medium.specs.Medium.{recordBytes, Observations, observe, noStore, StoreFits}
+use Rattle.volume.specs.declared.Pending.{Pending}
 use Rattle.volume.specs.declared.Volume.{Volume}
 use Rattle.volume.specs.Answers.{number, callsTold, addressNumber, spotTold, reasonTold, holderNumber, blockTold}
-use Rattle.volume.specs.Calls.{Outcome, formatTable, formatOutcome, restartTable, restartOutcome, sectorTable, sectorOutcome, growTable, growOutcome, writeTable, writeOutcome, readTable, readOutcome, copyTable, copyOutcome, checkpointTable, checkpointOutcome, advanceTable, advanceOutcome, addressTable, addressReply, holderTable, holderReply}
+use Rattle.volume.specs.Calls.{Outcome, formatTable, formatOutcome, restartTable, restartOutcome, sectorTable, sectorOutcome, growTable, growOutcome, writeTable, writeOutcome, readTable, readOutcome, copyTable, copyOutcome, checkpointTable, checkpointOutcome, advanceTable, advanceOutcome, flushedTable, flushedOutcome, addressTable, addressReply, holderTable, holderReply}
 use Rattle.volume.specs.Records.{recordOf, stateRead, isSoundRecord}
 use Rattle.volume.specs.Sound.{sizeStep, mostSize, movingOf, sound}
-use Rattle.volume.specs.States.{geometry, historyOf, tallyOf, newState, zeros, grown, recordedOnly, withCopy, checkpointed}
+use Rattle.volume.specs.States.{geometry, historyOf, tallyOf, newState, zeros, grown, withPending, recordedOnly, withCopy, checkpointed}
 
 -- ---- what a sound state is
 
@@ -94,6 +95,8 @@ pub record VolumeLaws : Type 0 where
   pub sector-sound : (o : Observations) → refusal (sectorTable o) ≡ 0 → sound (stateRead (o .sector)) ≡ true
   pub copied-sound : (v : Volume) (x : ℕ) → sound v ≡ true → v .growing ≢ 0 → movesNow (tallyOf v) x ≡ true → sound (withCopy v x) ≡ true
   pub checkpointed-sound : (v : Volume) → sound v ≡ true → v .growing ≢ 0 → sound (checkpointed v) ≡ true
+  -- what is pending is no part of soundness: both may be
+  pub pending-sound : (v : Volume) (p : Pending) → sound (withPending v p) ≡ sound v
   -- what is stored lies in the medium; a copy stores bytes of that medium
   pub format-fits : (z s n : ℕ) (o : Observations) → StoreFits (record { size = z; rows = s }) (o .byteCount) (formatOutcome z s n o .store)
   pub grow-fits : (v : Volume) (count : ℕ) (o : Observations) → StoreFits (geometry v) (o .byteCount) (growOutcome v count o .store)
@@ -114,6 +117,7 @@ pub record VolumeLaws : Type 0 where
   pub copy-refuses : (v : Volume) (x : ℕ) (o : Observations) → Refuses (copyTable v x (o .byteCount)) v [] (copyOutcome v x o)
   pub checkpoint-refuses : (v : Volume) (o : Observations) → Refuses (checkpointTable v (o .byteCount)) v [] (checkpointOutcome v o)
   pub advance-refuses : (v : Volume) (o : Observations) → Refuses (advanceTable v (o .byteCount)) v [] (advanceOutcome v o)
+  pub flushed-refuses : (v : Volume) → Refuses (flushedTable v) v [] (flushedOutcome v)
   pub address-refuses : (v : Volume) (x : ℕ) → AddressRefuses v x
   pub holder-refuses : (v : Volume) (p : Spot) → HolderRefuses v p
   -- a block that is copied lives at its old spot

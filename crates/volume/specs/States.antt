@@ -1,7 +1,7 @@
--- Document 01, "Medium, state, record": the state, read as a tally, and the states that calls hand back. The array of counts is a list
--- here, a set of marks a word. Assumes nothing.
+-- Document 01, "Medium, state, record": the state, read as a tally, and the states that calls hand back; document 02, W4: what is pending.
+-- The array of counts is a list here, a set of marks a word. Assumes nothing.
 use Prim.Native.Nat.{ℕ, suc}
-use mathlib.Core.Bool.{true, cond}
+use mathlib.Core.Bool.{true, false, cond}
 use mathlib.Core.List.{List}
 use lib.Dec.{eqb}
 use lib.ListN.{set, replicate}
@@ -10,6 +10,8 @@ use Rattle.layout.specs.Tally.{Mode, notGrowing, growing, Tally, windowFull, la
 use Rattle.layout.specs.Windows.{markOf, markedBlocks}
 use Rattle.marks.specs.Words.{marksOf, wordOf}
 use Rattle.medium.specs.declared.Geometry.{Geometry}
+use Rattle.medium.specs.Medium.{Store, noStore, recordStore, blockStore}
+use Rattle.volume.specs.declared.Pending.{Pending}
 use Rattle.volume.specs.declared.Volume.{Volume}
 
 unfoldable pub geometry : (v : Volume) → Geometry
@@ -39,7 +41,25 @@ tallyOf v =
       recorded = markedBlocks (v .rows) (historyOf v) (v .window) (marksOf (v .recorded));
     }
 
--- ---- the states that calls hand back, from two forms
+-- ---- what is pending
+
+-- "Restart begins with nothing pending."
+unfoldable pub nonePending : Pending
+nonePending = record { records = false; blocks = false }
+
+-- a store is pending from its call on: one of the record, one of a block
+abbrev pub recordPending : (p : Pending) → Pending
+recordPending p = record { records = true; blocks = p .blocks }
+
+abbrev pub blockPending : (p : Pending) → Pending
+blockPending p = record { records = p .records; blocks = true }
+
+unfoldable pub pendingWith : (p : Pending) (store : Store) → Pending
+pendingWith p noStore = p
+pendingWith p (recordStore sector) = recordPending p
+pendingWith p (blockStore q bytes) = blockPending p
+
+-- ---- the states that calls hand back, from three forms
 
 -- a volume with no growth
 unfoldable pub newState : (z s n : ℕ) → Volume
@@ -53,6 +73,7 @@ newState z s n =
       window = 0;
       recorded = 0;
       copied = 0;
+      pending = nonePending;
     }
 
 -- the same blocks and rows with another history and another stage of a growth
@@ -67,7 +88,27 @@ withGrowth v t counts stage w recorded copied =
       window = w;
       recorded = recorded;
       copied = copied;
+      pending = v .pending;
     }
+
+-- the same volume with this pending
+unfoldable pub withPending : (v : Volume) (p : Pending) → Volume
+withPending v p =
+    record {
+      size = v .size;
+      rows = v .rows;
+      growths = v .growths;
+      counts = v .counts;
+      growing = v .growing;
+      window = v .window;
+      recorded = v .recorded;
+      copied = v .copied;
+      pending = p;
+    }
+
+-- the state after a store
+abbrev pub afterStore : (v : Volume) (store : Store) → Volume
+afterStore v store = withPending v (pendingWith (v .pending) store)
 
 -- "a state of zeros"
 unfoldable pub zeros : Volume
@@ -81,9 +122,9 @@ grown v count = withGrowth v (suc (v .growths)) (set (v .counts) (suc (v .growth
 abbrev pub inStage : (v : Volume) (stage w : ℕ) (recorded copied : ℕ) → Volume
 inStage v stage w recorded copied = withGrowth v (v .growths) (v .counts) stage w recorded copied
 
--- the recorded marks alone: "sets copied to recorded"
+-- what the record holds of a state: "sets copied to recorded", "nothing pending"
 unfoldable pub recordedOnly : (v : Volume) → Volume
-recordedOnly v = inStage v (v .growing) (v .window) (v .recorded) (v .recorded)
+recordedOnly v = withPending (inStage v (v .growing) (v .window) (v .recorded) (v .recorded)) nonePending
 
 -- "sets the copied mark": mark j, and that of block x
 abbrev pub withMark : (v : Volume) (j : ℕ) → Volume

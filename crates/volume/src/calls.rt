@@ -83,8 +83,9 @@ impl Volume {
         }
         let v = Volume::new_state(size, rows, disks);
         v.store_record(medium);
+        let after = v.after_record();
         Reply {
-            state: v,
+            state: after,
             answer: Answer::Done,
         }
     }
@@ -148,7 +149,7 @@ impl Volume {
         if self.is_short(count, len) {
             return 2;
         }
-        0
+        self.record_refusal()
     }
 
     // Starts a growth to so many disks.
@@ -164,7 +165,8 @@ impl Volume {
         v.store_record(medium);
         let counts = v.counts;
         let left = marks::calls_left(&counts, v.growths, v.rows, v.growing, v.window, v.copied);
-        v.report(left)
+        let after = v.after_record();
+        after.report(left)
     }
 
     pub(crate) fn read_refusal(
@@ -213,11 +215,7 @@ impl Volume {
             }
         }
         let spot = marks::live_spot(&counts, t, s, growing, w, self.recorded, x, old);
-        SpotFound {
-            refusal: 0,
-            spot,
-            mark: 0,
-        }
+        self.block_spot(spot, 0)
     }
 
     // Saves a piece as block x.
@@ -232,8 +230,9 @@ impl Volume {
         let p = target.spot;
         let g = self.geometry();
         medium::store_block(medium, g, p, piece);
+        let after = self.after_block();
         Reply {
-            state: self,
+            state: after,
             answer: Answer::Done,
         }
     }

@@ -2,14 +2,15 @@
 ghost use mathlib.Core.Path.{_≡_};
 ghost use mathlib.Core.Bool.{true, false};
 ghost use mathlib.Core.Logic.{_≢_};
+ghost use mathlib.Core.Option.{none, some};
 ghost use Prim.Native.Nat.{_≤_, _<_};
 ghost use lib.ListN.{length};
 ghost use Rattle.base.specs.Refusals.{refusal};
 ghost use Rattle.layout.specs.Tally.{movesNow, nextBlock};
-ghost use Rattle.layout.specs.Windows.{oldSpot, markOf};
+ghost use Rattle.layout.specs.Windows.{oldSpot, markOf, partMoved};
 ghost use Rattle.marks.specs.Marks.{markCount, asNextCopy};
 ghost use Rattle.medium.specs.Medium.{bytesNeeded, observe, apply};
-ghost use Rattle.volume.specs.Calls.{foundAt, copyTable, copyStore, copyOutcome, checkpointTable, checkpointOutcome, advanceTable, checkpointTold, advanceOutcome};
+ghost use Rattle.volume.specs.Calls.{foundAt, copyTable, copyStore, copyOutcome, checkpointTable, checkpointOutcome, growthTable, checkpointTold, advanceOutcome};
 ghost use Rattle.volume.specs.Sound.{sound};
 ghost use Rattle.volume.specs.States.{geometry, historyOf, disks, tallyOf, withMark, checkpointed};
 use super::Advanced;
@@ -19,6 +20,7 @@ use super::SpotFound;
 use super::Volume;
 use super::calls::no_spot;
 use layout::Block;
+use layout::Part;
 use layout::Spot;
 use marks::NextCopy;
 
@@ -94,9 +96,10 @@ impl Volume {
         medium::copy_block(medium, g, p, to);
     }
 
-    pub(crate) fn advance_refusal(self, counts: &[usize; 8], len: usize) -> usize
+    // The tests that copy, checkpoint and advance share.
+    pub(crate) fn growth_refusal(self, counts: &[usize; 8], len: usize) -> usize
         requires { ⌜ now counts ≡ self .counts ⌝ }
-        ensures { λ r. ⌜ r ≡ refusal (advanceTable self len) ⌝ }
+        ensures { λ r. ⌜ r ≡ refusal (growthTable self len) ⌝ }
     {
         if !self.is_sound_by(counts) {
             return 1;
@@ -115,7 +118,7 @@ impl Volume {
         requires { ⌜ now counts ≡ self .counts ⌝ }
         ensures { λ r. ⌜ r ≡ foundAt (refusal (copyTable self (x .0) len)) (oldSpot (self .rows) (historyOf self) (x .0)) (markOf (self .rows) (historyOf self) (x .0)) ⌝ }
     {
-        let k = self.advance_refusal(counts, len);
+        let k = self.growth_refusal(counts, len);
         if k != 0 {
             return no_spot(k);
         }
@@ -132,11 +135,7 @@ impl Volume {
         if marks::has_mark(self.copied, mark) {
             return no_spot(11);
         }
-        SpotFound {
-            refusal: 0,
-            spot,
-            mark,
-        }
+        self.block_spot(spot, mark)
     }
 
     // Copies block x to its new spot.
@@ -153,14 +152,15 @@ impl Volume {
         self.store_copy(&counts, medium, x, p);
         let v = self.with_mark(found.mark);
         let left = marks::calls_left(&counts, v.growths, v.rows, v.growing, v.window, v.copied);
-        v.report(left)
+        let after = v.after_block();
+        after.report(left)
     }
 
     pub(crate) fn checkpoint_refusal(self, len: usize) -> usize
         ensures { λ r. ⌜ r ≡ refusal (checkpointTable self len) ⌝ }
     {
         let counts = self.counts;
-        let k = self.advance_refusal(&counts, len);
+        let k = self.growth_refusal(&counts, len);
         if k != 0 {
             return k;
         }
@@ -169,7 +169,7 @@ impl Volume {
         if marks::is_within(copied, recorded) {
             return 12;
         }
-        0
+        self.record_refusal()
     }
 
     // Records the copies made.
@@ -185,7 +185,8 @@ impl Volume {
         v.store_record(medium);
         let counts = v.counts;
         let left = marks::calls_left(&counts, v.growths, v.rows, v.growing, v.window, v.copied);
-        v.report(left)
+        let after = v.after_record();
+        after.report(left)
     }
 
     // Copies the next block or, when none is left in the window, records the copies.
@@ -194,21 +195,64 @@ impl Volume {
         ensures { λ _. ⌜ now (medium .exit) ≡ apply (geometry self) (advanceOutcome self (observe (now (medium .entry))) .store) (now (medium .entry)) ⌝ }
     {
         let counts = self.counts;
-        let k = self.advance_refusal(&counts, medium.len());
+        let k = self.growth_refusal(&counts, medium.len());
         if k != 0 {
             return self.refuse(k);
         }
         let NextCopy::CopyOf(x, part, p, j) = self.next_copy(&counts) else {
-            let v = self.checkpointed();
-            v.store_record(medium);
-            let next = v.counts;
-            let left = marks::calls_left(&next, v.growths, v.rows, v.growing, v.window, v.copied);
-            return v.tell(v.checkpoint_told(), left);
+            return self.advance_record(medium);
         };
-        self.store_copy(&counts, medium, x, p);
-        let v = self.with_mark(j);
+        self.advance_copy(&counts, medium, x, part, p, j)
+    }
+
+    // The advance that does the checkpoint.
+    pub(crate) fn advance_record(self, medium: &mut [u8]) -> Reply
+        requires { ⌜ (sound self ≡ true) × (self .growing ≢ 0) ⌝ }
+        requires { ⌜ bytesNeeded (geometry self) (disks self) ≤ length (now medium) ⌝ }
+        requires { ⌜ nextBlock (tallyOf self) ≡ none ⌝ }
+        ensures { λ r. ⌜ r ≡ advanceOutcome self (observe (now (medium .entry))) .reply ⌝ }
+        ensures { λ _. ⌜ now (medium .exit) ≡ apply (geometry self) (advanceOutcome self (observe (now (medium .entry))) .store) (now (medium .entry)) ⌝ }
+    {
+        let k = self.record_refusal();
+        if k != 0 {
+            return self.refuse(k);
+        }
+        let v = self.checkpointed();
+        v.store_record(medium);
+        let counts = v.counts;
         let left = marks::calls_left(&counts, v.growths, v.rows, v.growing, v.window, v.copied);
-        v.tell(Advanced::Copied(x, part), left)
+        let did = v.checkpoint_told();
+        let after = v.after_record();
+        after.tell(did, left)
+    }
+
+    // The advance that copies block x, which is at its old spot p and has mark j.
+    pub(crate) fn advance_copy(
+        self,
+        counts: &[usize; 8],
+        medium: &mut [u8],
+        x: Block,
+        part: Part,
+        p: Spot,
+        j: usize,
+    ) -> Reply
+        requires { ⌜ (sound self ≡ true) × (self .growing ≢ 0) ⌝ }
+        requires { ⌜ now counts ≡ self .counts ⌝ }
+        requires { ⌜ bytesNeeded (geometry self) (disks self) ≤ length (now medium) ⌝ }
+        requires { ⌜ (nextBlock (tallyOf self) ≡ some (x .0)) × (part ≡ partMoved (self .rows) (historyOf self) (x .0)) ⌝ }
+        requires { ⌜ (p ≡ oldSpot (self .rows) (historyOf self) (x .0)) × (j ≡ markOf (self .rows) (historyOf self) (x .0)) ⌝ }
+        ensures { λ r. ⌜ r ≡ advanceOutcome self (observe (now (medium .entry))) .reply ⌝ }
+        ensures { λ _. ⌜ now (medium .exit) ≡ apply (geometry self) (advanceOutcome self (observe (now (medium .entry))) .store) (now (medium .entry)) ⌝ }
+    {
+        let k = self.block_refusal();
+        if k != 0 {
+            return self.refuse(k);
+        }
+        self.store_copy(counts, medium, x, p);
+        let v = self.with_mark(j);
+        let left = marks::calls_left(counts, v.growths, v.rows, v.growing, v.window, v.copied);
+        let after = v.after_block();
+        after.tell(Advanced::Copied(x, part), left)
     }
 
     // The block to copy next.

@@ -1,10 +1,11 @@
-// The growing striped volume: its state by value, and the calls of document 01 as its methods. Each call
+// The growing striped volume: its state by value, and the calls of document 01 and `flushed` as its methods. Each call
 // takes the state and hands the next one back, beside the answer.
 //
 // The calls, `is_sound`, `disk_count`, `zeros` and the limits are offered to others and take any input. What has a
 // `requires` is not offered to others: it is seen in this crate alone, but for `open_blocks` and `live_spot`,
 // by which a crate above addresses many blocks after one test of soundness.
 mod calls;
+mod flush;
 mod growth;
 mod live;
 mod lookup;
@@ -16,8 +17,14 @@ use layout::Part;
 use layout::Reason;
 use layout::Spot;
 
+// Which stores may not be down: that of a record, and those of blocks. It is kept in memory, never in the record.
+pub struct Pending {
+    pub records: bool,
+    pub blocks: bool,
+}
+
 // Document 01's state: Z, s, t, the counts N[0] to N[7], growing (0 or 1), w, and the two sets of marks, each a word with
-// mark j as its bit j.
+// mark j as its bit j; and what is pending.
 pub struct Volume {
     pub size: usize,
     pub rows: usize,
@@ -27,6 +34,7 @@ pub struct Volume {
     pub window: usize,
     pub recorded: usize,
     pub copied: usize,
+    pub pending: Pending,
 }
 
 // What an advance did: copied the block, which is the head, body or tail of its window; recorded the copies; or

@@ -8,6 +8,7 @@ ghost use Rattle.layout.specs.Limits.{Limits};
 ghost use Rattle.marks.specs.Marks.{atRest, inGrowth};
 ghost use Rattle.marks.specs.Words.{marksOf};
 ghost use Rattle.volume.specs.Sound.{sizeHolds, rowsHold, disksHold, sound};
+ghost use Rattle.volume.specs.States.{nonePending};
 use super::Volume;
 
 // Is z a block size?
@@ -65,7 +66,7 @@ fn stage_holds(
     marks::in_growth(counts, t, rows, w, recorded, copied)
 }
 
-// Is the state of these numbers sound?
+// Is the state of these numbers sound, whatever is pending?
 pub fn are_sound(
     counts: &[usize; 8],
     size: usize,
@@ -77,7 +78,7 @@ pub fn are_sound(
     copied: usize,
 ) -> bool
     requires { ⌜ length (now counts) ≡ 8 ⌝ }
-    ensures { λ r. ⌜ r ≡ sound (record { size = size; rows = rows; growths = t; counts = now (counts .entry); growing = growing; window = w; recorded = recorded; copied = copied }) ⌝ }
+    ensures { λ r. ⌜ r ≡ sound (record { size = size; rows = rows; growths = t; counts = now (counts .entry); growing = growing; window = w; recorded = recorded; copied = copied; pending = nonePending }) ⌝ }
 {
     if !size_holds(size) {
         return false;

@@ -6,6 +6,7 @@ ghost use Rattle.layout.specs.Limits.{mostGrowths};
 ghost use Rattle.medium.specs.Medium.{recordStore, apply};
 ghost use Rattle.volume.specs.Records.{recordOf, stateOf};
 ghost use Rattle.volume.specs.States.{geometry, newState, withGrowth, zeros, grown};
+use super::Pending;
 use super::Volume;
 
 impl Volume {
@@ -44,6 +45,10 @@ impl Volume {
             window: 0,
             recorded: 0,
             copied: 0,
+            pending: Pending {
+                records: false,
+                blocks: false,
+            },
         }
     }
 
@@ -59,6 +64,7 @@ impl Volume {
     ) -> Volume
         ensures { λ r. ⌜ r ≡ withGrowth self t counts growing w recorded copied ⌝ }
     {
+        let pending = self.pending;
         Volume {
             size: self.size,
             rows: self.rows,
@@ -68,6 +74,7 @@ impl Volume {
             window: w,
             recorded,
             copied,
+            pending,
         }
     }
 

@@ -26,7 +26,7 @@ use Rattle.volume.specs.Answers.{holderNumber, blockTold}
 use Rattle.volume.specs.Calls.{judged, isNone, blockFound, holderTable, holderReply}
 use Rattle.volume.specs.Records.{recordOf}
 use Rattle.volume.specs.Sound.{sound}
-use Rattle.volume.specs.States.{historyOf, disks, tallyOf, withGrowth, recordedOnly}
+use Rattle.volume.specs.States.{historyOf, disks, tallyOf, withPending, withGrowth, recordedOnly}
 use Rattle.volume.proofs.Accepted.{holder-accepted}
 use Rattle.volume.proofs.Judged.{judged-cases, accepted-when}
 use Rattle.volume.proofs.LiveCode.{open-most}
@@ -121,7 +121,7 @@ module _ (v : Volume) (disk row : ℕ) (s : sound v ≡ true) (d : disk < disks 
 
 -- holder looks at the recorded marks alone
 same-holder : (v : Volume) (p : Spot) → sound v ≡ true → holderReply (recordedOnly v) p .answer ≡ holderReply v p .answer
-unfolding holderTable disks historyOf tallyOf liveBlockOf movedBlocks recordedOnly withGrowth
+unfolding holderTable disks historyOf tallyOf liveBlockOf movedBlocks recordedOnly withPending withGrowth
 same-holder v p s = rw (answer-judged (recordedOnly v) p, answer-judged v p, recorded-sound v s, s)
 
 same-rows : (v : Volume) (n : ℕ) → sound v ≡ true → rowLine (recordedOnly v) n ≡ rowLine v n
@@ -130,7 +130,7 @@ same-rows v n s =
     fun-ext (λ row. ap (λ (columnOf : ℕ → List ℕ). line (decimal rowWidth row) columnOf n) (fun-ext (λ disk. ap cell (same-holder v (spotAt disk row) s))))
 
 same-chart : (v : Volume) → sound v ≡ true → chart (recordedOnly v) ≡ chart v
-unfolding chart disks historyOf recordedOnly withGrowth
+unfolding chart disks historyOf recordedOnly withPending withGrowth
 same-chart v s = ap (λ (row : ℕ → List ℕ). headingLine (disks v) ++ joined row (v .rows)) (same-rows v (disks v) s)
 
 pub record-chart : (v : Volume) → sound v ≡ true → chart (recordState (recordOf v)) ≡ chart v

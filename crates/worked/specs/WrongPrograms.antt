@@ -1,19 +1,19 @@
--- Programs that demand 3 shuts out (document 01, "What each contract carries" and "Near errors"), each of them ours but for one call:
--- `ShutOut`. `proofs/WrongPrograms.antt` has the proof: a list, computed, at which each of them breaks the promise. Assumes nothing.
+-- Programs that demand 3 shuts out (document 01, "What each contract carries" and "Near errors"; document 02, W4), each of them ours but for one
+-- call: `ShutOut`. `proofs/WrongPrograms.antt` has the proof: a list, computed, at which each of them breaks the promise. Assumes nothing.
 use Prim.Native.Nat.{ℕ}
 use mathlib.Core.Bool.{cond, _||_}
-use mathlib.Core.List.{List, []}
+use mathlib.Core.List.{List, [], _++_}
 use lib.Dec.{eqb}
-use lib.ListN.{length}
-use Rattle.layout.specs.Tally.{liveSpotOf, windowFull}
-use Rattle.medium.specs.Medium.{Observations, noStore, blockStore}
-use Rattle.volume.specs.declared.Answer.the-variants.{Done, CallsLeft}
+use lib.ListN.{length, take}
+use Rattle.layout.specs.Tally.{windowFull}
+use Rattle.medium.specs.Medium.{Observations, noStore}
+use Rattle.volume.specs.declared.Answer.the-variants.{CallsLeft}
 use Rattle.volume.specs.declared.Volume.{Volume}
 use Rattle.volume.specs.Answers.{accepted}
-use Rattle.volume.specs.Calls.{Outcome, refused, reporting, judged, growOutcome, copyOutcome, checkpointOutcome, advanceOutcome, readTable, writeOutcome, readOutcome, restartTable, restartOutcome}
+use Rattle.volume.specs.Calls.{Outcome, refused, reporting, judged, growOutcome, copyOutcome, checkpointOutcome, advanceTable, advanceEffect, advanceOutcome, readTable, blockRows, writeTable, writeEffect, writeOutcome, readOutcome, restartTable, restartOutcome, flushedOutcome}
 use Rattle.volume.specs.Records.{stateRead}
 use Rattle.volume.specs.States.{tallyOf, zeros, inStage}
-use Rattle.promise.specs.Calls.{Call, grow, copy, checkpoint, advance, write, read, restart}
+use Rattle.promise.specs.Calls.{Call, grow, copy, checkpoint, advance, write, read, restart, flushed}
 use Rattle.promise.specs.Promise.{PromiseOf}
 
 -- what a call does with the state that it gets and what it sees of the medium
@@ -29,6 +29,7 @@ program grows advances writes restarts advance v o = advances v o
 program grows advances writes restarts (write x piece) v o = writes x piece v o
 program grows advances writes restarts (read x piece) v o = readOutcome v x piece o
 program grows advances writes restarts restart v o = restarts v o
+program grows advances writes restarts flushed v o = flushedOutcome v
 
 abbrev ourGrow : (count : ℕ) → Act
 ourGrow count v o = growOutcome v count o
@@ -49,9 +50,20 @@ unfoldable pub writesWaiting : (c : Call) → Act
 writesWaiting =
     program ourGrow advanceOutcome
     (λ x piece v o.
-    judged (readTable v x (length piece) (o .byteCount)) (λ k. refused v k piece)
-    (record { reply = record { state = v; answer = Done }; store = blockStore (liveSpotOf (tallyOf v) x) piece; piece = piece }))
+    judged (readTable v x (length piece) (o .byteCount) ++ blockRows v) (λ k. refused v k piece) (writeEffect v x piece))
     ourRestart
+
+-- a write that does not wait for a record store: no 19, the last of its rows
+unfoldable pub writesEarly : (c : Call) → Act
+writesEarly =
+    program ourGrow advanceOutcome
+    (λ x piece v o. judged (take 5 (writeTable v x (length piece) (o .byteCount))) (λ k. refused v k piece) (writeEffect v x piece))
+    ourRestart
+
+-- an advance that does not wait for block stores: no 18, the last of its rows
+unfoldable pub recordsEarly : (c : Call) → Act
+recordsEarly =
+    program ourGrow (λ v o. judged (take 4 (advanceTable v (o .byteCount))) (λ k. refused v k []) (advanceEffect v o)) ourWrite ourRestart
 
 -- "an advance that always refuses"
 unfoldable pub neverAdvances : (c : Call) → Act
@@ -93,6 +105,8 @@ keepsCopies =
 pub record ShutOut : Type 0 where
   pub writes-nothing : PromiseOf writesNothing → ⊥
   pub writes-waiting : PromiseOf writesWaiting → ⊥
+  pub writes-early : PromiseOf writesEarly → ⊥
+  pub records-early : PromiseOf recordsEarly → ⊥
   pub never-advances : PromiseOf neverAdvances → ⊥
   pub marks-later : PromiseOf marksLater → ⊥
   pub made-up-count : PromiseOf madeUpCount → ⊥

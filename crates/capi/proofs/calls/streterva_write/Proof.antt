@@ -2,40 +2,67 @@
 use mathlib.Core.Path.{_≡_, refl, sym}
 use mathlib.Core.Bool.{true}
 use mathlib.Core.List.{[]}
+use lib.ListN.{length}
 use borrow.Author.Needs.{needs}
 use Rattle.medium.specs.Medium.{apply}
-use Rattle.capi.specs.Exported.{lengthsFit, untouched, handedBack, writeLeft}
-use Rattle.capi.proofs.ExportedCode.{words-wrong, lengths-right}
+use Rattle.capi.specs.Exported.{stateFits, untouched, handedBack, writeLeft}
+use Rattle.capi.specs.Words.{stateWords}
+use Rattle.capi.proofs.ExportedCode.{words-length, no-state, state-right}
 use Rattle.capi.proofs.calls.streterva_write.Statement.{statement}
 use Rattle.capi.proofs.calls.streterva_write.Tie as tie
 
-returns : tie.Need-returns
-unfolding writeLeft untouched apply
-returns c = rw (words-wrong _ 0 [] (c .if1 .taken)) (refl, refl)
-
--- the length is right
-fits : (c : tie.Else1) → lengthsFit (c .before .before .before .before .args .state .now) 0 [] ≡ true
-fits c = lengths-right _ 0 [] (c .if1 .left) refl
-
-state-of-requires : tie.Need-state-of-requires
-state-of-requires c κs = search needs
-
-write-requires : tie.Need-write-requires
-write-requires c κs = search needs
-
-number-requires : tie.Need-number-requires
-number-requires c κs = search needs
+is-state-requires : tie.Need-is-state-requires
+is-state-requires c κs = search needs
 
 same-length : tie.Need-same-length
 same-length c = search needs
 
+returns : tie.Need-returns
+unfolding writeLeft untouched apply
+returns c = rw (no-state _ 0 [] _ (c .before .is-state .ensures) (c .if1 .taken)) (refl, (refl, refl))
+
+-- the words are a state's
+fits : (c : tie.Else1) → stateFits (c .before .before .before .before .before .before .args .state .now) 0 [] ≡ true
+fits c = state-right _ 0 [] _ (c .before .is-state .ensures) (c .if1 .left) refl
+
+long : (c : tie.Else1) → length (c .before .before .before .before .before .before .args .state .now) ≡ stateWords
+long c = words-length _ _ (c .before .is-state .ensures) (c .if1 .left)
+
+state-of-requires : tie.Need-state-of-requires
+state-of-requires c κs = long (c .before)
+
+write-requires : tie.Need-write-requires
+write-requires c κs = search needs
+
+put-state-requires : tie.Need-put-state-requires
+put-state-requires c κs = long (c .before .before .before .before .before .before .before .before)
+
+number-requires : tie.Need-number-requires
+number-requires c κs = search needs
+
+same-length-2 : tie.Need-same-length-2
+same-length-2 c = search needs
+
+same-length-3 : tie.Need-same-length-3
+same-length-3 c = search needs
+
 returns-2 : tie.Need-returns-2
 unfolding writeLeft handedBack
 returns-2 c =
-    let made = rw (c .before .before .before .before .before .state-of .ensures) at (c .before .before .before .write .ensures) in
-    rw (fits (c .before .before .before .before .before .before), sym (made .0)) (c .number .ensures, made .1)
+    let made = rw (c .before .before .before .before .before .before .before .before .before .before .state-of .ensures) at (c .before .before .before .before .before .before .before .before .write .ensures) in
+    rw (fits (c .before .before .before .before .before .before .before .before .before .before .before .before), sym (made .0)) (c .number .ensures, (c .before .before .before .put-state .ensures, made .1))
 
 pub streterva-write-spec : {M : Type 1} → statement M
 streterva-write-spec =
     tie.close
-    (tie.spec returns state-of-requires write-requires number-requires same-length returns-2)
+    (tie.spec
+    is-state-requires
+    same-length
+    returns
+    state-of-requires
+    write-requires
+    put-state-requires
+    number-requires
+    same-length-2
+    same-length-3
+    returns-2)

@@ -4,15 +4,18 @@ use native.Mathlib.Omega.{arith}
 use lib.ListN.{length, length-set}
 use borrow.Author.Needs.{needs}
 use Rattle.base.proofs.Lists.{lent-length}
-use Rattle.capi.proofs.ExportedCode.{words-wrong, figures-wrong, lengths-right, load-put}
+use Rattle.capi.proofs.ExportedCode.{no-state, state-figures-wrong, state-right, load-put}
 use Rattle.capi.proofs.loads.hand_load.Statement.{statement}
 use Rattle.capi.proofs.loads.hand_load.Tie as tie
 
+is-state-requires : tie.Need-is-state-requires
+is-state-requires c κs = search needs
+
 returns : tie.Need-returns
-returns c = rw (words-wrong _ 17 _ (c .if1 .taken)) (refl, refl)
+returns c = rw (no-state _ 17 _ _ (c .before .is-state .ensures) (c .if1 .taken)) (refl, refl)
 
 returns-2 : tie.Need-returns-2
-returns-2 c = rw (figures-wrong _ 17 _ (c .before .if1 .left) (c .if2 .taken)) (refl, refl)
+returns-2 c = rw (state-figures-wrong _ 17 _ _ (c .before .before .is-state .ensures) (c .before .if1 .left) (c .if2 .taken)) (refl, refl)
 
 sub-put : tie.Need-sub-put
 sub-put c = search needs
@@ -28,8 +31,8 @@ slice-aggregate-put c = search needs
 
 put-requires : tie.Need-put-requires
 put-requires c κs =
-    let figures : length (c .before .before .before .before .before .before .before .args .figures .now) ≡ 17 = c .before .before .before .if2 .left in
-    lent-length (c .before .before .before .before .before .before .before .args .figures .now) 1 16 (omega arith) ∙ sym (search needs)
+    let figures : length (c .before .before .before .before .before .before .before .before .args .figures .now) ≡ 17 = c .before .before .before .if2 .left in
+    lent-length (c .before .before .before .before .before .before .before .before .args .figures .now) 1 16 (omega arith) ∙ sym (search needs)
 
 place-told-requires : tie.Need-place-told-requires
 place-told-requires c κs = search needs
@@ -45,8 +48,8 @@ same-length c = simp length-set (search needs)
 
 returns-3 : tie.Need-returns-3
 returns-3 c =
-    let a = c .before .before .before .before .before .before .before .before .before .before .before .before .args in
-    let fits = lengths-right (a .state .now) 17 (a .figures .now) (c .before .before .before .before .before .before .before .before .before .if1 .left) (c .before .before .before .before .before .before .before .before .if2 .left) in
+    let a = c .before .before .before .before .before .before .before .before .before .before .before .before .before .args in
+    let fits = state-right (a .state .now) 17 (a .figures .now) _ (c .before .before .before .before .before .before .before .before .before .before .is-state .ensures) (c .before .before .before .before .before .before .before .before .before .if1 .left) (c .before .before .before .before .before .before .before .before .if2 .left) in
     let told = load-put (a .figures .now) (a .load .served) _ _ _ (c .before .before .before .before .before .before .before .before .if2 .left) (c .before .before .before .before .put .ensures) (c .before .place-told .ensures) in
     rw fits (c .load-number .ensures, told)
 
@@ -54,6 +57,7 @@ pub hand-load-spec : {M : Type 1} → statement M
 hand-load-spec =
     tie.close
     (tie.spec
+    is-state-requires
     returns
     returns-2
     sub-put

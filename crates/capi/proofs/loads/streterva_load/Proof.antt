@@ -52,7 +52,7 @@ use Rattle.scene_load.proofs.load_of as load-of
 use Rattle.scene_load.proofs.load_of.Symbol as load-of-def
 use Rattle.scene_load.proofs.load_of.Symbol.{name as #load-of}
 use Rattle.scene_load.proofs.load_of.Met as load-of-thm
-use Rattle.capi.specs.Exported.{wrongLength, lengthsFit, stateTaken}
+use Rattle.capi.specs.Exported.{wrongLength, stateFits, stateTaken}
 use Rattle.capi.specs.Figures.{loadFigures}
 use Rattle.capi.proofs.ExportedCode.{load-left}
 use Rattle.capi.proofs.loads.state_or_zeros as state-or-zeros
@@ -179,7 +179,7 @@ module _ {M : Type 1} (𝓤 : URA M) (H : Heap 𝓤) (A : Atoms 𝓤) (W : Given
 
   -- what the last call says of its number and of the figures
   abbrev Said : Load → ℕ → List ℕ → Type 0
-  Said r n zs = (n ≡ cond (lengthsFit (now x₀) 17 (now x₂)) (loadNumber (r .answer)) wrongLength) × (zs ≡ cond (lengthsFit (now x₀) 17 (now x₂)) (loadFigures r) (now x₂))
+  Said r n zs = (n ≡ cond (stateFits (now x₀) 17 (now x₂)) (loadNumber (r .answer)) wrongLength) × (zs ≡ cond (stateFits (now x₀) 17 (now x₂)) (loadFigures r) (now x₂))
 
   -- ---- the exit
 

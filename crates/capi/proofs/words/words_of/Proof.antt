@@ -1,53 +1,58 @@
 -- `words_of` meets its contract. Assumes nothing.
+use borrow.Author.Needs.{needs}
 use mathlib.Core.Path.{_≡_}
 use lib.ListN.{length}
-use borrow.Author.Needs.{needs}
 use Rattle.volume.proofs.RecordCode.{numbers-listed}
 use Rattle.capi.specs.Words.{wordsOf}
 use Rattle.capi.proofs.words.words_of.Statement.{statement}
 use Rattle.capi.proofs.words.words_of.Tie as tie
+use Rattle.capi.proofs.words.pending_word.Reads as pending-word-reads
 
-array-read-t7 : tie.Need-array-read-t7
-array-read-t7 c = search needs
+pending-word-requires : tie.Need-pending-word-requires
+pending-word-requires c κs = search needs
 
-array-read-t10 : tie.Need-array-read-t10
-array-read-t10 c = search needs
+array-read-t9 : tie.Need-array-read-t9
+array-read-t9 c = search needs
 
-array-read-t13 : tie.Need-array-read-t13
-array-read-t13 c = search needs
+array-read-t12 : tie.Need-array-read-t12
+array-read-t12 c = search needs
 
-array-read-t16 : tie.Need-array-read-t16
-array-read-t16 c = search needs
+array-read-t15 : tie.Need-array-read-t15
+array-read-t15 c = search needs
 
-array-read-t19 : tie.Need-array-read-t19
-array-read-t19 c = search needs
+array-read-t18 : tie.Need-array-read-t18
+array-read-t18 c = search needs
 
-array-read-t22 : tie.Need-array-read-t22
-array-read-t22 c = search needs
+array-read-t21 : tie.Need-array-read-t21
+array-read-t21 c = search needs
 
-array-read-t25 : tie.Need-array-read-t25
-array-read-t25 c = search needs
+array-read-t24 : tie.Need-array-read-t24
+array-read-t24 c = search needs
 
-array-read-t28 : tie.Need-array-read-t28
-array-read-t28 c = search needs
+array-read-t27 : tie.Need-array-read-t27
+array-read-t27 c = search needs
+
+array-read-t30 : tie.Need-array-read-t30
+array-read-t30 c = search needs
 
 returns : tie.Need-returns
 unfolding wordsOf
 returns c =
-    let v = c .before .args .v in
+    let v = c .before .before .before .args .v in
     let e : length (v .counts) ≡ 8 = search needs in
-    rw (numbers-listed v e)
+    rw (numbers-listed v e, ← c .pending-word .ensures)
 
 pub words-of-spec : {M : Type 1} → statement M
 words-of-spec =
     tie.close
     (tie.spec
-    array-read-t7
-    array-read-t10
-    array-read-t13
-    array-read-t16
-    array-read-t19
-    array-read-t22
-    array-read-t25
-    array-read-t28
+    pending-word-requires
+    array-read-t9
+    array-read-t12
+    array-read-t15
+    array-read-t18
+    array-read-t21
+    array-read-t24
+    array-read-t27
+    array-read-t30
     returns)

@@ -24,6 +24,9 @@ text-requires c κs = search needs
 advance-requires : tie.Need-advance-requires Inv-loop μ-loop
 advance-requires c κs = search needs
 
+stored-requires : tie.Need-stored-requires Inv-loop μ-loop
+stored-requires c κs = search needs
+
 show-answer-requires : tie.Need-show-answer-requires Inv-loop μ-loop
 show-answer-requires c κs = search needs
 
@@ -52,6 +55,7 @@ advance-times-spec =
     slice-aggregate-text
     text-requires
     advance-requires
+    stored-requires
     show-answer-requires
     add-k
     loop-less

@@ -4,10 +4,11 @@ use mathlib.Core.List.{[]}
 use lib.ListN.{length}
 use borrow.Author.Needs.{needs}
 use Rattle.medium.specs.Medium.{observe}
-use Rattle.volume.specs.Calls.{reporting, checkpointStore, checkpointOutcome}
+use Rattle.volume.specs.Calls.{reporting, checkpointStore, checkpointEffect, checkpointOutcome}
+use Rattle.volume.specs.States.{pendingWith}
 use Rattle.volume.proofs.Accepted.{AdvanceFacts, checkpoint-accepted}
 use Rattle.volume.proofs.ByteBounds.{record-room}
-use Rattle.volume.proofs.CallsCode.{record-stored}
+use Rattle.volume.proofs.CallsCode.{record-stored, report-made}
 use Rattle.volume.proofs.Judged.{refused-reply, refused-stores, accepted-reply, accepted-stores}
 use Rattle.volume.proofs.StatesSound.{checkpointed-sound}
 use Rattle.volume.proofs.LiveCode.{calls-asks, calls-told}
@@ -43,6 +44,9 @@ calls-left-requires c κs =
     let a = accepted (d .before) in
     calls-asks (d .checkpointed .result) (rw (d .checkpointed .ensures) (checkpointed-sound _ (a .is-sound) (a .is-growing)))
 
+after-record-requires : tie.Need-after-record-requires
+after-record-requires c κs = search needs
+
 report-requires : tie.Need-report-requires
 report-requires c κs = search needs
 
@@ -50,15 +54,16 @@ same-length : tie.Need-same-length
 same-length c = search needs
 
 returns-2 : tie.Need-returns-2
-unfolding checkpointOutcome checkpointStore reporting observe
+unfolding checkpointOutcome checkpointEffect checkpointStore reporting pendingWith observe
 returns-2 c =
-    let v = c .before .before .before .before .before .before .before .before .before .before .before .before .args .self in
-    let e = c .before .before .before .before .before .before .before .before .before .before .checkpoint-refusal .ensures in
-    let h = c .before .before .before .before .before .before .before .before .before .if1 .left in
-    let d = c .before .before .before .before .before .before .before .before .checkpointed in
-    let n = d .ensures in (
-      accepted-reply _ v [] _ _ e h _ (rw (calls-told (d .result) _ (c .before .calls-left .ensures), n) at (c .report .ensures)),
-      accepted-stores _ v [] _ _ e h _ _ _ (record-stored _ _ _ _ _ n (c .before .before .before .before .before .before .store-record .ensures)),
+    let v = c .before .before .before .before .before .before .before .before .before .before .before .before .before .args .self in
+    let e = c .before .before .before .before .before .before .before .before .before .before .before .checkpoint-refusal .ensures in
+    let h = c .before .before .before .before .before .before .before .before .before .before .if1 .left in
+    let d = c .before .before .before .before .before .before .before .before .before .checkpointed in
+    let n = d .ensures in
+    let left = rw n at (calls-told (d .result) _ (c .before .before .calls-left .ensures)) in (
+      accepted-reply _ v [] _ _ e h _ (report-made _ _ _ (checkpointStore v) n (c .before .after-record .ensures) _ left _ (c .report .ensures)),
+      accepted-stores _ v [] _ _ e h _ _ _ (record-stored _ _ _ _ _ n (c .before .before .before .before .before .before .before .store-record .ensures)),
     )
 
 pub checkpoint-spec : {M : Type 1} → statement M
@@ -71,6 +76,7 @@ checkpoint-spec =
     checkpointed-requires
     store-record-requires
     calls-left-requires
+    after-record-requires
     report-requires
     same-length
     returns-2)

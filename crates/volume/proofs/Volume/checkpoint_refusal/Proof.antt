@@ -5,25 +5,29 @@ use Rattle.volume.proofs.GrowthCode.{checkpoint-refused, checkpoint-lef
 use Rattle.volume.proofs.Volume.checkpoint_refusal.Statement.{statement}
 use Rattle.volume.proofs.Volume.checkpoint_refusal.Tie as tie
 
-advance-refusal-requires : tie.Need-advance-refusal-requires
-advance-refusal-requires c κs = search needs
+growth-refusal-requires : tie.Need-growth-refusal-requires
+growth-refusal-requires c κs = search needs
 
 returns : tie.Need-returns
-returns c = checkpoint-refused _ _ _ (c .before .advance-refusal .ensures) (c .if1 .taken)
+returns c = checkpoint-refused _ _ _ (c .before .growth-refusal .ensures) (c .if1 .taken)
 
 is-within-requires : tie.Need-is-within-requires
 is-within-requires c κs = search needs
 
 returns-2 : tie.Need-returns-2
 returns-2 c =
-    checkpoint-left _ _ _ (c .before .before .before .advance-refusal .ensures) (c .before .before .if1 .left)
+    checkpoint-left _ _ _ (c .before .before .before .growth-refusal .ensures) (c .before .before .if1 .left)
     _ (sym (c .if2 .taken) ∙ c .before .is-within .ensures)
+
+record-refusal-requires : tie.Need-record-refusal-requires
+record-refusal-requires c κs = search needs
 
 returns-3 : tie.Need-returns-3
 returns-3 c =
-    checkpoint-left _ _ _ (c .before .before .before .advance-refusal .ensures) (c .before .before .if1 .left)
-    _ (sym (c .if2 .left) ∙ c .before .is-within .ensures)
+    c .record-refusal .ensures
+    ∙ checkpoint-left _ _ _ (c .before .before .before .before .growth-refusal .ensures) (c .before .before .before .if1 .left)
+    _ (sym (c .before .if2 .left) ∙ c .before .before .is-within .ensures)
 
 pub checkpoint-refusal-spec : {M : Type 1} → statement M
 checkpoint-refusal-spec =
-    tie.close (tie.spec advance-refusal-requires returns is-within-requires returns-2 returns-3)
+    tie.close (tie.spec growth-refusal-requires returns is-within-requires returns-2 record-refusal-requires returns-3)

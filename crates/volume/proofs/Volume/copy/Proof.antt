@@ -7,9 +7,10 @@ use Rattle.base.specs.Refusals.{refusal}
 use Rattle.layout.specs.Tally.{callsLeftOf}
 use Rattle.layout.specs.Windows.{oldSpot, markOf}
 use Rattle.medium.specs.Medium.{observe}
-use Rattle.volume.specs.Calls.{reporting, copyTable, copyOutcome}
-use Rattle.volume.specs.States.{historyOf, tallyOf, withGrowth, withCopy}
+use Rattle.volume.specs.Calls.{reporting, copyTable, copyStore, copyEffect, copyOutcome}
+use Rattle.volume.specs.States.{historyOf, tallyOf, pendingWith, withGrowth, withCopy}
 use Rattle.volume.proofs.Accepted.{CopyFacts, copy-accepted}
+use Rattle.volume.proofs.CallsCode.{report-made}
 use Rattle.volume.proofs.GrowthCode.{copied-at, copied-asks}
 use Rattle.volume.proofs.Judged.{refused-reply, refused-stores, accepted-reply, accepted-stores, refusal-found, spot-found}
 use Rattle.volume.proofs.StatesSound.{copied-sound}
@@ -37,7 +38,7 @@ returns c =
     (refused-reply _ v [] _ _ e h v _ refl (c .refuse .ensures), refused-stores _ v [] _ _ e h _ _)
 
 accepted : (c : tie.Else1) → let a = c .before .before .before .before .before .before .args in CopyFacts (a .self) (a .x .0) (length (a .medium .now))
-accepted c = copy-accepted _ _ _ (sym (judged (c .before .before)) ∙ c .if1 .left)
+accepted c = copy-accepted _ _ _ (sym (judged (c .before .before)) ∙ c .if1 .left) .0
 
 -- and the old spot
 from-old : (c : tie.Else1)
@@ -79,6 +80,9 @@ left-told : (c : tie.After-calls-left)
 unfolding withCopy withGrowth
 left-told c = let v = c .before .before .before .before .before .before .before .before .before .before .before .before .before .before .before .args in calls-told (withCopy (v .self) (v .x .0)) _ (rw (copied (c .before .before)) at (c .calls-left .ensures))
 
+after-block-requires : tie.Need-after-block-requires
+after-block-requires c κs = search needs
+
 report-requires : tie.Need-report-requires
 report-requires c κs = search needs
 
@@ -86,14 +90,15 @@ same-length : tie.Need-same-length
 same-length c = search needs
 
 returns-2 : tie.Need-returns-2
-unfolding copyOutcome reporting observe
+unfolding copyOutcome copyEffect copyStore reporting pendingWith observe
 returns-2 c =
-    let b = c .before .before .before .before .before .before .before .before .before .before in
-    let v = b .before .before .before .before .before .before .args .self in
+    let b = c .before .before .before .before .before .before .before .before .before .before .before in
+    let a = b .before .before .before .before .before .before .args in
+    let v = a .self in
     let e = judged (b .before .before) in
     let h = b .if1 .left in (
-      accepted-reply _ v [] _ _ e h _ (rw (copied (c .before .before .before), left-told (c .before)) at (c .report .ensures)),
-      accepted-stores _ v [] _ _ e h _ _ _ (c .before .before .before .before .before .before .store-copy .ensures),
+      accepted-reply _ v [] _ _ e h _ (report-made _ _ _ (copyStore v (a .x .0) (observe (a .medium .now))) (copied (c .before .before .before .before)) (c .before .after-block .ensures) _ (left-told (c .before .before)) _ (c .report .ensures)),
+      accepted-stores _ v [] _ _ e h _ _ _ (c .before .before .before .before .before .before .before .store-copy .ensures),
     )
 
 pub copy-spec : {M : Type 1} → statement M
@@ -106,6 +111,7 @@ copy-spec =
     store-copy-requires
     with-mark-requires
     calls-left-requires
+    after-block-requires
     report-requires
     same-length
     returns-2)

@@ -11,26 +11,26 @@ use Rattle.layout.specs.Tally.{openBlocks}
 use Rattle.layout.specs.Windows.{movingIn}
 use Rattle.marks.specs.Marks.{movesAt}
 use Rattle.marks.proofs.BlocksCode.{mark-fits}
-use Rattle.volume.specs.Calls.{copyTable}
+use Rattle.volume.specs.Calls.{blockRows, copyTable}
 use Rattle.volume.specs.States.{tallyOf}
-use Rattle.volume.proofs.Accepted.{AdvanceFacts, advance-accepted}
+use Rattle.volume.proofs.Accepted.{AdvanceFacts, growth-accepted}
 use Rattle.volume.proofs.GrowthCode.{copy-refused, copy-not-open, copy-not-moving, copy-left}
-use Rattle.volume.proofs.Judged.{found-refused, found-there}
+use Rattle.volume.proofs.Judged.{found-refused, found-same}
 use Rattle.volume.proofs.LiveCode.{countsNow, has-growth, asks-before, newest-asked, spot-is-old, spot-asks, moves-read, mark-asks, mark-read, mark-set-read}
 use Rattle.volume.proofs.Volume.copy_spot.Statement.{statement}
 use Rattle.volume.proofs.Volume.copy_spot.Tie as tie
 
-advance-refusal-requires : tie.Need-advance-refusal-requires
-advance-refusal-requires c κs = search needs
+growth-refusal-requires : tie.Need-growth-refusal-requires
+growth-refusal-requires c κs = search needs
 
 no-spot-requires : tie.Need-no-spot-requires
 no-spot-requires c κs = search needs
 
 returns : tie.Need-returns
-returns c = c .no-spot .ensures ∙ found-refused _ _ _ _ (copy-refused _ _ _ (c .before .before .advance-refusal .ensures) (c .before .if1 .taken) _) (c .before .if1 .taken)
+returns c = c .no-spot .ensures ∙ found-refused _ _ _ _ (copy-refused _ _ _ (c .before .before .growth-refusal .ensures) (c .before .if1 .taken) _) (c .before .if1 .taken)
 
 advances : (c : tie.Else1) → AdvanceFacts (c .before .before .args .self) (c .before .before .args .len)
-advances c = advance-accepted _ _ (sym (c .before .advance-refusal .ensures) ∙ c .if1 .left)
+advances c = growth-accepted _ _ (sym (c .before .growth-refusal .ensures) ∙ c .if1 .left)
 
 open-blocks-by-requires : tie.Need-open-blocks-by-requires
 open-blocks-by-requires c κs = (advances c .is-sound, c .before .before .pre)
@@ -41,7 +41,7 @@ no-spot-requires-2 c κs = search needs
 returns-2 : tie.Need-returns-2
 returns-2 c =
     let b = c .before .before .before .before in
-    c .no-spot2 .ensures ∙ found-refused _ _ _ _ (copy-not-open _ _ _ (b .before .advance-refusal .ensures) (b .if1 .left) _ (rw (c .before .before .before .open-blocks-by .ensures) at (c .before .if2 .taken)))
+    c .no-spot2 .ensures ∙ found-refused _ _ _ _ (copy-not-open _ _ _ (b .before .growth-refusal .ensures) (b .if1 .left) _ (rw (c .before .before .before .open-blocks-by .ensures) at (c .before .if2 .taken)))
     (λ e. absurd (omega arith))
 
 block-open : (c : tie.Else2) → c .before .before .before .before .before .args .x .0 < openBlocks (tallyOf (c .before .before .before .before .before .args .self))
@@ -92,7 +92,7 @@ returns-3 : tie.Need-returns-3
 returns-3 c =
     let b = c .before .before .before .before .before in
     let d = b .before .before .before in
-    c .no-spot3 .ensures ∙ found-refused _ _ _ _ (copy-not-moving _ _ _ (d .before .advance-refusal .ensures) (d .if1 .left) _ (block-open b) _ (moves-told (c .before .before)) (not-true _ (c .before .if3 .taken)))
+    c .no-spot3 .ensures ∙ found-refused _ _ _ _ (copy-not-moving _ _ _ (d .before .growth-refusal .ensures) (d .if1 .left) _ (block-open b) _ (moves-told (c .before .before)) (not-true _ (c .before .if3 .taken)))
     (λ e. absurd (omega arith))
 
 -- it is one, and so it has a mark
@@ -115,14 +115,15 @@ has-mark-requires c κs =
     rw (c .mark-of-spot .ensures) (mark-fits _ _ _ (m .0) (m .1))
 
 last-test : (c : tie.After-has-mark) (copied : Bool) → copied ≡ c .has-mark .result
-    → let a = c .before .before .before .before .before .before .before .before .before .before .before .args in cond copied 11 0 ≡ refusal (copyTable (a .self) (a .x .0) (a .len))
+    → let a = c .before .before .before .before .before .before .before .before .before .before .before .args in
+    cond copied 11 (refusal (blockRows (a .self))) ≡ refusal (copyTable (a .self) (a .x .0) (a .len))
 last-test c copied t =
     let n = c .before .before .before .before in
     let b = n .before .before in
     let d = b .before .before .before in
     let a = advances d in
     let m = mark-set-read _ (a .is-growing) (a .is-sound) _ (growth-told n) _ (block-open b) _ (spot-told (n .before)) _ (c .before .mark-of-spot .ensures) (moves (c .before .before)) _ _ (c .has-mark .ensures) in
-    copy-left _ _ _ (d .before .advance-refusal .ensures) (d .if1 .left) _ (block-open b) _ (moves-told (c .before .before .before)) (not-false _ (c .before .before .if3 .left)) copied
+    copy-left _ _ _ (d .before .growth-refusal .ensures) (d .if1 .left) _ (block-open b) _ (moves-told (c .before .before .before)) (not-false _ (c .before .before .if3 .left)) copied
     (t ∙ m)
 
 no-spot-requires-4 : tie.Need-no-spot-requires-4
@@ -131,18 +132,21 @@ no-spot-requires-4 c κs = search needs
 returns-4 : tie.Need-returns-4
 returns-4 c = c .no-spot4 .ensures ∙ found-refused _ _ _ _ (last-test (c .before .before) _ (sym (c .before .if4 .taken))) (λ e. absurd (omega arith))
 
+block-spot-requires : tie.Need-block-spot-requires
+block-spot-requires c κs = search needs
+
 returns-5 : tie.Need-returns-5
 returns-5 c =
-    let n = c .before .before .before .before .before in
+    let n = c .before .before .before .before .before .before in
     let a = advances (n .before .before .before .before .before) in
-    found-there _ _ _ _ _ (last-test (c .before) _ (sym (c .if4 .left))) (spot-is-old _ (a .is-growing) (a .is-sound) _ _ (spot-told (n .before)))
-    (mark-read _ (a .is-growing) (a .is-sound) _ (growth-told n) _ (block-open (n .before .before)) _ (spot-told (n .before)) _ (c .before .before .mark-of-spot .ensures))
+    found-same _ _ _ _ _ _ _ (c .block-spot .ensures) (last-test (c .before .before) _ (sym (c .before .if4 .left))) (spot-is-old _ (a .is-growing) (a .is-sound) _ _ (spot-told (n .before)))
+    (mark-read _ (a .is-growing) (a .is-sound) _ (growth-told n) _ (block-open (n .before .before)) _ (spot-told (n .before)) _ (c .before .before .before .mark-of-spot .ensures))
 
 pub copy-spot-spec : {M : Type 1} → statement M
 copy-spot-spec =
     tie.close
     (tie.spec
-    advance-refusal-requires
+    growth-refusal-requires
     no-spot-requires
     returns
     open-blocks-by-requires
@@ -158,4 +162,5 @@ copy-spot-spec =
     has-mark-requires
     no-spot-requires-4
     returns-4
+    block-spot-requires
     returns-5)

@@ -1,16 +1,16 @@
 -- `format` meets its contract. Assumes nothing.
-use mathlib.Core.Path.{_≡_, sym, ap, _∙_}
+use mathlib.Core.Path.{_≡_, sym, _∙_}
 use mathlib.Core.List.{[]}
 use lib.ListN.{length}
 use borrow.Author.Needs.{needs}
 use Rattle.base.specs.Refusals.{refusal}
-use Rattle.medium.specs.Medium.{observe}
-use Rattle.volume.specs.declared.Answer.the-variants.{Done}
-use Rattle.volume.specs.Calls.{formatTable, formatOutcome}
-use Rattle.volume.specs.States.{zeros}
+use Rattle.medium.specs.Medium.{recordStore, observe}
+use Rattle.volume.specs.Calls.{doing, formatTable, formatEffect, formatOutcome}
+use Rattle.volume.specs.Records.{recordOf}
+use Rattle.volume.specs.States.{newState, zeros, pendingWith}
 use Rattle.volume.proofs.Accepted.{format-accepted}
 use Rattle.volume.proofs.ByteBounds.{record-room}
-use Rattle.volume.proofs.CallsCode.{record-stored}
+use Rattle.volume.proofs.CallsCode.{record-stored, done-made}
 use Rattle.volume.proofs.Judged.{refused-reply, refused-stores, accepted-reply, accepted-stores}
 use Rattle.volume.proofs.Volume.format.Statement.{statement}
 use Rattle.volume.proofs.Volume.format.Tie as tie
@@ -42,17 +42,21 @@ clear c = sym (c .before .format-refusal .ensures) ∙ c .if1 .left
 store-record-requires : tie.Need-store-record-requires
 store-record-requires c κs = record-room _ _ _ (format-accepted _ _ _ _ (clear (c .before .before)) .room)
 
+after-record-requires : tie.Need-after-record-requires
+after-record-requires c κs = search needs
+
 same-length : tie.Need-same-length
 same-length c = search needs
 
 returns-2 : tie.Need-returns-2
-unfolding formatOutcome observe
+unfolding formatOutcome formatEffect doing pendingWith observe
 returns-2 c =
-    let e = c .before .before .before .before .before .before .format-refusal .ensures in
-    let h = c .before .before .before .before .before .if1 .left in
-    let n = c .before .before .before .before .new-state .ensures in (
-      accepted-reply _ zeros [] _ _ e h _ (ap (λ v. record { state = v; answer = Done }) n),
-      accepted-stores _ zeros [] _ _ e h _ _ _ (record-stored _ _ _ _ _ n (c .before .before .store-record .ensures)),
+    let a = c .before .before .before .before .before .before .before .before .before .args in
+    let e = c .before .before .before .before .before .before .before .format-refusal .ensures in
+    let h = c .before .before .before .before .before .before .if1 .left in
+    let n = c .before .before .before .before .before .new-state .ensures in (
+      accepted-reply _ zeros [] _ _ e h _ (done-made _ _ _ (recordStore (recordOf (newState (a .size) (a .rows) (a .disks)))) n (c .after-record .ensures) []),
+      accepted-stores _ zeros [] _ _ e h _ _ _ (record-stored _ _ _ _ _ n (c .before .before .before .store-record .ensures)),
     )
 
 pub format-spec : {M : Type 1} → statement M
@@ -65,5 +69,6 @@ format-spec =
     returns
     new-state-requires
     store-record-requires
+    after-record-requires
     same-length
     returns-2)

@@ -9,10 +9,10 @@ use borrow.Author.Needs.{needs}
 use borrow.Author.Tests.{not-true, not-false}
 use Rattle.medium.specs.Medium.{recordBytes, observe, noStore}
 use Rattle.record.specs.Sector.{readRecord}
-use Rattle.volume.specs.Calls.{reporting, sectorOutcome}
+use Rattle.volume.specs.Calls.{reporting, restartEffect, sectorOutcome}
 use Rattle.volume.specs.Records.{stateRead}
 use Rattle.volume.specs.Sound.{sound}
-use Rattle.volume.specs.States.{zeros}
+use Rattle.volume.specs.States.{zeros, pendingWith, withPending}
 use Rattle.volume.proofs.SectorCode.{unread, read-back, below-record, record-or-not}
 use Rattle.volume.proofs.Judged.{refused-reply, accepted-reply}
 use Rattle.volume.proofs.LiveCode.{calls-asks, calls-told}
@@ -100,7 +100,7 @@ report-requires : tie.Need-report-requires
 report-requires c κs = search needs
 
 returns-4 : tie.Need-returns-4
-unfolding sectorOutcome reporting observe
+unfolding sectorOutcome restartEffect reporting pendingWith withPending observe
 returns-4 c =
     let m = c .before .before .before .before .before .before .before .before .before .before .before .before .before .before .before .args .sector .now in
     let f = read-back _ true (well-formed (c .before .before .before .before .before .before .before .before .before)) (rw (state (c .before .before .before .before .before .before)) at (state-sound (c .before .before .before .before))) in

@@ -4,11 +4,13 @@ use mathlib.Core.List.{[]}
 use lib.ListN.{length}
 use borrow.Author.Needs.{needs}
 use Rattle.base.specs.Refusals.{refusal}
-use Rattle.medium.specs.Medium.{observe}
-use Rattle.volume.specs.Calls.{growTable, reporting, growOutcome}
+use Rattle.medium.specs.Medium.{recordStore, observe}
+use Rattle.volume.specs.Calls.{growTable, reporting, growEffect, growOutcome}
+use Rattle.volume.specs.Records.{recordOf}
+use Rattle.volume.specs.States.{pendingWith, grown}
 use Rattle.volume.proofs.Accepted.{grow-accepted}
 use Rattle.volume.proofs.ByteBounds.{record-room}
-use Rattle.volume.proofs.CallsCode.{record-stored}
+use Rattle.volume.proofs.CallsCode.{record-stored, report-made}
 use Rattle.volume.proofs.Judged.{refused-reply, refused-stores, accepted-reply, accepted-stores}
 use Rattle.volume.proofs.StatesSound.{grown-sound}
 use Rattle.volume.proofs.LiveCode.{calls-asks, calls-told}
@@ -44,6 +46,9 @@ calls-left-requires c κs =
     let g = c .before .before .before .before .before .before in
     calls-asks (g .grown .result) (rw (g .grown .ensures) (grown-sound _ _ _ (clear (g .before))))
 
+after-record-requires : tie.Need-after-record-requires
+after-record-requires c κs = search needs
+
 report-requires : tie.Need-report-requires
 report-requires c κs = search needs
 
@@ -51,15 +56,17 @@ same-length : tie.Need-same-length
 same-length c = search needs
 
 returns-2 : tie.Need-returns-2
-unfolding growOutcome reporting observe
+unfolding growOutcome growEffect reporting pendingWith observe
 returns-2 c =
-    let v = c .before .before .before .before .before .before .before .before .before .before .before .before .args .self in
-    let e = c .before .before .before .before .before .before .before .before .before .before .grow-refusal .ensures in
-    let h = c .before .before .before .before .before .before .before .before .before .if1 .left in
-    let g = c .before .before .before .before .before .before .before .before .grown in
-    let n = g .ensures in (
-      accepted-reply _ v [] _ _ e h _ (rw (calls-told (g .result) _ (c .before .calls-left .ensures), n) at (c .report .ensures)),
-      accepted-stores _ v [] _ _ e h _ _ _ (record-stored _ _ _ _ _ n (c .before .before .before .before .before .before .store-record .ensures)),
+    let a = c .before .before .before .before .before .before .before .before .before .before .before .before .before .args in
+    let v = a .self in
+    let e = c .before .before .before .before .before .before .before .before .before .before .before .grow-refusal .ensures in
+    let h = c .before .before .before .before .before .before .before .before .before .before .if1 .left in
+    let g = c .before .before .before .before .before .before .before .before .before .grown in
+    let n = g .ensures in
+    let left = rw n at (calls-told (g .result) _ (c .before .before .calls-left .ensures)) in (
+      accepted-reply _ v [] _ _ e h _ (report-made _ _ _ (recordStore (recordOf (grown v (a .count)))) n (c .before .after-record .ensures) _ left _ (c .report .ensures)),
+      accepted-stores _ v [] _ _ e h _ _ _ (record-stored _ _ _ _ _ n (c .before .before .before .before .before .before .before .store-record .ensures)),
     )
 
 pub grow-spec : {M : Type 1} → statement M
@@ -72,6 +79,7 @@ grow-spec =
     grown-requires
     store-record-requires
     calls-left-requires
+    after-record-requires
     report-requires
     same-length
     returns-2)

@@ -82,16 +82,20 @@ returns-6 c =
       sym (c .before .is-short .ensures) ∙ c .if6 .taken,
     )
 
+record-refusal-requires : tie.Need-record-refusal-requires
+record-refusal-requires c κs = search needs
+
 returns-7 : tie.Need-returns-7
 unfolding refusal growTable
 returns-7 c =
-    simp (
-      passes (c .before .before .before .before .before .before .before .before .before),
-      at-rest (c .before .before .before .before .before .before .before),
-      room-left (c .before .before .before .before .before),
-      rises (c .before .before .before),
-      le-ltb _ _ (c .before .before .if5 .left),
-      sym (c .before .is-short .ensures) ∙ c .if6 .left,
+    c .record-refusal .ensures
+    ∙ simp (
+      passes (c .before .before .before .before .before .before .before .before .before .before),
+      at-rest (c .before .before .before .before .before .before .before .before),
+      room-left (c .before .before .before .before .before .before),
+      rises (c .before .before .before .before),
+      le-ltb _ _ (c .before .before .before .if5 .left),
+      sym (c .before .before .is-short .ensures) ∙ c .before .if6 .left,
     )
 
 pub grow-refusal-spec : {M : Type 1} → statement M
@@ -107,4 +111,5 @@ grow-refusal-spec =
     returns-5
     is-short-requires
     returns-6
+    record-refusal-requires
     returns-7)

@@ -1,7 +1,9 @@
 -- `is_sound_by` meets its contract. Assumes nothing.
-use mathlib.Core.Path.{_≡_}
+use mathlib.Core.Path.{_≡_, _∙_}
 use lib.ListN.{length}
 use borrow.Author.Needs.{needs}
+use Rattle.volume.specs.States.{nonePending, withPending}
+use Rattle.volume.proofs.StatesSound.{pending-sound}
 use Rattle.volume.proofs.Volume.is_sound_by.Statement.{statement}
 use Rattle.volume.proofs.Volume.is_sound_by.Tie as tie
 
@@ -11,7 +13,8 @@ are-sound-requires c κs =
     rw (c .pre) e
 
 returns : tie.Need-returns
-returns c = rw (c .before .pre) at (c .are-sound .ensures)
+unfolding withPending
+returns c = rw (c .before .pre) at (c .are-sound .ensures) ∙ pending-sound (c .before .args .self) nonePending
 
 pub is-sound-by-spec : {M : Type 1} → statement M
 is-sound-by-spec = tie.close (tie.spec are-sound-requires returns)

@@ -1,7 +1,7 @@
 -- `new_state` meets its contract. Assumes nothing.
 use mathlib.Core.Path.{refl}
 use borrow.Author.Needs.{needs}
-use Rattle.volume.specs.States.{newState}
+use Rattle.volume.specs.States.{newState, nonePending}
 use Rattle.volume.proofs.Volume.new_state.Statement.{statement}
 use Rattle.volume.proofs.Volume.new_state.Tie as tie
 
@@ -9,7 +9,7 @@ array-write-counts : tie.Need-array-write-counts
 array-write-counts c = search needs
 
 returns : tie.Need-returns
-unfolding newState
+unfolding newState nonePending
 returns c = refl
 
 pub new-state-spec : {M : Type 1} → statement M

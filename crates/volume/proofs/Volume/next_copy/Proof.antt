@@ -1,5 +1,6 @@
 -- `next_copy` meets its contract. Assumes nothing.
-use Rattle.layout.specs.Tally.{nextBlock}
+use Rattle.layout.specs.Tally.{movesNow, rankNow, nextBlock}
+use Rattle.layout.specs.Windows.{nextOfWindow}
 use Rattle.volume.specs.States.{historyOf, tallyOf}
 use Rattle.volume.proofs.LiveCode.{history-limits, has-growth, window-below}
 use Rattle.volume.proofs.Volume.next_copy.Statement.{statement}
@@ -12,7 +13,7 @@ next-copy-requires c κs =
     rw (c .pre .1) (history-limits v (p .0), (has-growth v (p .1) (p .0), window-below v (p .1) (p .0)))
 
 returns : tie.Need-returns
-unfolding nextBlock tallyOf historyOf
+unfolding nextBlock nextOfWindow movesNow rankNow tallyOf historyOf
 returns c = rw (c .before .pre .1) at (c .next-copy .ensures)
 
 pub next-copy-spec : {M : Type 1} → statement M

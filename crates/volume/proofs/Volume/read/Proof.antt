@@ -4,8 +4,8 @@ use lib.ListN.{length}
 use borrow.Author.Needs.{needs}
 use Rattle.layout.specs.Tally.{liveSpotOf}
 use Rattle.medium.specs.Medium.{observe}
-use Rattle.volume.specs.Calls.{readOutcome}
-use Rattle.volume.specs.States.{tallyOf}
+use Rattle.volume.specs.Calls.{doing, readEffect, readOutcome}
+use Rattle.volume.specs.States.{tallyOf, pendingWith, withPending}
 use Rattle.volume.proofs.Accepted.{ReadFacts, read-accepted}
 use Rattle.volume.proofs.BlockCode.{piece-fits}
 use Rattle.volume.proofs.Judged.{refused-reply, refused-piece, accepted-reply, accepted-piece}
@@ -61,7 +61,7 @@ same-length : tie.Need-same-length
 same-length c = search needs
 
 returns-2 : tie.Need-returns-2
-unfolding readOutcome observe
+unfolding readOutcome readEffect doing pendingWith withPending observe
 returns-2 c =
     let b = c .before .before .before .before .before .before .before .before .before in
     let a = b .before .before .before .before .before .before .args in

@@ -6,10 +6,10 @@ use native.Mathlib.Omega.{arith}
 use borrow.Author.Needs.{needs}
 use Rattle.base.specs.Refusals.{refusal}
 use Rattle.medium.specs.Medium.{observe, noStore}
-use Rattle.volume.specs.Calls.{reporting, restartTable, restartOutcome, sectorTable}
+use Rattle.volume.specs.Calls.{reporting, restartTable, restartEffect, restartOutcome, sectorTable}
 use Rattle.volume.specs.Records.{stateRead}
 use Rattle.volume.specs.Sound.{sound}
-use Rattle.volume.specs.States.{zeros}
+use Rattle.volume.specs.States.{zeros, pendingWith, withPending}
 use Rattle.volume.specs.declared.Reply.{Reply}
 use Rattle.volume.proofs.CallsCode.{disks-most}
 use Rattle.volume.proofs.Judged.{refused-reply, accepted-reply}
@@ -39,7 +39,7 @@ taken : (c : tie.After-v)
 taken c = reply-taken (observe (c .before .before .before .before .args .medium .now)) _ (c .before .before .from-sector .ensures) (c .before .match .keys2)
 
 state : (c : tie.After-v) → c .before .before .from-sector .result .state ≡ stateRead (observe (c .before .before .before .before .args .medium .now) .sector)
-unfolding reporting
+unfolding reporting pendingWith withPending
 state c = ap (λ (r : Reply). r .state) (taken c .1)
 
 state-sound : (c : tie.After-v) → sound (c .before .before .from-sector .result .state) ≡ true
@@ -72,7 +72,7 @@ returns-2 c =
     refused-reply _ _ _ _ _ e (λ z. omega arith) _ _ (c .before .zeros .ensures) (c .refuse .ensures)
 
 returns-3 : tie.Need-returns-3
-unfolding restartOutcome
+unfolding restartOutcome restartEffect
 returns-3 c =
     let e = sym (rw (c .if1 .left) at (tested (c .before))) in
     accepted-reply _ zeros [] (reporting _ noStore) _ e refl _ (taken (c .before .before .before) .1)

@@ -4,11 +4,12 @@ use lib.ListN.{length}
 use borrow.Author.Needs.{needs}
 use Rattle.base.specs.Refusals.{refusal}
 use Rattle.layout.specs.Tally.{liveSpotOf}
-use Rattle.medium.specs.Medium.{observe}
-use Rattle.volume.specs.Calls.{writeTable, writeOutcome}
-use Rattle.volume.specs.States.{tallyOf}
+use Rattle.medium.specs.Medium.{blockStore, observe}
+use Rattle.volume.specs.Calls.{doing, writeTable, writeEffect, writeOutcome}
+use Rattle.volume.specs.States.{tallyOf, pendingWith}
 use Rattle.volume.proofs.Accepted.{ReadFacts, write-accepted}
 use Rattle.volume.proofs.BlockCode.{piece-fits}
+use Rattle.volume.proofs.CallsCode.{done-made}
 use Rattle.volume.proofs.Judged.{refused-reply, refused-stores, accepted-reply, accepted-stores, refusal-found, spot-found}
 use Rattle.volume.proofs.Volume.write.Statement.{statement}
 use Rattle.volume.proofs.Volume.write.Tie as tie
@@ -48,18 +49,21 @@ geometry-requires c κs = search needs
 store-block-requires : tie.Need-store-block-requires
 store-block-requires c κs = let b = c .before .before .before in piece-fits _ _ _ _ (accepted b) _ (c .before .geometry .ensures) _ (lives b)
 
+after-block-requires : tie.Need-after-block-requires
+after-block-requires c κs = search needs
+
 same-length : tie.Need-same-length
 same-length c = search needs
 
 returns-2 : tie.Need-returns-2
-unfolding writeOutcome observe
+unfolding writeOutcome writeEffect doing pendingWith observe
 returns-2 c =
-    let b = c .before .before .before .before .before .before in
+    let b = c .before .before .before .before .before .before .before in
     let a = b .before .before .before .before .before .args in
     let e = judged (b .before .before) in
     let h = b .if1 .left in (
-      accepted-reply _ (a .self) (a .piece .now) _ _ e h _ refl,
-      accepted-stores _ (a .self) (a .piece .now) _ _ e h _ _ _ (rw (lives b, c .before .before .before .before .geometry .ensures) at (c .before .before .store-block .ensures)),
+      accepted-reply _ (a .self) (a .piece .now) _ _ e h _ (done-made (a .self) _ _ (blockStore (liveSpotOf (tallyOf (a .self)) (a .x .0)) (a .piece .now)) refl (c .after-block .ensures) (a .piece .now)),
+      accepted-stores _ (a .self) (a .piece .now) _ _ e h _ _ _ (rw (lives b, c .before .before .before .before .before .geometry .ensures) at (c .before .before .before .store-block .ensures)),
     )
 
 pub write-spec : {M : Type 1} → statement M
@@ -71,5 +75,6 @@ write-spec =
     returns
     geometry-requires
     store-block-requires
+    after-block-requires
     same-length
     returns-2)

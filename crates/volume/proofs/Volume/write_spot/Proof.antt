@@ -9,7 +9,7 @@ use Rattle.layout.specs.Tally.{waiting}
 use Rattle.volume.specs.States.{tallyOf}
 use Rattle.volume.proofs.Accepted.{ReadFacts, read-accepted}
 use Rattle.volume.proofs.BlockCode.{refused-as-read, refused-waiting}
-use Rattle.volume.proofs.Judged.{found-refused, found-there}
+use Rattle.volume.proofs.Judged.{found-refused, found-same}
 use Rattle.volume.proofs.LiveCode.{countsBefore, rest-waiting, newest-asked, spot-asks, waiting-read, growing-most, open-asks, spot-in-growth, spot-known, live-told}
 use Rattle.volume.proofs.Volume.write_spot.Statement.{statement}
 use Rattle.volume.proofs.Volume.write_spot.Tie as tie
@@ -85,15 +85,18 @@ not-waiting c =
       | inr w ↦ sym (rest-waiting _ (w .left) _)
     ]
 
+block-spot-requires : tie.Need-block-spot-requires
+block-spot-requires c κs = search needs
+
 returns-3 : tie.Need-returns-3
 returns-3 c =
-    let j = c .before .before in
+    let j = c .before .before .before in
     let b = j .before in
     let r = b .before .before in
     let a = accepted r in
     let e = refused-waiting _ _ _ _ _ (r .before .read-refusal .ensures) (r .if1 .left) in
-    found-there _ _ _ _ _ (sym (e ∙ simp (not-waiting j)))
-    (live-told _ (a .is-sound) _ (a .block-open) _ (b .spot-of .ensures) _ (c .live-spot .ensures)) refl
+    found-same _ _ _ _ _ _ _ (c .block-spot .ensures) (sym (e ∙ simp (not-waiting j)))
+    (live-told _ (a .is-sound) _ (a .block-open) _ (b .spot-of .ensures) _ (c .before .live-spot .ensures)) refl
 
 pub write-spot-spec : {M : Type 1} → statement M
 write-spot-spec =
@@ -109,4 +112,5 @@ write-spot-spec =
     no-spot-requires-2
     returns-2
     live-spot-requires
+    block-spot-requires
     returns-3)

@@ -12,7 +12,7 @@ use Rattle.layout.proofs.HistoryCode.{history-disks}
 use Rattle.marks.specs.Marks.{markCount}
 use Rattle.volume.specs.declared.Volume.{Volume}
 use Rattle.volume.specs.Sound.{sizeHolds, rowsHold, limitsHold, stageHolds, typesHold, sound}
-use Rattle.volume.specs.States.{historyOf}
+use Rattle.volume.specs.States.{historyOf, nonePending}
 use Rattle.volume.proofs.SoundLaws.{limits-of}
 use Rattle.volume.proofs.sound.are_sound.Statement.{statement}
 use Rattle.volume.proofs.sound.are_sound.Tie as tie
@@ -30,6 +30,7 @@ state c =
       window = a .w;
       recorded = a .recorded;
       copied = a .copied;
+      pending = nonePending;
     }
 
 -- the array has the length of its type, the words are below their type's bound

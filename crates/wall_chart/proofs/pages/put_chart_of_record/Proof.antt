@@ -3,6 +3,7 @@ use mathlib.Core.Path.{_≡_, refl, ap}
 use borrow.Author.Needs.{needs}
 use Rattle.medium.specs.Medium.{observe}
 use Rattle.volume.specs.Calls.{reporting}
+use Rattle.volume.specs.States.{pendingWith, withPending}
 use Rattle.volume.specs.declared.Reply.{Reply}
 use Rattle.volume.proofs.SectorCode.{reply-refused, reply-taken}
 use Rattle.volume.proofs.StatesSound.{sector-sound}
@@ -31,7 +32,7 @@ same-length : tie.Need-same-length
 same-length c = search needs
 
 returns-2 : tie.Need-returns-2
-unfolding reporting
+unfolding reporting pendingWith withPending
 returns-2 c =
     let bytes = c .before .before .before .before .before .before .before .before .before .args .sector .now in
     let f = reply-taken (observe bytes) _ (c .before .before .before .before .before .before .from-sector .ensures) (c .before .before .before .before .before .match .keys2) in

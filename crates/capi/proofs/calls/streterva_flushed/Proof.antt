@@ -1,0 +1,54 @@
+-- `streterva_flushed` meets its contract. Assumes nothing.
+use mathlib.Core.Path.{_≡_, refl, sym}
+use mathlib.Core.Bool.{true}
+use mathlib.Core.List.{[]}
+use lib.ListN.{length}
+use borrow.Author.Needs.{needs}
+use Rattle.capi.specs.Exported.{stateFits, untouched, handedBack, flushedLeft}
+use Rattle.capi.specs.Words.{stateWords}
+use Rattle.capi.proofs.ExportedCode.{words-length, no-state, state-right}
+use Rattle.capi.proofs.calls.streterva_flushed.Statement.{statement}
+use Rattle.capi.proofs.calls.streterva_flushed.Tie as tie
+
+is-state-requires : tie.Need-is-state-requires
+is-state-requires c κs = search needs
+
+same-length : tie.Need-same-length
+same-length c = search needs
+
+returns : tie.Need-returns
+unfolding flushedLeft untouched
+returns c = rw (no-state _ 0 [] _ (c .before .is-state .ensures) (c .if1 .taken)) (refl, refl)
+
+-- the words are a state's
+fits : (c : tie.Else1) → stateFits (c .before .before .before .before .args .state .now) 0 [] ≡ true
+fits c = state-right _ 0 [] _ (c .before .is-state .ensures) (c .if1 .left) refl
+
+long : (c : tie.Else1) → length (c .before .before .before .before .args .state .now) ≡ stateWords
+long c = words-length _ _ (c .before .is-state .ensures) (c .if1 .left)
+
+state-of-requires : tie.Need-state-of-requires
+state-of-requires c κs = long (c .before)
+
+flushed-requires : tie.Need-flushed-requires
+flushed-requires c κs = search needs
+
+put-state-requires : tie.Need-put-state-requires
+put-state-requires c κs = long (c .before .before .before .before .before)
+
+number-requires : tie.Need-number-requires
+number-requires c κs = search needs
+
+same-length-2 : tie.Need-same-length-2
+same-length-2 c = search needs
+
+returns-2 : tie.Need-returns-2
+unfolding flushedLeft handedBack
+returns-2 c =
+    let made = rw (c .before .before .before .before .before .before .before .state-of .ensures) at (c .before .before .before .before .before .before .flushed .ensures) in
+    rw (fits (c .before .before .before .before .before .before .before .before .before), sym made) (c .number .ensures, c .before .before .before .put-state .ensures)
+
+pub streterva-flushed-spec : {M : Type 1} → statement M
+streterva-flushed-spec =
+    tie.close
+    (tie.spec is-state-requires same-length returns state-of-requires flushed-requires put-state-requires number-requires same-length-2 returns-2)
