@@ -1,8 +1,9 @@
 /*
  * Streterva: a RAID-0 volume (striping without parity) that takes more disks while it is in use.
  *
- * Link with libcapi.a (x86-64). "Document 01" is the specification, and "document 02" that of load; numbers and words here are
- * their own: a block is an address in the volume, a row is a position on one disk, a spot is a disk and a row.
+ * Link with libcapi.a (x86-64). "Document 01" is the specification, and "document 02" that of load and flushed; numbers
+ * and words here are their own: a block is an address in the volume, a row is a position on one disk, a spot is a disk
+ * and a row.
  *
  * Answers. Every function returns 0 when it accepts the call, or else the number of the refusal (enum streterva_refusal).
  * Tests are made in the order given at each function, and the first that fails gives the number. A refused call changes
@@ -19,17 +20,36 @@
  * No overlap. No two buffers of one call may overlap, unless the call only reads both. Calls may run at the same time if no
  * buffer that one of them writes is lent to another.
  *
- * State. It is plain data that the caller keeps; the library keeps nothing between calls. Every 15 words are some state, and a
- * state that is not sound is refused with 1. A state belongs to one medium: lend a medium only with the state that the last
- * accepted call left for it, never with one of another medium or an older copy. The library cannot tell these apart.
+ * State. It is plain data that the caller keeps; the library keeps nothing between calls. The last word tells what is
+ * pending and is at most 3: with a greater one the words are no state, which is refused as a wrong length is. All other
+ * words may have any values, and a state that is not sound is refused with 1; what is pending makes no difference to
+ * that. Format and restart do not read the state they are lent. A state belongs to one medium: lend a medium only with
+ * the state that the last accepted call left for it, never with one of another medium or an older copy. The library
+ * cannot tell these apart.
  *
  * Medium. One buffer: the record in bytes 0 to 511, then spot (d, b) at byte 512 + (d * rows + b) * size. Bytes beyond the last
  * disk are never touched. A call stores to one place at most, the record or one spot.
  *
- * Power cuts. The state is lost with memory, so after a cut restart is the first call: it reads the state back from the record.
- * That no saved block is then lost rests on two things outside the library: stores reach the drives in the order of the
- * calls, and of a record store that was cut the drives hold the 512 bytes of the old record or of the new one, never a mixture.
- * A block whose write was cut may hold any bytes until it is written again.
+ * Pending stores. Drives with a write cache may keep stores and put them down in any order, so a store is pending until
+ * the caller tells by streterva_flushed that all earlier stores are down. On such drives:
+ *   1. Store blocks: write, copy, and advance while it copies, as many calls as wanted.
+ *   2. Flush the drives: fsync, fdatasync, msync with MS_SYNC or the drive's flush command.
+ *   3. Call streterva_flushed. The blocks written before are saved from now on.
+ *   4. Store the record: grow, checkpoint, or the advance that finds no block left to copy.
+ *   5. Flush the drives and call streterva_flushed, before the next store.
+ * 18 asks for steps 2 and 3 and 19 for step 5: flush the drives, call streterva_flushed and make the refused call
+ * again. If streterva_flushed is called before all earlier stores are down, a block that was told as saved may be lost
+ * at a power cut, and the record may name a copy whose bytes are not down, so that a block may be read with old or torn
+ * bytes. A caller whose drives keep no store (write through) calls streterva_flushed directly after every call that
+ * stores.
+ *
+ * Power cuts. The state is lost with memory, so after a cut restart is the first call: it reads the state back from the
+ * record and begins with nothing pending. Without a cut, call restart only directly after streterva_flushed. A block
+ * written before the last streterva_flushed is not lost at a cut. This begins at the first streterva_flushed after
+ * format and rests on two things outside the library: all stores are down when streterva_flushed is called, and of a
+ * record store that is pending at the cut the drives hold the 512 bytes of the old record or of the new one, never a
+ * mixture. A block written after the last streterva_flushed may hold any bytes until it is written again. With the old
+ * record, the call that stored the new one was not made.
  */
 #ifndef STRETERVA_H
 #define STRETERVA_H
@@ -63,7 +83,7 @@ extern "C" {
 #define STRETERVA_RECORD_BYTES 512
 
 /* Words of a state. */
-#define STRETERVA_STATE_WORDS 15
+#define STRETERVA_STATE_WORDS 16
 
 /* Numbers of figures. The first is for restart, grow, copy and checkpoint: figure 0 is the number of advance calls left. */
 #define STRETERVA_LEFT_FIGURES 1
@@ -86,13 +106,20 @@ typedef union streterva_state {
         uint64_t window;    /* w: windows finished of the growth under way */
         uint64_t recorded;  /* recorded marks of window w: mark j is bit j, of value 2^j */
         uint64_t copied;    /* copied marks of window w */
+        uint64_t pending;   /* what is pending, a sum of enum streterva_pending; not in the record */
     };
     uint64_t words[STRETERVA_STATE_WORDS];
 } streterva_state;
 
-STRETERVA_ASSERT(sizeof(streterva_state) == 120, "a state is 15 words of 64 bits");
-STRETERVA_ASSERT(offsetof(streterva_state, copied) == 112, "the copied marks are the last word");
+STRETERVA_ASSERT(sizeof(streterva_state) == 128, "a state is 16 words of 64 bits");
+STRETERVA_ASSERT(offsetof(streterva_state, pending) == 120, "what is pending is the last word");
 STRETERVA_ASSERT(sizeof(size_t) == 8, "the library is for x86-64 with 64-bit sizes");
+
+/* What is pending in a state: nothing is 0, both is 3. */
+enum streterva_pending {
+    STRETERVA_RECORD_PENDING = 1, /* a record store */
+    STRETERVA_BLOCKS_PENDING = 2  /* block stores */
+};
 
 /* A scene: `count` blocks from block `first` on. With a count of 0 it names no block, and `first` may be any number. */
 typedef struct streterva_scene {
@@ -121,7 +148,9 @@ enum streterva_refusal {
     STRETERVA_NO_SUCH_SPOT = 14,       /* the disk or the row does not exist */
     STRETERVA_NO_BLOCK_THERE = 15,     /* no open block lives at the spot */
     STRETERVA_SCENE_REFUSED = 17,      /* a scene reaches past the open blocks or stands after the first 65,536 */
-    STRETERVA_WRONG_LENGTH = 100       /* a state or figures of the wrong length: nothing was touched */
+    STRETERVA_FLUSH_BLOCKS = 18,       /* a record store is due, block stores are pending: flush, flushed, again */
+    STRETERVA_FLUSH_RECORD = 19,       /* a record store is pending: flush, flushed, again */
+    STRETERVA_WRONG_LENGTH = 100       /* wrong length of state or figures, or last word above 3: nothing touched */
 };
 
 /* Places of the figures of advance. */
@@ -171,8 +200,8 @@ static inline uint64_t streterva_medium_bytes(uint64_t size, uint64_t rows, uint
 }
 
 /*
- * Format: begins a volume with blocks of `size` bytes, `rows` rows on each disk and `disks` disks.
- * Stores the record; the blocks hold what the medium held. The words of `state` before the call do not matter.
+ * Format: begins a volume with blocks of `size` bytes, `rows` rows on each disk and `disks` disks. Stores the record,
+ * which is then pending; the blocks hold what the medium held. The words of `state` before the call do not matter.
  * Refuses: 8, size, rows or disks outside the limits; 2.
  * Refused, it sets the state to zeros.
  */
@@ -180,8 +209,8 @@ uint64_t streterva_format(uint64_t *state, size_t state_words, uint8_t *medium, 
                           uint64_t rows, uint64_t disks);
 
 /*
- * Restart: reads the state back from the record, with the copied marks equal to the recorded ones. Stores nothing.
- * The words of `state` before the call do not matter.
+ * Restart: reads the state back from the record, with the copied marks equal to the recorded ones and nothing pending.
+ * Stores nothing. The words of `state` before the call do not matter.
  * Refuses: 2, below 512 bytes; 13, no record of a sound state; 2, too short for the disks of the record.
  * Figures (1): advance calls left, 0 when no growth is under way.
  * Refused, it sets the state to zeros.
@@ -191,7 +220,7 @@ uint64_t streterva_restart(uint64_t *state, size_t state_words, const uint8_t *m
 
 /*
  * Grow: begins a growth to `count` disks. Stores the record. The added blocks open when the growth is finished.
- * Refuses: 1; 6; 9; 8, count not above the present one or above 16; 2, too short for `count` disks.
+ * Refuses: 1; 6; 9; 8, count not above the present one or above 16; 2, too short for `count` disks; 19; 18.
  * Figures (1): advance calls left.
  * Refused, it leaves the state as it was.
  */
@@ -201,7 +230,7 @@ uint64_t streterva_grow(uint64_t *state, size_t state_words, uint8_t *medium, si
 /*
  * Copy: stores a moving block of window w at its new spot too and sets its copied mark. The block is read at its old spot, and
  * cannot be written, until a checkpoint records the copy.
- * Refuses: 1; 2; 5; 3; 10; 11.
+ * Refuses: 1; 2; 5; 3; 10; 11; 19.
  * Figures (1): advance calls left.
  * Refused, it leaves the state as it was.
  */
@@ -211,7 +240,7 @@ uint64_t streterva_copy(uint64_t *state, size_t state_words, uint8_t *medium, si
 /*
  * Checkpoint: stores the record with every copied block recorded; these are then read and written at their new spots. When
  * all moving blocks of window w are recorded, that same store goes on to the next window or, after the last, ends the growth.
- * Refuses: 1; 2; 5; 12.
+ * Refuses: 1; 2; 5; 12; 19; 18.
  * Figures (1): advance calls left, 0 when the growth is ended.
  * Refused, it leaves the state as it was.
  */
@@ -220,8 +249,8 @@ uint64_t streterva_checkpoint(uint64_t *state, size_t state_words, uint8_t *medi
 
 /*
  * Advance: takes the growth one step. It copies the block with the lowest mark of window w that is not copied or, when all
- * are, does the checkpoint.
- * Refuses: 1; 2; 5.
+ * are, does the checkpoint. Flushed and refused calls in between change nothing in the number of calls left.
+ * Refuses: 1; 2; 5; 19; 18, only where it would do the checkpoint.
  * Figures (4): enum streterva_advance_figure.
  * Refused, it leaves the state as it was.
  */
@@ -229,12 +258,19 @@ uint64_t streterva_advance(uint64_t *state, size_t state_words, uint8_t *medium,
                            size_t figures_words);
 
 /*
- * Write: stores the piece, one block long, as the block.
- * Refuses: 1; 2; 3; 4; 7, accepted after a checkpoint.
- * Refused, it leaves the medium as it was. The state never changes.
+ * Write: stores the piece, one block long, as the block. In the state it changes only what is pending.
+ * Refuses: 1; 2; 3; 4; 7, accepted after a checkpoint; 19.
+ * Refused, it leaves the state and the medium as they were.
  */
-uint64_t streterva_write(const uint64_t *state, size_t state_words, uint8_t *medium, size_t medium_bytes, uint64_t block,
+uint64_t streterva_write(uint64_t *state, size_t state_words, uint8_t *medium, size_t medium_bytes, uint64_t block,
                          const uint8_t *piece, size_t piece_bytes);
+
+/*
+ * Flushed: tells that all earlier stores are down; nothing is pending then. Stores nothing.
+ * Refuses: 1.
+ * Refused, it leaves the state as it was.
+ */
+uint64_t streterva_flushed(uint64_t *state, size_t state_words);
 
 /*
  * Read: fills the piece, one block long, with the block.
@@ -269,7 +305,7 @@ uint64_t streterva_holder(const uint64_t *state, size_t state_words, uint64_t di
 uint64_t streterva_load(const uint64_t *state, size_t state_words, const streterva_scene *scenes, size_t scenes_count,
                         uint64_t *figures, size_t figures_words);
 
-/* Soundness: 0 when the state is sound, 1 when it is not, 100 when it has not 15 words. */
+/* Soundness: 0 when the state is sound, 1 when it is not, 100 when it has not 16 words or the last is above 3. */
 uint64_t streterva_soundness(const uint64_t *state, size_t state_words);
 
 #undef STRETERVA_ASSERT

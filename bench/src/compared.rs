@@ -2,7 +2,7 @@
 
 use crate::cases::*;
 use crate::list::{
-    address, holder, recording, recordings, soundness, DIRECTIONS, LOOKUPS, RECORDS,
+    address, flushed, holder, recording, recordings, soundness, DIRECTIONS, LOOKUPS, RECORDS,
 };
 use crate::media::Media;
 use crate::moves::{self, Moves};
@@ -23,6 +23,7 @@ pub fn lookups(s: u64) -> Vec<Box<dyn Row>> {
     let label = |call, case| compared(lookup_label(call, case, s));
     vec![
         soundness(label("soundness", GROWING), growing, LOOKUPS),
+        flushed(label("flushed", GROWING), growing, LOOKUPS),
         address(label("address", GROWN), grown, 16 * s, LOOKUPS),
         address(label("address", GROWING), growing, 14 * s, LOOKUPS),
         holder(label("holder", GROWN), grown, 0..16 * s, LOOKUPS),

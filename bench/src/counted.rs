@@ -1,7 +1,7 @@
 //! The calls whose instructions are counted, and how many times the reference's each may take.
 
 use crate::cases::*;
-use crate::list::{address, holder, recording, soundness};
+use crate::list::{address, flushed, holder, recording, soundness};
 use crate::media::Shared;
 use crate::medium::Medium;
 use crate::moves::{self, Moves};
@@ -55,12 +55,15 @@ fn lookups() -> Vec<Counted> {
     let ending = in_window(s + 8, s / 16);
     let counted = |row, most| Counted { row, calls, most };
     let sound = |case, words| soundness(lookup_label("soundness", case, s), words, calls);
+    let down = |case, words| flushed(lookup_label("flushed", case, s), words, calls);
     let at = |case, words, open| address(lookup_label("address", case, s), words, open, calls);
     let held = |case, words, open| holder(lookup_label("holder", case, s), words, 0..open, calls);
     vec![
         counted(sound(GROWN, grown), 1.07),
         counted(sound(GROWING, growing), 0.98),
         counted(sound(LAST_WINDOW, ending), 1.29),
+        counted(down(GROWN, grown), 1.07),
+        counted(down(GROWING, growing), 0.98),
         counted(at(GROWN, grown, 16 * s), 1.07),
         counted(at(GROWING, growing, 14 * s), 1.04),
         counted(held(GROWN, grown, 16 * s), 1.04),

@@ -2,7 +2,7 @@
 
 use crate::cases::*;
 use crate::compared;
-use crate::lookup::{Address, Holder, Soundness};
+use crate::lookup::{Address, Flushed, Holder, Soundness};
 use crate::media::{Media, Shared, CACHED_BYTES, LARGE_BYTES};
 use crate::moves::{self, Moves};
 use crate::order;
@@ -52,6 +52,14 @@ pub fn soundness(label: Label, words: Words, calls: usize) -> Box<dyn Row> {
     })
 }
 
+pub fn flushed(label: Label, words: Words, calls: usize) -> Box<dyn Row> {
+    Box::new(Flushed {
+        label,
+        words,
+        calls,
+    })
+}
+
 /// Address for blocks below `open`.
 pub fn address(label: Label, words: Words, open: u64, calls: usize) -> Box<dyn Row> {
     let blocks = order::drawn(calls, open);
@@ -81,12 +89,15 @@ fn lookups() -> Vec<Box<dyn Row>> {
     let old = volume::grown(512, s, &OLD_COUNTS);
     let growing = half_grown(s);
     let sound = |case, words| soundness(lookup_label("soundness", case, s), words, LOOKUPS);
+    let down = |case, words| flushed(lookup_label("flushed", case, s), words, LOOKUPS);
     let at = |case, words, open| address(lookup_label("address", case, s), words, open, LOOKUPS);
     let held = |case, blocks| holder(lookup_label("holder", case, s), grown, blocks, LOOKUPS);
     vec![
         sound(FORMATTED, formatted),
         sound(GROWN, grown),
         sound(GROWING, growing),
+        down(GROWN, grown),
+        down(GROWING, growing),
         at(FORMATTED, formatted, 16 * s),
         at(GROWN, grown, 16 * s),
         at(OLD_BLOCKS, old, 16 * s),

@@ -1,10 +1,9 @@
-//! Calls without a medium: soundness, address, holder.
+//! Calls without a medium: soundness, flushed, address, holder.
 
 use crate::row::{timed, Label, Row, Side, SLICE};
-use crate::volume::Words;
+use crate::volume::{self, Words, PENDING};
 use reference::fast;
 use reference::spot::{Block, Row as DiskRow};
-use reference::state::State;
 use std::hint::black_box;
 use streterva::raw;
 
@@ -21,7 +20,7 @@ impl Row for Soundness {
     }
 
     fn sample(&mut self, side: Side, _: usize) -> Option<f64> {
-        let state = State::from_words(&self.words);
+        let state = volume::state(&self.words);
         let calls = 0..self.calls;
         match side {
             Side::Library => timed(calls, SLICE, |slice| {
@@ -29,6 +28,42 @@ impl Row for Soundness {
             }),
             Side::Reference => timed(calls, SLICE, |slice| {
                 slice.fold(0, |bad, _| bad | !fast::sound(black_box(&state)) as u64)
+            }),
+            Side::Memcpy => None,
+        }
+    }
+}
+
+/// Times flushed. Before each call a record store and block stores are pending.
+pub struct Flushed {
+    pub label: Label,
+    pub words: Words,
+    pub calls: usize,
+}
+
+impl Row for Flushed {
+    fn label(&self) -> Label {
+        self.label
+    }
+
+    fn sample(&mut self, side: Side, _: usize) -> Option<f64> {
+        let mut words = self.words;
+        words[PENDING] = raw::MOST_PENDING;
+        let mut state = volume::state(&words);
+        let pending = state.pending;
+        let calls = 0..self.calls;
+        match side {
+            Side::Library => timed(calls, SLICE, |slice| {
+                slice.fold(0, |refused, _| {
+                    words[PENDING] = raw::MOST_PENDING;
+                    refused | raw::flushed(black_box(&mut words))
+                })
+            }),
+            Side::Reference => timed(calls, SLICE, |slice| {
+                slice.fold(0, |refused, _| {
+                    state.pending = pending;
+                    refused | fast::flushed(black_box(&mut state)).is_err() as u64
+                })
             }),
             Side::Memcpy => None,
         }
@@ -48,7 +83,7 @@ impl Row for Address {
     }
 
     fn sample(&mut self, side: Side, _: usize) -> Option<f64> {
-        let state = State::from_words(&self.words);
+        let state = volume::state(&self.words);
         match side {
             Side::Library => timed(0..self.blocks.len(), SLICE, |slice| {
                 let (mut figures, mut refused) = ([0; raw::ADDRESS_FIGURES], 0);
@@ -86,7 +121,7 @@ impl Row for Holder {
     }
 
     fn sample(&mut self, side: Side, _: usize) -> Option<f64> {
-        let state = State::from_words(&self.words);
+        let state = volume::state(&self.words);
         match side {
             Side::Library => timed(0..self.spots.len(), SLICE, |slice| {
                 let (mut figures, mut refused) = ([0; raw::HOLDER_FIGURES], 0);

@@ -5,7 +5,6 @@ use crate::row::{timed, Label, Row, Side};
 use crate::volume::{self, Words, COPIED, RECORDED, WINDOW};
 use reference::fast;
 use reference::spot::Block;
-use reference::state::State;
 use reference::store::Advanced;
 use std::hint::black_box;
 use std::ops::Range;
@@ -136,7 +135,7 @@ fn moves(words: &Words, w: u64) -> Vec<Move> {
     (0..m * n).map(step).collect()
 }
 
-/// The state at the start of a window.
+/// The state at the start of a window. Block stores that are pending refuse no copy.
 fn begin(words: &mut Words, w: u64) {
     (words[WINDOW], words[RECORDED], words[COPIED]) = (w, 0, 0);
 }
@@ -157,7 +156,7 @@ fn copy_reference(words: &Words, start: u64, medium: &mut [u8], moves: &[Vec<Mov
     let mut words = *words;
     for (w, window) in (start..).zip(moves) {
         begin(&mut words, w);
-        let mut state = State::from_words(&words);
+        let mut state = volume::state(&words);
         for step in window {
             match fast::copy(state, medium, Block(step.block)) {
                 Ok((next, left)) => {
@@ -189,7 +188,7 @@ fn advance_reference(words: &Words, start: u64, medium: &mut [u8], moves: &[Vec<
     let (mut words, mut refused) = (*words, 0);
     for (w, window) in (start..).zip(moves) {
         begin(&mut words, w);
-        let mut state = State::from_words(&words);
+        let mut state = volume::state(&words);
         for _ in window {
             match fast::advance(state, medium) {
                 Ok((next, done)) => {

@@ -2,9 +2,8 @@
 
 use crate::media::Shared;
 use crate::row::{timed, Label, Row, Side, SLICE};
-use crate::volume::{self, Words, COPIED, RECORDED, WINDOW};
+use crate::volume::{self, Words, COPIED, PENDING, RECORDED, WINDOW};
 use reference::fast;
-use reference::state::State;
 use reference::store::Advanced;
 use std::hint::black_box;
 use streterva::raw;
@@ -128,13 +127,14 @@ fn checkpoint_library(words: &Words, windows: &[u64], medium: &mut [u8]) -> u64 
     let half = half(&words);
     for &w in windows {
         (words[WINDOW], words[RECORDED], words[COPIED]) = (w, 0, half);
+        words[PENDING] = 0;
         refused |= raw::checkpoint(&mut words, medium, &mut figures);
     }
     refused
 }
 
 fn checkpoint_reference(words: &Words, windows: &[u64], medium: &mut [u8]) -> u64 {
-    let (mut state, mut refused) = (State::from_words(words), 0);
+    let (mut state, mut refused) = (volume::state(words), 0);
     let half = half(words);
     for &w in windows {
         (state.w, state.recorded, state.copied) = (w, 0, half);
@@ -152,6 +152,7 @@ fn advance_library(words: &Words, windows: &[u64], medium: &mut [u8]) -> u64 {
     let (m, n) = volume::growth(&words);
     for &w in windows {
         (words[WINDOW], words[RECORDED], words[COPIED]) = (w, 0, volume::marks(m * n));
+        words[PENDING] = 0;
         refused |= raw::advance(&mut words, medium, &mut figures);
         refused |= figures[1] ^ RECORDED_ALL;
     }
@@ -159,7 +160,7 @@ fn advance_library(words: &Words, windows: &[u64], medium: &mut [u8]) -> u64 {
 }
 
 fn advance_reference(words: &Words, windows: &[u64], medium: &mut [u8]) -> u64 {
-    let (mut state, mut refused) = (State::from_words(words), 0);
+    let (mut state, mut refused) = (volume::state(words), 0);
     let (m, n) = volume::growth(words);
     for &w in windows {
         (state.w, state.recorded, state.copied) = (w, 0, volume::marks(m * n));
@@ -205,7 +206,7 @@ fn grow_library(words: &Words, calls: usize, medium: &mut [u8]) -> u64 {
 fn grow_reference(words: &Words, calls: usize, medium: &mut [u8]) -> u64 {
     let t = words[2] as usize;
     let before = volume::grown(words[0], words[1], &words[3..3 + t]);
-    let before = State::from_words(&before);
+    let before = volume::state(&before);
     let mut refused = 0;
     for _ in 0..calls {
         let answer = fast::grow(black_box(before), medium, words[3 + t]);

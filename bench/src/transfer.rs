@@ -6,7 +6,6 @@ use crate::row::{timed, Label, Row, Side};
 use crate::volume::{self, Words};
 use reference::fast;
 use reference::spot::Block;
-use reference::state::State;
 use std::hint::black_box;
 use std::ops::Range;
 use streterva::raw;
@@ -119,7 +118,7 @@ fn read_library(words: &Words, medium: &[u8], blocks: &[u64], piece: &mut [u8]) 
 }
 
 fn read_reference(words: &Words, medium: &[u8], blocks: &[u64], piece: &mut [u8]) -> u64 {
-    let (state, mut refused) = (State::from_words(words), 0);
+    let (state, mut refused) = (volume::state(words), 0);
     for &block in blocks {
         let answer = fast::read(black_box(&state), medium, Block(block), piece);
         refused |= answer.is_err() as u64;
@@ -137,18 +136,18 @@ fn read_memcpy(medium: &[u8], spots: &[usize], piece: &mut [u8]) -> u64 {
 }
 
 fn write_library(words: &Words, medium: &mut [u8], blocks: &[u64], piece: &[u8]) -> u64 {
-    let mut refused = 0;
+    let (mut words, mut refused) = (*words, 0);
     for &block in blocks {
-        refused |= raw::write(words, medium, block, piece);
+        refused |= raw::write(&mut words, medium, block, piece);
         black_box(&mut *medium);
     }
     refused
 }
 
 fn write_reference(words: &Words, medium: &mut [u8], blocks: &[u64], piece: &[u8]) -> u64 {
-    let (state, mut refused) = (State::from_words(words), 0);
+    let (mut state, mut refused) = (volume::state(words), 0);
     for &block in blocks {
-        let answer = fast::write(black_box(&state), medium, Block(block), piece);
+        let answer = fast::write(black_box(&mut state), medium, Block(block), piece);
         refused |= answer.is_err() as u64;
         black_box(&mut *medium);
     }

@@ -1,5 +1,6 @@
 //! States of volumes, made directly: few calls need a medium that was formatted and grown.
 
+use reference::state::State;
 use streterva::raw::{self, STATE_WORDS};
 
 pub type Words = [u64; STATE_WORDS];
@@ -8,11 +9,17 @@ pub type Words = [u64; STATE_WORDS];
 pub const WINDOW: usize = 12;
 pub const RECORDED: usize = 13;
 pub const COPIED: usize = 14;
+pub const PENDING: usize = 15;
 const GROWING: usize = 11;
 
 const RECORD: u64 = 512;
 
-/// The state with this history and no growth under way.
+/// The state as the reference has it.
+pub fn state(words: &Words) -> State {
+    State::from_words(words).expect("a state")
+}
+
+/// The state with this history, no growth under way and nothing pending.
 pub fn grown(z: u64, s: u64, counts: &[u64]) -> Words {
     let mut words = [0; STATE_WORDS];
     words[..3].copy_from_slice(&[z, s, counts.len() as u64 - 1]);

@@ -1,7 +1,7 @@
 /*
- * One show on a volume in plain memory: pictures are saved, the volume grows from 3 disks to 5 while it is read and written,
- * the power fails in the middle of a store, and at the end every picture is read back and compared.
- * Exits with 1 at the first difference.
+ * One show on a volume in plain memory, called as for drives with a write cache: pictures are saved, the volume grows
+ * from 3 disks to 5 while it is read and written, the power fails in the middle of a store, and at the end every
+ * picture is read back and compared. Exits with 1 at the first difference.
  */
 #include "streterva.h"
 
@@ -16,6 +16,7 @@ static uint8_t *medium;
 static size_t medium_bytes;
 static unsigned saves[NEW_BLOCKS]; /* how often each block was saved; the picture depends on it */
 static unsigned checkpoints;       /* made because a save was refused with 7 */
+static unsigned waits;             /* calls made again after 18 or 19 */
 
 static void fail(const char *what, uint64_t got, uint64_t wanted)
 {
@@ -36,20 +37,54 @@ static void draw(uint8_t *piece, uint64_t block, unsigned save)
         piece[i] = (uint8_t)(block * 7 + save * 101 + i * (block + save + 1) / 3);
 }
 
-/* Saves the next picture of a block. A block that is copied but not recorded is written after a checkpoint. */
+/* Waits until all stores are down: on drives fsync, fdatasync, msync or the flush command. Memory has no cache. */
+static void flush_drives(void)
+{
+}
+
+/* Flushes the drives and then tells the library. The blocks written before are saved. */
+static void flush(void)
+{
+    flush_drives();
+    expect("flushed", streterva_flushed(state.words, STRETERVA_STATE_WORDS), STRETERVA_ACCEPTED);
+    expect("what is pending", state.pending, 0);
+}
+
+/* After 18 or 19: flushes, and the call is to be made again. */
+static int flushed_for(uint64_t answer)
+{
+    if (answer != STRETERVA_FLUSH_BLOCKS && answer != STRETERVA_FLUSH_RECORD)
+        return 0;
+    flush();
+    waits++;
+    return 1;
+}
+
+/* A checkpoint between two flushes: copies are down before the record names them, the record before the next store. */
+static void checkpoint(void)
+{
+    uint64_t left[STRETERVA_LEFT_FIGURES];
+    flush();
+    expect("checkpoint",
+           streterva_checkpoint(state.words, STRETERVA_STATE_WORDS, medium, medium_bytes, left, STRETERVA_LEFT_FIGURES),
+           STRETERVA_ACCEPTED);
+    flush();
+    checkpoints++;
+}
+
+/*
+ * Writes the next picture of a block; it is saved at the next flush. A block that is copied but not recorded is written
+ * after a checkpoint.
+ */
 static void save(uint64_t block)
 {
     uint8_t piece[SIZE];
     draw(piece, block, saves[block] + 1);
     uint64_t answer = streterva_write(state.words, STRETERVA_STATE_WORDS, medium, medium_bytes, block, piece, SIZE);
-    if (answer == STRETERVA_COPY_NOT_RECORDED) {
-        uint64_t left[STRETERVA_LEFT_FIGURES];
-        expect("checkpoint",
-               streterva_checkpoint(state.words, STRETERVA_STATE_WORDS, medium, medium_bytes, left, STRETERVA_LEFT_FIGURES),
-               STRETERVA_ACCEPTED);
-        checkpoints++;
+    if (answer == STRETERVA_COPY_NOT_RECORDED)
+        checkpoint();
+    if (answer == STRETERVA_COPY_NOT_RECORDED || flushed_for(answer))
         answer = streterva_write(state.words, STRETERVA_STATE_WORDS, medium, medium_bytes, block, piece, SIZE);
-    }
     expect("write", answer, STRETERVA_ACCEPTED);
     saves[block]++;
 }
@@ -71,16 +106,19 @@ static void check_all(uint64_t blocks)
         check(block);
 }
 
-/* One advance call. Returns the calls left after it. */
+/* One step of the growth. Returns the advance calls left after it; one refused with 18 or 19 does not count. */
 static uint64_t advance(uint64_t *figures)
 {
-    expect("advance",
-           streterva_advance(state.words, STRETERVA_STATE_WORDS, medium, medium_bytes, figures, STRETERVA_ADVANCE_FIGURES),
-           STRETERVA_ACCEPTED);
+    uint64_t answer;
+    do
+        answer = streterva_advance(state.words, STRETERVA_STATE_WORDS, medium, medium_bytes, figures,
+                                   STRETERVA_ADVANCE_FIGURES);
+    while (flushed_for(answer));
+    expect("advance", answer, STRETERVA_ACCEPTED);
     return figures[STRETERVA_ADVANCE_LEFT];
 }
 
-/* Start-up: nothing in memory but what restart reads from the record. Returns the calls left. */
+/* Start-up after a cut or a flush: nothing in memory but what restart reads from the record. Returns the calls left. */
 static uint64_t restart(void)
 {
     uint64_t left[STRETERVA_LEFT_FIGURES];
@@ -91,10 +129,14 @@ static uint64_t restart(void)
     return left[0];
 }
 
-/* The power fails within the store of a copy: one half of the spot has the new bytes, the other half has any. */
+/*
+ * The power fails within the store of a copy: one half of the spot has the new bytes, the other half has any. All
+ * pictures are flushed before, so none is lost.
+ */
 static uint64_t cut_in_copy(void)
 {
     uint64_t figures[STRETERVA_ADVANCE_FIGURES];
+    flush();
     uint8_t *before = malloc(medium_bytes);
     if (before == NULL)
         fail("memory", 0, medium_bytes);
@@ -153,6 +195,35 @@ static void tell_load(void)
     printf("\n");
 }
 
+/* Begins the growth. With pictures written and not flushed it is refused with 18. Returns the advance calls left. */
+static uint64_t grow(void)
+{
+    uint64_t left[STRETERVA_LEFT_FIGURES];
+    expect("grow before a flush",
+           streterva_grow(state.words, STRETERVA_STATE_WORDS, medium, medium_bytes, NEW_DISKS, left,
+                          STRETERVA_LEFT_FIGURES),
+           STRETERVA_FLUSH_BLOCKS);
+    printf("grow: refused with %d, the saves are not down\n", STRETERVA_FLUSH_BLOCKS);
+    flush();
+    expect("grow",
+           streterva_grow(state.words, STRETERVA_STATE_WORDS, medium, medium_bytes, NEW_DISKS, left,
+                          STRETERVA_LEFT_FIGURES),
+           STRETERVA_ACCEPTED);
+    flush();
+    return left[0];
+}
+
+/* The first write after format is refused with 19, as format's record is pending. */
+static void write_too_early(void)
+{
+    uint8_t piece[SIZE] = {0};
+    expect("write before a flush",
+           streterva_write(state.words, STRETERVA_STATE_WORDS, medium, medium_bytes, 0, piece, SIZE),
+           STRETERVA_FLUSH_RECORD);
+    printf("write: refused with %d, the record is not down\n", STRETERVA_FLUSH_RECORD);
+    flush();
+}
+
 int main(void)
 {
     medium_bytes = (size_t)streterva_medium_bytes(SIZE, ROWS, NEW_DISKS);
@@ -164,16 +235,14 @@ int main(void)
     expect("format", streterva_format(state.words, STRETERVA_STATE_WORDS, medium, medium_bytes, SIZE, ROWS, OLD_DISKS),
            STRETERVA_ACCEPTED);
     printf("formatted: %d disks of %d rows, blocks of %d bytes\n", OLD_DISKS, ROWS, SIZE);
+    write_too_early();
     for (uint64_t block = 0; block < OLD_BLOCKS; block++)
         save(block);
     check_all(OLD_BLOCKS);
-    printf("saved: blocks 0 to %d\n", OLD_BLOCKS - 1);
+    printf("written: blocks 0 to %d\n", OLD_BLOCKS - 1);
 
-    uint64_t left[STRETERVA_LEFT_FIGURES];
-    expect("grow",
-           streterva_grow(state.words, STRETERVA_STATE_WORDS, medium, medium_bytes, NEW_DISKS, left, STRETERVA_LEFT_FIGURES),
-           STRETERVA_ACCEPTED);
-    printf("growing: %d disks to %d, %llu advance calls left\n", OLD_DISKS, NEW_DISKS, (unsigned long long)left[0]);
+    uint64_t left = grow();
+    printf("growing: %d disks to %d, %llu advance calls left\n", OLD_DISKS, NEW_DISKS, (unsigned long long)left);
 
     uint64_t figures[STRETERVA_ADVANCE_FIGURES];
     for (unsigned step = 1; state.growing == 1; step++) {
@@ -192,11 +261,13 @@ int main(void)
     }
     expect("calls left at the end", figures[STRETERVA_ADVANCE_LEFT], 0);
     expect("the last step", figures[STRETERVA_ADVANCE_DID], STRETERVA_FINISHED);
-    printf("finished: saved and read all along, %u saves waited for a checkpoint\n", checkpoints);
+    printf("finished: saved and read all along, %u saves waited for a checkpoint, %u calls for a flush\n", checkpoints,
+           waits);
     check_all(OLD_BLOCKS);
 
     for (uint64_t block = OLD_BLOCKS; block < NEW_BLOCKS; block++)
         save(block);
+    flush();
     check_all(NEW_BLOCKS);
     printf("saved: blocks %d to %d, on the added space\n", OLD_BLOCKS, NEW_BLOCKS - 1);
 

@@ -1,8 +1,8 @@
 //! Bindings to Streterva: a RAID-0 volume (striping without parity) that takes more disks while it is in use.
 //!
 //! The library behind it, `libcapi.a`, is proved against its specification, "document 01", and "document 02" for
-//! [`State::load`]; the words and the numbers of refusals here are those documents'. A *block* is an address in the volume, a
-//! *row* is a position on one disk, a *spot* is a disk and a row.
+//! [`State::load`] and [`State::flushed`]; the words and the numbers of refusals here are those documents'. A *block*
+//! is an address in the volume, a *row* is a position on one disk, a *spot* is a disk and a row.
 //!
 //! The caller keeps two things: the medium, a slice of bytes with the record and all disks, and the [`State`], plain data.
 //! Both are lent to each call. A call that is refused changes neither and gives a [`Refusal`], load a [`LoadRefusal`].
@@ -14,17 +14,22 @@
 //! // Blocks of 512 bytes, 5 rows on each disk, room for 5 disks.
 //! let mut medium = vec![0; State::medium_bytes(512, 5, 5)];
 //! let mut volume = State::format(&mut medium, 512, 5, 3)?;
+//! // Here and below the drives are flushed before each `flushed`; plain memory has nothing to flush.
+//! volume.flushed()?;
 //! volume.write(&mut medium, Block(7), &[0xAB; 512])?;
+//! volume.flushed()?;
 //!
 //! // From 3 disks to 5, step by step. Reads and writes may come in between.
 //! let mut left = volume.grow(&mut medium, 5)?;
 //! while left > 0 {
+//!     volume.flushed()?;
 //!     let advanced = volume.advance(&mut medium)?;
 //!     assert_eq!(advanced.calls_left, left - 1);
 //!     assert_eq!(advanced.step == Step::Finished, advanced.calls_left == 0);
 //!     left = advanced.calls_left;
 //! }
 //!
+//! volume.flushed()?;
 //! // After a power cut nothing but the medium is left.
 //! let volume = State::restart(&medium)?.state;
 //! let mut piece = [0; 512];
@@ -39,12 +44,30 @@
 //! # }
 //! ```
 //!
+//! # Pending stores
+//!
+//! Drives with a write cache may keep stores and put them down in any order, so a store is pending until the caller
+//! tells by [`State::flushed`] that all earlier stores are down. On such drives:
+//!
+//! 1. Store blocks: write, copy, and advance while it copies, as many calls as wanted.
+//! 2. Flush the drives: fsync, fdatasync, msync or the drive's flush command.
+//! 3. Call [`State::flushed`]. The blocks written before are saved from now on.
+//! 4. Store the record: grow, checkpoint, or the advance that finds no block left to copy.
+//! 5. Flush the drives and call [`State::flushed`], before the next store.
+//!
+//! [`Refusal::FlushBlocks`] asks for steps 2 and 3 and [`Refusal::FlushRecord`] for step 5; then make the call again.
+//! If flushed is called before all earlier stores are down, a block that was told as saved may be lost at a power cut,
+//! and the record may name a copy whose bytes are not down, so that a block may be read with old or torn bytes. A
+//! caller whose drives keep no store (write through) calls flushed directly after every call that stores.
+//!
 //! # Power cuts
 //!
-//! The state is lost with memory, so after a cut [`State::restart`] is the first call. That no saved block is then lost rests
-//! on two things outside the library: stores reach the drives in the order of the calls, and of a record store that was cut the
-//! drives hold the 512 bytes of the old record or of the new one, never a mixture. A block whose write was cut may hold any
-//! bytes until it is written again.
+//! The state is lost with memory, so after a cut [`State::restart`] is the first call. A block written before the last
+//! [`State::flushed`] is not lost at a cut. This begins at the first flushed after format and rests on two things
+//! outside the library: all stores are down when flushed is called, and of a record store that is pending at the cut
+//! the drives hold the 512 bytes of the old record or of the new one, never a mixture. A block written after the last
+//! flushed may hold any bytes until it is written again. With the old record, the call that stored the new one was not
+//! made.
 
 #![deny(missing_docs)]
 #![deny(unsafe_code)]

@@ -1,9 +1,10 @@
 //! The library's functions on plain slices, with the numbers of documents 01 and 02 as answers.
 //!
-//! Each function returns 0 when it accepts the call, or else the number of the refusal. A state is a slice of [`STATE_WORDS`]
-//! words and figures are as many words as the function says. With any other length the function returns [`WRONG_LENGTH`] before
-//! all other tests and touches nothing. A medium that is too short is refused with 2, a piece that is not one block long with 4,
-//! a list of scenes that is too long with 17.
+//! Each function returns 0 when it accepts the call, or else the number of the refusal. A state is a slice of
+//! [`STATE_WORDS`] words and figures are as many words as the function says. With any other length, or with a state
+//! whose last word is above [`MOST_PENDING`], the function returns [`WRONG_LENGTH`] before all other tests and touches
+//! nothing; format and restart do not read the words of the state they are lent. A medium that is too short is refused
+//! with 2, a piece that is not one block long with 4, a list of scenes that is too long with 17.
 //!
 //! A refused call sets its figures to 0, all but the place that load tells with 17, and changes nothing else; format and
 //! restart also set the state to zeros.
@@ -17,8 +18,18 @@
 #[cfg(not(all(target_arch = "x86_64", target_pointer_width = "64")))]
 compile_error!("libcapi.a is for x86-64 with 64-bit sizes");
 
-/// Words of a state: Z, s, t, N\[0\] to N\[7\], growing, w, the recorded marks and the copied marks (mark j is bit j).
-pub const STATE_WORDS: usize = 15;
+/// Words of a state: Z, s, t, N\[0\] to N\[7\], growing, w, the recorded marks and the copied marks (mark j is bit j),
+/// and what is pending: [`RECORD_PENDING`] and [`BLOCKS_PENDING`] added, 0 for nothing.
+pub const STATE_WORDS: usize = 16;
+
+/// In the last word of a state: a record store is pending.
+pub const RECORD_PENDING: u64 = 1;
+
+/// In the last word of a state: block stores are pending.
+pub const BLOCKS_PENDING: u64 = 2;
+
+/// The most that the last word of a state may be.
+pub const MOST_PENDING: u64 = RECORD_PENDING | BLOCKS_PENDING;
 
 /// Figures of [`restart`], [`grow`], [`copy`] and [`checkpoint`]: the advance calls left.
 pub const LEFT_FIGURES: usize = 1;
@@ -38,7 +49,8 @@ pub const LOAD_FIGURES: usize = 17;
 /// The most scenes in a list.
 pub const MOST_SCENES: usize = 65_536;
 
-/// The answer when a state or figures have the wrong length. Nothing was touched.
+/// The answer when a state or figures have the wrong length, or the last word of a state is above [`MOST_PENDING`].
+/// Nothing was touched.
 pub const WRONG_LENGTH: u64 = 100;
 
 /// A scene: `count` blocks from block `first` on. With a count of 0 it names no block, and `first` may be any number.
@@ -110,7 +122,7 @@ extern "C" {
     ) -> u64;
 
     fn streterva_write(
-        state: *const u64,
+        state: *mut u64,
         state_words: usize,
         medium: *mut u8,
         medium_bytes: usize,
@@ -118,6 +130,8 @@ extern "C" {
         piece: *const u8,
         piece_bytes: usize,
     ) -> u64;
+
+    fn streterva_flushed(state: *mut u64, state_words: usize) -> u64;
 
     fn streterva_read(
         state: *const u64,
@@ -190,7 +204,7 @@ pub fn restart(state: &mut [u64], medium: &[u8], figures: &mut [u64]) -> u64 {
     }
 }
 
-/// Begins a growth to `count` disks and stores the record. Refuses 1; 6; 9; 8; 2.
+/// Begins a growth to `count` disks and stores the record. Refuses 1; 6; 9; 8; 2; 19; 18.
 pub fn grow(state: &mut [u64], medium: &mut [u8], count: u64, figures: &mut [u64]) -> u64 {
     // SAFETY: each pointer goes with the length of its slice, borrowed for the call; the three written slices do not overlap.
     unsafe {
@@ -206,7 +220,7 @@ pub fn grow(state: &mut [u64], medium: &mut [u8], count: u64, figures: &mut [u64
     }
 }
 
-/// Stores a moving block of window w at its new spot too. Refuses 1; 2; 5; 3; 10; 11.
+/// Stores a moving block of window w at its new spot too. Refuses 1; 2; 5; 3; 10; 11; 19.
 pub fn copy(state: &mut [u64], medium: &mut [u8], block: u64, figures: &mut [u64]) -> u64 {
     // SAFETY: each pointer goes with the length of its slice, borrowed for the call; the three written slices do not overlap.
     unsafe {
@@ -222,7 +236,7 @@ pub fn copy(state: &mut [u64], medium: &mut [u8], block: u64, figures: &mut [u64
     }
 }
 
-/// Stores the record with every copied block recorded. Refuses 1; 2; 5; 12.
+/// Stores the record with every copied block recorded. Refuses 1; 2; 5; 12; 19; 18.
 pub fn checkpoint(state: &mut [u64], medium: &mut [u8], figures: &mut [u64]) -> u64 {
     // SAFETY: each pointer goes with the length of its slice, borrowed for the call; the three written slices do not overlap.
     unsafe {
@@ -237,7 +251,8 @@ pub fn checkpoint(state: &mut [u64], medium: &mut [u8], figures: &mut [u64]) -> 
     }
 }
 
-/// Copies the next block of window w or, with none left, does the checkpoint. Refuses 1; 2; 5.
+/// Copies the next block of window w or, with none left, does the checkpoint. Refuses 1; 2; 5; 19; and 18 only
+/// for the checkpoint.
 pub fn advance(state: &mut [u64], medium: &mut [u8], figures: &mut [u64]) -> u64 {
     // SAFETY: each pointer goes with the length of its slice, borrowed for the call; the three written slices do not overlap.
     unsafe {
@@ -252,13 +267,13 @@ pub fn advance(state: &mut [u64], medium: &mut [u8], figures: &mut [u64]) -> u64
     }
 }
 
-/// Stores the piece as the block. Refuses 1; 2; 3; 4; 7.
-pub fn write(state: &[u64], medium: &mut [u8], block: u64, piece: &[u8]) -> u64 {
-    // SAFETY: each pointer goes with the length of its slice, borrowed for the call; the written medium overlaps nothing; the
-    // state and the piece are only read.
+/// Stores the piece as the block. Refuses 1; 2; 3; 4; 7; 19.
+pub fn write(state: &mut [u64], medium: &mut [u8], block: u64, piece: &[u8]) -> u64 {
+    // SAFETY: each pointer goes with the length of its slice, borrowed for the call; the written state and medium
+    // overlap nothing; the piece is only read.
     unsafe {
         streterva_write(
-            state.as_ptr(),
+            state.as_mut_ptr(),
             state.len(),
             medium.as_mut_ptr(),
             medium.len(),
@@ -267,6 +282,12 @@ pub fn write(state: &[u64], medium: &mut [u8], block: u64, piece: &[u8]) -> u64 
             piece.len(),
         )
     }
+}
+
+/// Tells that all earlier stores are down. Refuses 1.
+pub fn flushed(state: &mut [u64]) -> u64 {
+    // SAFETY: the pointer goes with the length of its slice, borrowed for the call.
+    unsafe { streterva_flushed(state.as_mut_ptr(), state.len()) }
 }
 
 /// Fills the piece with the block. Refuses 1; 2; 3; 4.

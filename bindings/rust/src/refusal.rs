@@ -1,7 +1,7 @@
 use std::error::Error;
 use std::fmt;
 
-/// Why a call was refused. The values are document 01's numbers.
+/// Why a call was refused. The values are the numbers of documents 01 and 02.
 #[derive(Clone, Copy, Debug, PartialEq, Eq, Hash)]
 #[repr(u64)]
 pub enum Refusal {
@@ -35,11 +35,17 @@ pub enum Refusal {
     NoSuchSpot = 14,
     /// 15: no open block lives at the spot.
     NoBlockThere = 15,
+    /// 18: a record store is due and block stores are pending. Accepted after the drives are flushed and
+    /// [`State::flushed`](crate::State::flushed).
+    FlushBlocks = 18,
+    /// 19: a record store is pending. Accepted after the drives are flushed and
+    /// [`State::flushed`](crate::State::flushed).
+    FlushRecord = 19,
 }
 
 impl Refusal {
     /// Every refusal, by rising number.
-    pub const ALL: [Refusal; 15] = [
+    pub const ALL: [Refusal; 17] = [
         Refusal::NotSound,
         Refusal::MediumTooShort,
         Refusal::BlockNotOpen,
@@ -55,9 +61,11 @@ impl Refusal {
         Refusal::NoRecord,
         Refusal::NoSuchSpot,
         Refusal::NoBlockThere,
+        Refusal::FlushBlocks,
+        Refusal::FlushRecord,
     ];
 
-    /// Document 01's number.
+    /// The number of document 01 or 02.
     pub const fn number(self) -> u64 {
         self as u64
     }
@@ -90,6 +98,8 @@ impl fmt::Display for Refusal {
             Refusal::NoRecord => "the medium has no record of a sound state",
             Refusal::NoSuchSpot => "the disk or the row does not exist",
             Refusal::NoBlockThere => "no open block lives at the spot",
+            Refusal::FlushBlocks => "block stores are pending, and a record store is due",
+            Refusal::FlushRecord => "a record store is pending",
         })
     }
 }

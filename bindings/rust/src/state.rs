@@ -41,10 +41,14 @@ impl State {
             .saturating_add(Self::RECORD_BYTES as u64) as usize
     }
 
-    /// The state with these words: Z, s, t, N\[0\] to N\[7\], growing, w, the recorded marks and the copied marks. It may not be
-    /// sound; then every call refuses it.
-    pub const fn from_words(words: [u64; raw::STATE_WORDS]) -> State {
-        State { words }
+    /// The state with these words: Z, s, t, N\[0\] to N\[7\], growing, w, the recorded marks, the copied marks and what
+    /// is pending: 0 nothing, 1 a record store, 2 block stores, 3 both. `None` when the last word is above 3. The state
+    /// may not be sound; then every call refuses it.
+    pub const fn from_words(words: [u64; raw::STATE_WORDS]) -> Option<State> {
+        if words[15] > raw::MOST_PENDING {
+            return None;
+        }
+        Some(State { words })
     }
 
     /// The words of the state, in the order of [`State::from_words`].
@@ -100,13 +104,23 @@ impl State {
         self.words[14]
     }
 
+    /// Whether a record store is pending.
+    pub const fn record_is_pending(&self) -> bool {
+        self.words[15] & raw::RECORD_PENDING != 0
+    }
+
+    /// Whether block stores are pending.
+    pub const fn blocks_are_pending(&self) -> bool {
+        self.words[15] & raw::BLOCKS_PENDING != 0
+    }
+
     /// Whether the state is sound. The calls leave only sound states; one made from words may be another.
     pub fn is_sound(&self) -> bool {
         raw::soundness(&self.words) == 0
     }
 }
 
-/// The calls.
+/// The calls. Those that store leave the store pending until [`State::flushed`].
 impl State {
     /// Begins a volume with blocks of `size` bytes, `rows` rows on each disk and `disks` disks, and stores its record.
     ///
@@ -119,7 +133,8 @@ impl State {
         Ok(State { words: state })
     }
 
-    /// Reads the state back from the record: the first call after a power cut. Copies that were not recorded are forgotten.
+    /// Reads the state back from the record: the first call after a power cut. Copies that were not recorded are
+    /// forgotten, and nothing is pending. Without a cut, call it only directly after [`State::flushed`].
     ///
     /// # Errors
     ///
@@ -139,7 +154,7 @@ impl State {
     ///
     /// # Errors
     ///
-    /// 1; 6; 9; 8, `count` not above the present one or above 16; 2, too short for `count` disks.
+    /// 1; 6; 9; 8, `count` not above the present one or above 16; 2, too short for `count` disks; 19; 18.
     pub fn grow(&mut self, medium: &mut [u8], count: u64) -> Result<u64, Refusal> {
         let mut left = [0; raw::LEFT_FIGURES];
         accepted(raw::grow(&mut self.words, medium, count, &mut left))?;
@@ -151,7 +166,7 @@ impl State {
     ///
     /// # Errors
     ///
-    /// 1; 2; 5; 3; 10; 11.
+    /// 1; 2; 5; 3; 10; 11; 19.
     pub fn copy(&mut self, medium: &mut [u8], block: Block) -> Result<u64, Refusal> {
         let mut left = [0; raw::LEFT_FIGURES];
         accepted(raw::copy(&mut self.words, medium, block.0, &mut left))?;
@@ -164,7 +179,7 @@ impl State {
     ///
     /// # Errors
     ///
-    /// 1; 2; 5; 12.
+    /// 1; 2; 5; 12; 19; 18.
     pub fn checkpoint(&mut self, medium: &mut [u8]) -> Result<u64, Refusal> {
         let mut left = [0; raw::LEFT_FIGURES];
         accepted(raw::checkpoint(&mut self.words, medium, &mut left))?;
@@ -175,7 +190,7 @@ impl State {
     ///
     /// # Errors
     ///
-    /// 1; 2; 5.
+    /// 1; 2; 5; 19; 18, only where it would do the checkpoint.
     pub fn advance(&mut self, medium: &mut [u8]) -> Result<Advanced, Refusal> {
         let mut figures = [0; raw::ADVANCE_FIGURES];
         accepted(raw::advance(&mut self.words, medium, &mut figures))?;
@@ -196,9 +211,18 @@ impl State {
     ///
     /// # Errors
     ///
-    /// 1; 2; 3; 4; 7, accepted after a checkpoint.
-    pub fn write(&self, medium: &mut [u8], block: Block, piece: &[u8]) -> Result<(), Refusal> {
-        accepted(raw::write(&self.words, medium, block.0, piece))
+    /// 1; 2; 3; 4; 7, accepted after a checkpoint; 19.
+    pub fn write(&mut self, medium: &mut [u8], block: Block, piece: &[u8]) -> Result<(), Refusal> {
+        accepted(raw::write(&mut self.words, medium, block.0, piece))
+    }
+
+    /// Tells that all earlier stores are down: nothing is pending then. Call it only after the drives were flushed.
+    ///
+    /// # Errors
+    ///
+    /// 1.
+    pub fn flushed(&mut self) -> Result<(), Refusal> {
+        accepted(raw::flushed(&mut self.words))
     }
 
     /// Fills the piece, one block long, with the block.
@@ -278,11 +302,13 @@ impl fmt::Debug for State {
             .field("window", &self.window())
             .field("recorded", &self.recorded())
             .field("copied", &self.copied())
+            .field("pending", &self.words[15])
             .finish()
     }
 }
 
-/// The library's number as a result. All lengths here are right, so no other number than 0 and document 01's can come.
+/// The library's number as a result. All lengths here are right and every state's last word is at most 3, so no other
+/// number than 0 and a refusal's can come.
 fn accepted(number: u64) -> Result<(), Refusal> {
     if number == 0 {
         return Ok(());

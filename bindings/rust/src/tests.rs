@@ -1,4 +1,7 @@
-//! Each call accepted and refused, on document 01's cases; load on volumes of the same kind; holder at the spots of added blocks.
+//! Each call accepted and refused, on document 01's cases, with a flushed after each store or each run of block stores;
+//! load on volumes of the same kind; holder at the spots of added blocks.
+
+mod pending;
 
 use crate::raw;
 use crate::{Address, Advanced, Block, Part, Reason, Row, Scene, Spot, State, Step};
@@ -11,29 +14,61 @@ fn medium(size: u64, rows: u64, disks: u64) -> Vec<u8> {
         .collect()
 }
 
-/// 3 disks of 5 rows, blocks of 512 bytes, room for 6 disks; each block is saved.
+/// A new volume of blocks of 512 bytes, with nothing pending.
+fn formatted(medium: &mut [u8], rows: u64, disks: u64) -> State {
+    let mut volume = State::format(medium, 512, rows, disks).unwrap();
+    volume.flushed().unwrap();
+    volume
+}
+
+/// 3 disks of 5 rows, blocks of 512 bytes, room for 6 disks; each block is saved, and nothing is pending.
 fn three_disks() -> (Vec<u8>, State) {
     let mut medium = medium(512, 5, 6);
-    let volume = State::format(&mut medium, 512, 5, 3).unwrap();
+    let mut volume = formatted(&mut medium, 5, 3);
     for block in 0..15 {
         volume
             .write(&mut medium, Block(block), &picture(block))
             .unwrap();
     }
+    volume.flushed().unwrap();
     (medium, volume)
+}
+
+/// The same volume in a growth to 5 disks, with nothing pending.
+fn three_to_five() -> (Vec<u8>, State) {
+    let (mut medium, mut volume) = three_disks();
+    grow(&mut volume, &mut medium, 5);
+    (medium, volume)
+}
+
+/// Begins a growth and leaves nothing pending.
+fn grow(volume: &mut State, medium: &mut [u8], count: u64) -> u64 {
+    let left = volume.grow(medium, count).unwrap();
+    volume.flushed().unwrap();
+    left
+}
+
+/// Makes a checkpoint, with a flushed before and after it.
+fn checkpoint(volume: &mut State, medium: &mut [u8]) -> u64 {
+    volume.flushed().unwrap();
+    let left = volume.checkpoint(medium).unwrap();
+    volume.flushed().unwrap();
+    left
 }
 
 fn picture(block: u64) -> [u8; 512] {
     std::array::from_fn(|i| (block * 11 + i as u64) as u8)
 }
 
-/// Takes a growth to its end and counts the calls.
+/// Takes a growth to its end and counts the advance calls. Nothing is pending then.
 fn finish(volume: &mut State, medium: &mut [u8]) -> u64 {
     let mut calls = 0;
     while volume.is_growing() {
+        volume.flushed().unwrap();
         volume.advance(medium).unwrap();
         calls += 1;
     }
+    volume.flushed().unwrap();
     calls
 }
 
@@ -54,7 +89,12 @@ fn served(numbers: &[u64]) -> [u64; 16] {
 fn with_word(state: &State, word: usize, value: u64) -> State {
     let mut words = state.words();
     words[word] = value;
-    State::from_words(words)
+    State::from_words(words).unwrap()
+}
+
+/// The state of zeros.
+fn zeros() -> State {
+    State::from_words([0; raw::STATE_WORDS]).unwrap()
 }
 
 #[test]
@@ -64,7 +104,7 @@ fn format_stores_the_record_and_nothing_else() {
     let volume = State::format(&mut after, 512, 5, 3).unwrap();
     assert_eq!(
         volume.words(),
-        [512, 5, 0, 3, 0, 0, 0, 0, 0, 0, 0, 0, 0, 0, 0]
+        [512, 5, 0, 3, 0, 0, 0, 0, 0, 0, 0, 0, 0, 0, 0, 1]
     );
     assert!(volume.is_sound());
     assert_eq!(after[512..], before[512..]);
@@ -117,7 +157,7 @@ fn format_refuses() {
 #[test]
 fn layout_cases() {
     let (mut medium, mut volume) = three_disks();
-    assert_eq!(volume.grow(&mut medium, 5), Ok(7));
+    assert_eq!(grow(&mut volume, &mut medium, 5), 7);
     assert_eq!(finish(&mut volume, &mut medium), 7);
     for (block, spot) in [
         (0, (3, 0)),
@@ -130,7 +170,7 @@ fn layout_cases() {
     ] {
         assert_eq!(at(&volume, block), spot, "block {block}");
     }
-    volume.grow(&mut medium, 6).unwrap();
+    grow(&mut volume, &mut medium, 6);
     finish(&mut volume, &mut medium);
     assert_eq!(at(&volume, 16), (5, 0));
     assert_eq!(at(&volume, 25), (0, 0));
@@ -138,8 +178,8 @@ fn layout_cases() {
 
     for (rows, first, last, block, spot) in [(3, 1, 4, 1, (2, 1)), (6, 4, 6, 9, (4, 2))] {
         let mut medium = self::medium(512, rows, last);
-        let mut volume = State::format(&mut medium, 512, rows, first).unwrap();
-        volume.grow(&mut medium, last).unwrap();
+        let mut volume = formatted(&mut medium, rows, first);
+        grow(&mut volume, &mut medium, last);
         finish(&mut volume, &mut medium);
         assert_eq!(at(&volume, block), spot);
         assert_eq!(
@@ -150,20 +190,22 @@ fn layout_cases() {
             }
         );
     }
+}
 
-    let mut medium = self::medium(512, 6, 5);
-    let mut volume = State::format(&mut medium, 512, 6, 3).unwrap();
-    assert_eq!(volume.grow(&mut medium, 5), Ok(9));
+#[test]
+fn layout_case_of_two_windows() {
+    let mut medium = medium(512, 6, 5);
+    let mut volume = formatted(&mut medium, 6, 3);
+    assert_eq!(grow(&mut volume, &mut medium, 5), 9);
     assert_eq!(finish(&mut volume, &mut medium), 9);
 }
 
 #[test]
 fn restart_reads_the_record() {
-    let (mut medium, mut volume) = three_disks();
-    volume.grow(&mut medium, 5).unwrap();
+    let (mut medium, mut volume) = three_to_five();
     volume.copy(&mut medium, Block(0)).unwrap();
     volume.copy(&mut medium, Block(3)).unwrap();
-    volume.checkpoint(&mut medium).unwrap();
+    checkpoint(&mut volume, &mut medium);
     let recorded = volume;
     assert_eq!(volume.copy(&mut medium, Block(4)), Ok(4));
     assert_eq!((volume.recorded(), volume.copied()), (3, 7));
@@ -212,12 +254,14 @@ fn grow_refuses_and_leaves_the_state() {
 
     volume.grow(&mut medium, 5).unwrap();
     assert_eq!(volume.grow(&mut medium, 6), Err(Refusal::Growing));
+    volume.flushed().unwrap();
+    assert_eq!(volume.grow(&mut medium, 6), Err(Refusal::Growing));
     assert_eq!(State::restart(&medium).unwrap().state, volume);
 
     let mut medium = self::medium(512, 1, 16);
-    let mut volume = State::format(&mut medium, 512, 1, 1).unwrap();
+    let mut volume = formatted(&mut medium, 1, 1);
     for count in 2..=8 {
-        volume.grow(&mut medium, count).unwrap();
+        grow(&mut volume, &mut medium, count);
         finish(&mut volume, &mut medium);
     }
     assert_eq!(volume.grow(&mut medium, 9), Err(Refusal::NoMoreGrowths));
@@ -229,7 +273,7 @@ fn copy_and_checkpoint_by_hand() {
     let (mut medium, mut volume) = three_disks();
     assert_eq!(volume.copy(&mut medium, Block(0)), Err(Refusal::NotGrowing));
     assert_eq!(volume.checkpoint(&mut medium), Err(Refusal::NotGrowing));
-    assert_eq!(volume.grow(&mut medium, 5), Ok(7));
+    assert_eq!(grow(&mut volume, &mut medium, 5), 7);
     assert_eq!(
         volume.checkpoint(&mut medium),
         Err(Refusal::NothingToRecord)
@@ -247,7 +291,7 @@ fn copy_and_checkpoint_by_hand() {
             Err(Refusal::AlreadyCopied)
         );
     }
-    assert_eq!(volume.checkpoint(&mut medium), Ok(0));
+    assert_eq!(checkpoint(&mut volume, &mut medium), 0);
     assert!(!volume.is_growing());
     let mut piece = [0; 512];
     for block in 0..15 {
@@ -260,7 +304,7 @@ fn copy_and_checkpoint_by_hand() {
 fn advance_tells_each_step() {
     let (mut medium, mut volume) = three_disks();
     assert_eq!(volume.advance(&mut medium), Err(Refusal::NotGrowing));
-    volume.grow(&mut medium, 5).unwrap();
+    grow(&mut volume, &mut medium, 5);
     let copied = [
         (0, Part::Head),
         (3, Part::Head),
@@ -281,6 +325,7 @@ fn advance_tells_each_step() {
             })
         );
     }
+    volume.flushed().unwrap();
     assert_eq!(
         volume.advance(&mut medium),
         Ok(Advanced {
@@ -288,14 +333,18 @@ fn advance_tells_each_step() {
             calls_left: 0
         })
     );
+}
 
-    // With 6 rows there is a second window.
-    let mut medium = self::medium(512, 6, 5);
-    let mut volume = State::format(&mut medium, 512, 6, 3).unwrap();
-    volume.grow(&mut medium, 5).unwrap();
+/// With 6 rows there is a second window.
+#[test]
+fn advance_goes_on_to_the_next_window() {
+    let mut medium = medium(512, 6, 5);
+    let mut volume = formatted(&mut medium, 6, 3);
+    grow(&mut volume, &mut medium, 5);
     for _ in 0..6 {
         volume.advance(&mut medium).unwrap();
     }
+    volume.flushed().unwrap();
     let recorded = volume.advance(&mut medium).unwrap();
     assert_eq!(recorded.step, Step::Recorded);
     assert_eq!((recorded.calls_left, volume.window()), (2, 1));
@@ -303,9 +352,8 @@ fn advance_tells_each_step() {
 
 #[test]
 fn write_waits_for_the_checkpoint() {
-    let (mut medium, mut volume) = three_disks();
+    let (mut medium, mut volume) = three_to_five();
     let piece = [0x5A; 512];
-    volume.grow(&mut medium, 5).unwrap();
     assert_eq!(volume.write(&mut medium, Block(14), &piece), Ok(()));
     assert_eq!(
         volume.write(&mut medium, Block(15), &piece),
@@ -318,7 +366,7 @@ fn write_waits_for_the_checkpoint() {
         Err(Refusal::CopyNotRecorded)
     );
     assert_eq!(medium, before);
-    volume.checkpoint(&mut medium).unwrap();
+    checkpoint(&mut volume, &mut medium);
     let before = medium.clone();
     assert_eq!(volume.write(&mut medium, Block(0), &piece), Ok(()));
     assert_eq!(medium[..8192], before[..8192]);
@@ -328,7 +376,7 @@ fn write_waits_for_the_checkpoint() {
 
 #[test]
 fn read_and_write_refuse() {
-    let (mut medium, volume) = three_disks();
+    let (mut medium, mut volume) = three_disks();
     let enough = State::medium_bytes(512, 5, 3);
     let before = medium.clone();
     for length in [0, 511, 513] {
@@ -383,10 +431,10 @@ fn address_tells_why() {
     };
     assert_eq!(volume.address(Block(0)), Ok(old));
     assert_eq!(volume.address(Block(15)), Err(Refusal::BlockNotOpen));
-    volume.grow(&mut medium, 5).unwrap();
+    grow(&mut volume, &mut medium, 5);
     volume.copy(&mut medium, Block(0)).unwrap();
     assert_eq!(volume.address(Block(0)), Ok(old));
-    volume.checkpoint(&mut medium).unwrap();
+    checkpoint(&mut volume, &mut medium);
     assert_eq!(volume.address(Block(0)), Ok(new));
     assert_eq!(volume.address(Block(15)), Err(Refusal::BlockNotOpen));
     finish(&mut volume, &mut medium);
@@ -403,7 +451,7 @@ fn holder_is_the_way_back() {
     assert_eq!(volume.holder(2, Row(4)), Ok(Block(14)));
     assert_eq!(volume.holder(3, Row(0)), Err(Refusal::NoSuchSpot));
     assert_eq!(volume.holder(0, Row(5)), Err(Refusal::NoSuchSpot));
-    volume.grow(&mut medium, 5).unwrap();
+    grow(&mut volume, &mut medium, 5);
     assert_eq!(volume.holder(3, Row(0)), Err(Refusal::NoBlockThere));
     finish(&mut volume, &mut medium);
     for disk in 0..5 {
@@ -419,7 +467,7 @@ fn grown(counts: &[u64]) -> State {
     let mut words = [0; raw::STATE_WORDS];
     words[..3].copy_from_slice(&[512, 40, counts.len() as u64 - 1]);
     words[3..3 + counts.len()].copy_from_slice(counts);
-    State::from_words(words)
+    State::from_words(words).unwrap()
 }
 
 /// Document 02's W3, with the remainder that is never negative, at every spot.
@@ -458,10 +506,10 @@ fn load_counts_the_live_spots() {
     let twice = [scene(0, 4), scene(u64::MAX, 0), scene(3, 2)];
     assert_eq!(volume.load(&twice), Ok(served(&[3, 2, 1])));
 
-    volume.grow(&mut medium, 5).unwrap();
+    grow(&mut volume, &mut medium, 5);
     volume.copy(&mut medium, Block(0)).unwrap();
     assert_eq!(volume.load(&all), Ok(served(&[5, 5, 5])));
-    volume.checkpoint(&mut medium).unwrap();
+    checkpoint(&mut volume, &mut medium);
     assert_eq!(volume.load(&all), Ok(served(&[4, 5, 5, 1])));
     finish(&mut volume, &mut medium);
     assert_eq!(volume.load(&all), Ok(served(&[3, 3, 3, 3, 3])));
@@ -471,9 +519,8 @@ fn load_counts_the_live_spots() {
 
 #[test]
 fn load_refuses() {
-    let (mut medium, mut volume) = three_disks();
+    let (_, volume) = three_to_five();
     let refused = |place| Err(LoadRefusal::Scene { place });
-    volume.grow(&mut medium, 5).unwrap();
     assert_eq!(volume.load(&[scene(15, 1)]), refused(0));
     assert_eq!(volume.load(&[scene(14, 1), scene(14, 2)]), refused(1));
     assert_eq!(volume.load(&[scene(1, u64::MAX)]), refused(0));
@@ -481,7 +528,7 @@ fn load_refuses() {
     assert_eq!(volume.load(&many), Ok(served(&[65_536])));
     many.push(scene(0, 0));
     assert_eq!(volume.load(&many), refused(65_536));
-    for unsound in [with_word(&volume, 13, 1), State::from_words([0; 15])] {
+    for unsound in [with_word(&volume, 13, 1), zeros()] {
         assert_eq!(unsound.load(&many), Err(LoadRefusal::NotSound));
         assert_eq!(unsound.load(&[]), Err(LoadRefusal::NotSound));
     }
@@ -489,8 +536,7 @@ fn load_refuses() {
 
 #[test]
 fn a_damaged_state_is_refused() {
-    let (mut medium, mut volume) = three_disks();
-    volume.grow(&mut medium, 5).unwrap();
+    let (mut medium, volume) = three_to_five();
     let before = medium.clone();
     for (word, value) in [
         (0, 513),
@@ -512,34 +558,30 @@ fn a_damaged_state_is_refused() {
         assert_eq!(damaged.grow(&mut medium, 6), refused);
         assert_eq!(damaged.copy(&mut medium, Block(0)), refused);
         assert_eq!(damaged.checkpoint(&mut medium), refused);
-        assert_eq!(damaged.advance(&mut medium), Err(Refusal::NotSound));
-        assert_eq!(
-            damaged.write(&mut medium, Block(0), &piece),
-            Err(Refusal::NotSound)
-        );
-        assert_eq!(
-            damaged.read(&medium, Block(0), &mut piece),
-            Err(Refusal::NotSound)
-        );
-        assert_eq!(damaged.address(Block(0)), Err(Refusal::NotSound));
-        assert_eq!(damaged.holder(0, Row(0)), Err(Refusal::NotSound));
+        assert_eq!(damaged.advance(&mut medium).err(), refused.err());
+        let written = damaged.write(&mut medium, Block(0), &piece);
+        assert_eq!(written.err(), refused.err());
+        let read = damaged.read(&medium, Block(0), &mut piece);
+        assert_eq!(read.err(), refused.err());
+        assert_eq!(damaged.flushed().err(), refused.err());
+        assert_eq!(damaged.address(Block(0)).err(), refused.err());
+        assert_eq!(damaged.holder(0, Row(0)).err(), refused.err());
         assert_eq!(damaged, kept);
     }
     assert_eq!(medium, before);
     assert!(with_word(&volume, 14, 1).is_sound());
     assert_eq!(with_word(&volume, 2, u64::MAX).disks(), 0);
-    assert!(!State::from_words([0; 15]).is_sound());
+    assert!(!zeros().is_sound());
 }
 
-/// With a state or figures of a wrong length a function returns 100 and touches nothing, also when a refusal of document
-/// 01 fits too.
+/// With a state of a wrong length a function returns 100 and touches nothing, also when a refusal of document 01 fits too.
 #[test]
 fn wrong_lengths_touch_nothing() {
-    let (mut medium, volume) = three_disks();
+    let (mut medium, _) = three_disks();
     let before = medium.clone();
     let mut piece = [9; 512];
-    for words in (0..=17).filter(|words| *words != raw::STATE_WORDS) {
-        let mut state = [7; 17];
+    for words in (0..=18).filter(|words| *words != raw::STATE_WORDS) {
+        let mut state = [3; 18];
         let state = &mut state[..words];
         let mut figures = [8; 5];
         let answers = [
@@ -551,15 +593,25 @@ fn wrong_lengths_touch_nothing() {
             raw::checkpoint(state, &mut medium, &mut figures[..1]),
             raw::advance(state, &mut medium, &mut figures[..4]),
             raw::write(state, &mut medium, 0, &piece),
+            raw::flushed(state),
             raw::read(state, &medium, 0, &mut piece),
             raw::address(state, 0, &mut figures),
             raw::holder(state, 0, 0, &mut figures[..1]),
             raw::soundness(state),
         ];
-        assert_eq!(answers, [raw::WRONG_LENGTH; 12]);
-        assert!(state.iter().all(|word| *word == 7));
+        assert_eq!(answers, [raw::WRONG_LENGTH; 13]);
+        assert!(state.iter().all(|word| *word == 3));
         assert_eq!(figures, [8; 5]);
     }
+    assert_eq!(medium, before);
+    assert_eq!(piece, [9; 512]);
+}
+
+/// The same for figures.
+#[test]
+fn wrong_lengths_of_figures_touch_nothing() {
+    let (mut medium, volume) = three_disks();
+    let before = medium.clone();
     for words in 0..=6 {
         let mut figures = [8; 6];
         let figures = &mut figures[..words];
@@ -586,7 +638,6 @@ fn wrong_lengths_touch_nothing() {
         assert_eq!(state, volume.words());
     }
     assert_eq!(medium, before);
-    assert_eq!(piece, [9; 512]);
 }
 
 /// The same for load, also with a list that is refused.
@@ -595,16 +646,16 @@ fn load_of_wrong_lengths_touches_nothing() {
     let (_, volume) = three_disks();
     let lists = [vec![], vec![scene(0, 15)], vec![scene(15, 1)]];
     for list in &lists {
-        for words in (0..=17).filter(|words| *words != raw::STATE_WORDS) {
+        for words in (0..=18).filter(|words| *words != raw::STATE_WORDS) {
             let mut figures = [8; raw::LOAD_FIGURES];
-            let answer = raw::load(&[7; 17][..words], list, &mut figures);
+            let answer = raw::load(&[0; 18][..words], list, &mut figures);
             assert_eq!((answer, figures), (raw::WRONG_LENGTH, [8; 17]));
         }
         for words in (0..=20).filter(|words| *words != raw::LOAD_FIGURES) {
             let mut figures = [8; 20];
             let answer = raw::load(&volume.words(), list, &mut figures[..words]);
             assert_eq!((answer, figures), (raw::WRONG_LENGTH, [8; 20]));
-            let answer = raw::load(&[0; 15], list, &mut figures[..words]);
+            let answer = raw::load(&[0; raw::STATE_WORDS], list, &mut figures[..words]);
             assert_eq!((answer, figures), (raw::WRONG_LENGTH, [8; 20]));
         }
     }
@@ -654,7 +705,7 @@ fn refusals_of_load_have_zeros() {
     let (place, disks) = figures.split_first().unwrap();
     assert_eq!((*place, disks), (2, &[0; 16][..]));
     figures = [6; raw::LOAD_FIGURES];
-    assert_eq!(raw::load(&[0; 15], &list, &mut figures), 1);
+    assert_eq!(raw::load(&[0; raw::STATE_WORDS], &list, &mut figures), 1);
     assert_eq!(figures, [0; raw::LOAD_FIGURES]);
     figures = [6; raw::LOAD_FIGURES];
     assert_eq!(raw::load(&volume.words(), &[], &mut figures), 0);
@@ -663,7 +714,9 @@ fn refusals_of_load_have_zeros() {
 
 #[test]
 fn refusals_have_their_numbers() {
-    for (number, refusal) in (1..).zip(Refusal::ALL) {
+    let numbers = (1..=15).chain([18, 19]);
+    assert_eq!(numbers.clone().count(), Refusal::ALL.len());
+    for (number, refusal) in numbers.zip(Refusal::ALL) {
         assert_eq!(refusal.number(), number);
         assert_eq!(Refusal::from_number(number), Some(refusal));
         assert!(!refusal.to_string().is_empty());
@@ -682,13 +735,12 @@ fn refusals_have_their_numbers() {
 
 #[test]
 fn a_state_shows_its_numbers() {
-    let (mut medium, mut volume) = three_disks();
-    volume.grow(&mut medium, 5).unwrap();
+    let (mut medium, mut volume) = three_to_five();
     volume.advance(&mut medium).unwrap();
     assert_eq!(
         format!("{volume:?}"),
         "State { size: 512, rows: 5, growths: 1, counts: [3, 5, 0, 0, 0, 0, 0, 0], \
-         growing: 1, window: 0, recorded: 0, copied: 1 }"
+         growing: 1, window: 0, recorded: 0, copied: 1, pending: 2 }"
     );
     assert_eq!(
         (
@@ -699,5 +751,5 @@ fn a_state_shows_its_numbers() {
         ),
         (512, 5, 1, 5)
     );
-    assert_eq!(State::from_words(volume.words()), volume);
+    assert_eq!(State::from_words(volume.words()), Some(volume));
 }

@@ -83,9 +83,9 @@ impl Volume {
         }
         let v = Volume::new_state(size, rows, disks);
         v.store_record(medium);
-        let after = v.after_record();
+        let formatted = v.after_record();
         Reply {
-            state: after,
+            state: formatted,
             answer: Answer::Done,
         }
     }

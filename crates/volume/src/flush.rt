@@ -83,8 +83,9 @@ impl Volume {
         ensures { λ r. ⌜ r ≡ refusal (recordRows self) ⌝ }
     {
         let pending = self.pending;
-        if pending.records {
-            return 19;
+        let waits = self.block_refusal();
+        if waits != 0 {
+            return waits;
         }
         if pending.blocks {
             return 18;

@@ -244,9 +244,9 @@ impl Volume {
         ensures { λ r. ⌜ r ≡ advanceOutcome self (observe (now (medium .entry))) .reply ⌝ }
         ensures { λ _. ⌜ now (medium .exit) ≡ apply (geometry self) (advanceOutcome self (observe (now (medium .entry))) .store) (now (medium .entry)) ⌝ }
     {
-        let k = self.block_refusal();
-        if k != 0 {
-            return self.refuse(k);
+        let waits = self.block_refusal();
+        if waits != 0 {
+            return self.refuse(waits);
         }
         self.store_copy(counts, medium, x, p);
         let v = self.with_mark(j);

@@ -29,19 +29,7 @@ pub fn run(
             seed: random.word(),
             bytes: SECTOR as usize,
         };
-        for call in [
-            Call::Write { block, piece },
-            Call::Write {
-                block: moving,
-                piece,
-            },
-            Call::Read {
-                block: moving,
-                bytes: piece.bytes,
-            },
-            Call::Copy { block: moving },
-            Call::Advance,
-        ] {
+        for call in round(block, moving, piece) {
             let mut step = Step::new(call, medium.len());
             step.state = Some(state.to_words());
             log.clear();
@@ -52,6 +40,30 @@ pub fn run(
         }
     }
     Ok(())
+}
+
+/// Calls on any block and on a moving one. The first advance finds block stores
+/// pending, the last write may find a record store pending.
+fn round(block: u64, moving: u64, piece: Piece) -> [Call; 9] {
+    let bytes = piece.bytes;
+    let save = |block| Call::Write { block, piece };
+    let read = Call::Read {
+        block: moving,
+        bytes,
+    };
+    let copy = Call::Copy { block: moving };
+    let (advance, flushed) = (Call::Advance, Call::Flushed);
+    [
+        save(block),
+        save(moving),
+        read,
+        copy,
+        advance,
+        flushed,
+        advance,
+        save(block),
+        flushed,
+    ]
 }
 
 /// A state with two windows to go, and its medium; fewer rows if they do not
@@ -87,7 +99,7 @@ fn both(call: &Call, state: &State, medium: &mut [u8]) -> Result<State, Differen
         medium[place.clone()].copy_from_slice(bytes);
     }
     let reference = make(call, state, medium, &places, by_reference);
-    let next = State::from_words(&reference.1);
+    let next = State::from_words(&reference.1).expect("a state");
     same("a call on a big medium", library, reference)?;
     Ok(next)
 }

@@ -1,9 +1,10 @@
 //! A call's arguments, and how each side makes the call.
 
 use crate::library;
+use reference::refusal::{Refusal, NOT_SOUND};
 use reference::sample::Random;
 use reference::spot::{Block, Part, Row, Why};
-use reference::state::{State, WORDS};
+use reference::state::State;
 use reference::store::{Advanced, Next};
 use reference::{lookup, store};
 
@@ -21,10 +22,11 @@ pub enum Call {
     Address { block: u64 },
     Holder { disk: u64, row: u64 },
     Soundness,
+    Flushed,
 }
 
 /// The names of the calls, in the order of `Call::kind`.
-pub const KINDS: [&str; 11] = [
+pub const KINDS: [&str; 12] = [
     "format",
     "restart",
     "grow",
@@ -36,6 +38,7 @@ pub const KINDS: [&str; 11] = [
     "address",
     "holder",
     "soundness",
+    "flushed",
 ];
 
 /// A piece to write: random bytes from a seed.
@@ -45,6 +48,8 @@ pub struct Piece {
     pub bytes: usize,
 }
 
+/// The boundary's own refusal: a wrong length, or words that are no state.
+pub const NO_STATE: u64 = 100;
 /// Most figures of a call.
 pub const FIGURES: usize = 5;
 
@@ -62,12 +67,13 @@ impl Call {
             Call::Address { .. } => 8,
             Call::Holder { .. } => 9,
             Call::Soundness => 10,
+            Call::Flushed => 11,
         }
     }
 
     /// How many figures the call answers with.
     pub fn figures(&self) -> usize {
-        [0, 1, 1, 1, 1, 4, 0, 0, 5, 1, 0][self.kind()]
+        [0, 1, 1, 1, 1, 4, 0, 0, 5, 1, 0, 0][self.kind()]
     }
 
     /// Bytes of the piece.
@@ -86,6 +92,11 @@ impl Call {
         }
     }
 
+    /// Whether the call reads the state it is lent.
+    pub fn reads_state(&self) -> bool {
+        !matches!(self, Call::Format { .. } | Call::Restart)
+    }
+
     /// Whether an accepted call reports the advance calls left.
     pub fn reports(&self) -> bool {
         matches!(self.kind(), 1..=5)
@@ -94,7 +105,7 @@ impl Call {
 
 /// What is lent to a call.
 pub struct Lent<'a> {
-    pub state: &'a mut [u64; WORDS],
+    pub state: &'a mut [u64],
     pub medium: &'a mut [u8],
     pub piece: &'a mut [u8],
     pub figures: &'a mut [u64],
@@ -115,52 +126,91 @@ pub fn by_library(call: &Call, lent: Lent) -> u64 {
         Call::Address { block } => library::address(state, block, figures),
         Call::Holder { disk, row } => library::holder(state, disk, row, figures),
         Call::Soundness => library::soundness(state),
+        Call::Flushed => library::flushed(state),
     }
 }
 
-/// Makes the call with the reference, in the shape of the boundary.
+/// Makes the call with the reference, in the shape of the boundary. Words that
+/// are no state are refused there, with nothing touched.
 pub fn by_reference(call: &Call, lent: Lent) -> u64 {
-    let state = State::from_words(lent.state);
-    let medium = &mut *lent.medium;
+    let words = (&*lent.state).try_into().expect("as many words as a state");
+    let state = match State::from_words(words) {
+        Some(state) => state,
+        None if call.reads_state() => return NO_STATE,
+        None => State::ZEROS,
+    };
     lent.figures.fill(0);
-    let answer =
-        match *call {
-            Call::Format { z, s, disks } => {
-                let made = store::format(medium, z, s, disks);
-                *lent.state = made.unwrap_or(State::ZEROS).to_words();
-                made.map(|_| ())
-            }
-            Call::Restart => {
-                *lent.state = State::ZEROS.to_words();
-                store::restart(medium).map(|next| put_next(lent.state, lent.figures, next))
-            }
-            Call::Grow { count } => store::grow(state, medium, count)
-                .map(|next| put_next(lent.state, lent.figures, next)),
-            Call::Copy { block } => store::copy(state, medium, Block(block))
-                .map(|next| put_next(lent.state, lent.figures, next)),
-            Call::Checkpoint => store::checkpoint(state, medium)
-                .map(|next| put_next(lent.state, lent.figures, next)),
-            Call::Advance => store::advance(state, medium).map(|(next, done)| {
-                put_next(lent.state, lent.figures, next);
-                lent.figures[1..].copy_from_slice(&advanced_figures(done));
-            }),
-            Call::Write { block, .. } => store::write(&state, medium, Block(block), lent.piece),
-            Call::Read { block, .. } => store::read(&state, medium, Block(block), lent.piece),
-            Call::Address { block } => lookup::address(&state, Block(block)).map(|place| {
-                lent.figures[0] = place.spot.disk;
-                lent.figures[1] = place.spot.row.0;
-                lent.figures[2..].copy_from_slice(&why_figures(place.why));
-            }),
-            Call::Holder { disk, row } => {
-                lookup::holder(&state, disk, Row(row)).map(|block| lent.figures[0] = block.0)
-            }
-            Call::Soundness => state.sound().then_some(()).ok_or(1),
-        };
+    let answer = match call {
+        Call::Format { .. } | Call::Restart => begun(call, lent),
+        Call::Address { .. } | Call::Holder { .. } | Call::Soundness => {
+            looked_up(call, &state, lent.figures)
+        }
+        _ => made(call, state, lent),
+    };
     answer.err().unwrap_or(0)
 }
 
-fn put_next(state: &mut [u64; WORDS], figures: &mut [u64], next: Next) {
-    *state = next.0.to_words();
+/// The calls that make a state; refused, they hand back zeros.
+fn begun(call: &Call, lent: Lent) -> Result<(), Refusal> {
+    put(lent.state, &State::ZEROS);
+    if let Call::Format { z, s, disks } = *call {
+        let state = store::format(lent.medium, z, s, disks)?;
+        put(lent.state, &state);
+        return Ok(());
+    }
+    let next = store::restart(lent.medium)?;
+    put_next(lent.state, lent.figures, next);
+    Ok(())
+}
+
+/// The calls that look something up in a state.
+fn looked_up(call: &Call, state: &State, figures: &mut [u64]) -> Result<(), Refusal> {
+    match *call {
+        Call::Address { block } => {
+            let place = lookup::address(state, Block(block))?;
+            figures[..2].copy_from_slice(&[place.spot.disk, place.spot.row.0]);
+            figures[2..].copy_from_slice(&why_figures(place.why));
+        }
+        Call::Holder { disk, row } => figures[0] = lookup::holder(state, disk, Row(row))?.0,
+        _ => return state.sound().then_some(()).ok_or(NOT_SOUND),
+    }
+    Ok(())
+}
+
+/// The other calls.
+fn made(call: &Call, mut state: State, lent: Lent) -> Result<(), Refusal> {
+    let medium = lent.medium;
+    let next = match *call {
+        Call::Grow { count } => store::grow(state, medium, count)?,
+        Call::Copy { block } => store::copy(state, medium, Block(block))?,
+        Call::Checkpoint => store::checkpoint(state, medium)?,
+        Call::Advance => {
+            let (next, done) = store::advance(state, medium)?;
+            lent.figures[1..].copy_from_slice(&advanced_figures(done));
+            next
+        }
+        Call::Read { block, .. } => return store::read(&state, medium, Block(block), lent.piece),
+        Call::Write { block, .. } => {
+            store::write(&mut state, medium, Block(block), lent.piece)?;
+            put(lent.state, &state);
+            return Ok(());
+        }
+        _ => {
+            store::flushed(&mut state)?;
+            put(lent.state, &state);
+            return Ok(());
+        }
+    };
+    put_next(lent.state, lent.figures, next);
+    Ok(())
+}
+
+fn put(words: &mut [u64], state: &State) {
+    words.copy_from_slice(&state.to_words());
+}
+
+fn put_next(words: &mut [u64], figures: &mut [u64], next: Next) {
+    put(words, &next.0);
     figures[0] = next.1;
 }
 

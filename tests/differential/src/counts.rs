@@ -1,28 +1,28 @@
 //! What happened in a run, and what has to happen in a standard one.
 
-use crate::call::{Call, KINDS};
+use crate::call::{Call, KINDS, NO_STATE};
 
 /// The refusals that each call has, in the order of `KINDS`; 100 comes with all.
-const NUMBERS: [&[usize]; 11] = [
+const NUMBERS: [&[usize]; 12] = [
     &[8, 2],
     &[2, 13],
-    &[1, 6, 9, 8, 2],
-    &[1, 2, 5, 3, 10, 11],
-    &[1, 2, 5, 12],
-    &[1, 2, 5],
-    &[1, 2, 3, 4, 7],
+    &[1, 6, 9, 8, 2, 19, 18],
+    &[1, 2, 5, 3, 10, 11, 19],
+    &[1, 2, 5, 12, 19, 18],
+    &[1, 2, 5, 19, 18],
+    &[1, 2, 3, 4, 7, 19],
     &[1, 2, 3, 4],
     &[1, 3],
     &[1, 14, 15],
+    &[1],
     &[1],
 ];
 
 /// How the names of cuts begin.
 const CUT: &str = "cut: ";
-/// The boundary's own refusal.
-pub const WRONG_LENGTH: u64 = 100;
-/// Where `WRONG_LENGTH` is counted.
-const WRONG_LENGTH_AT: usize = 16;
+/// Places for the numbers of answers, and where `NO_STATE` is counted.
+const ANSWERS: usize = 21;
+const NO_STATE_AT: usize = ANSWERS - 1;
 
 /// Declares the events with their names.
 macro_rules! events {
@@ -46,6 +46,24 @@ events! {
     NewInCheckpoint: "cut: checkpoint, new record",
     OldInAdvance: "cut: advance, old record",
     NewInAdvance: "cut: advance, new record",
+    BetweenNothing: "cut: between calls, nothing pending",
+    BetweenBlocks: "cut: between calls, block stores pending",
+    BetweenOld: "cut: between calls, old record",
+    BetweenNew: "cut: between calls, new record",
+    TwoSaves: "cut between calls with two saved blocks or more pending",
+    SavedTwice: "cut between calls with two saves of one block pending",
+    SavesAndCopies: "cut between calls with saves and copies pending",
+    CopiesOnly: "cut between calls with only copies pending",
+    OtherStores: "cut in a block store with others pending",
+    GrowTakenBack: "cut between calls, old record: grow taken back",
+    RecordTakenBack: "cut between calls, old record: checkpoint taken back",
+    GrowthTakenBack: "cut between calls, old record: finished growth taken back",
+    GrowthKept: "cut between calls, new record: finished growth kept",
+    LandedOld: "pending spot with its old bytes",
+    LandedNew: "pending spot with its new bytes",
+    LandedHalf: "pending spot with some new and some old bytes",
+    LandedAny: "pending spot with random bytes",
+    LandedEarlier: "pending spot with the bytes of an earlier pending store",
     CopiedHead: "advance copied a head",
     CopiedBody: "advance copied a body",
     CopiedTail: "advance copied a tail",
@@ -58,12 +76,19 @@ events! {
     MovedTail: "address: moved as tail",
     SevenGrowths: "seventh growth finished",
     FullRuns: "growth run to its end by the calls left",
+    FlushedInRun: "flushed between the advances of such a run",
+    RefusedInRun: "refused call between the advances of such a run",
+    OutsideLists: "list that the guarantee does not cover",
+    PendingRestart: "restart without a cut while stores are pending",
+    PendingFormat: "format while stores are pending",
     DroppedCopies: "restart dropped copied blocks",
     RestartNoRecord: "restart: too short for a record",
     RestartFewDisks: "restart: too short for the disks",
     UnsoundStates: "damaged state not sound",
     StillSound: "damaged state still sound",
     WordsOutOfRange: "state word out of range",
+    NoState: "last word above 3: no state",
+    BothPending: "record store and block stores pending in one state",
     BadRecords: "damaged record refused",
     GoodRecords: "damaged record still sound",
     ByteRefused: "one byte changed: refused",
@@ -79,7 +104,7 @@ events! {
 
 #[derive(Clone)]
 pub struct Counts {
-    calls: [[u64; 17]; 11],
+    calls: [[u64; ANSWERS]; KINDS.len()],
     events: Vec<u64>,
     pub lists: u64,
     /// Calls made in lists, read-backs not counted.
@@ -92,7 +117,7 @@ pub struct Counts {
 impl Counts {
     pub fn new() -> Counts {
         Counts {
-            calls: [[0; 17]; 11],
+            calls: [[0; ANSWERS]; KINDS.len()],
             events: vec![0; EVENTS.len()],
             lists: 0,
             list_calls: 0,
@@ -108,7 +133,7 @@ impl Counts {
     /// Counts a library call and what its answer tells.
     pub fn call(&mut self, call: &Call, number: u64, figures: &[u64]) {
         let at = match number {
-            WRONG_LENGTH => WRONG_LENGTH_AT,
+            NO_STATE => NO_STATE_AT,
             _ => number as usize,
         };
         self.calls[call.kind()][at] += 1;
@@ -151,7 +176,7 @@ impl Counts {
     pub fn missing(&self) -> Vec<String> {
         let mut missing = Vec::new();
         for (kind, name) in KINDS.iter().enumerate() {
-            let numbers = [0, WRONG_LENGTH_AT].iter().chain(NUMBERS[kind]);
+            let numbers = [0, NO_STATE_AT].iter().chain(NUMBERS[kind]);
             for &number in numbers.filter(|&&number| self.calls[kind][number] == 0) {
                 missing.push(format!("{name} answering {}", shown(number)));
             }
@@ -208,7 +233,7 @@ impl Counts {
 
 fn shown(number: usize) -> u64 {
     match number {
-        WRONG_LENGTH_AT => WRONG_LENGTH,
+        NO_STATE_AT => NO_STATE,
         _ => number as u64,
     }
 }

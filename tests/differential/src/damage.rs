@@ -1,8 +1,7 @@
 //! Damaged states and records, and slices of wrong lengths.
 
-use crate::call::{Call, Piece, FIGURES, KINDS};
-use crate::counts::{Counts, Event, WRONG_LENGTH};
-use crate::library;
+use crate::call::{by_library, Call, Lent, Piece, FIGURES, KINDS, NO_STATE};
+use crate::counts::{Counts, Event};
 use crate::pair::{same, Changed, Difference, Pair};
 use crate::report::Step;
 use reference::limits::{DISKS, RECORD};
@@ -50,10 +49,14 @@ pub fn states(
 }
 
 fn note_state(words: &[u64; WORDS], counts: &mut Counts) {
-    counts.event(match State::from_words(words).sound() {
-        true => Event::StillSound,
-        false => Event::UnsoundStates,
+    counts.event(match State::from_words(words) {
+        None => Event::NoState,
+        Some(state) if state.sound() => Event::StillSound,
+        Some(_) => Event::UnsoundStates,
     });
+    if words[15] == 3 {
+        counts.event(Event::BothPending);
+    }
     if words[..13].iter().any(|&word| word > 1_000_000) {
         counts.event(Event::WordsOutOfRange);
     }
@@ -91,7 +94,8 @@ fn call_of(random: &mut Random, kind: usize, state: &State) -> Call {
             disk: random.below(state.disks() + 1),
             row: random.below(state.s + 1),
         },
-        _ => Call::Soundness,
+        10 => Call::Soundness,
+        _ => Call::Flushed,
     }
 }
 
@@ -223,25 +227,16 @@ fn wrong_length(
     let mut lent_figures = [9; FIGURES + 1];
     let mut piece = vec![5; call.piece_bytes()];
     let before = (lent_state, lent_figures, piece.clone(), medium.to_vec());
-    let number = {
-        let (state, figures) = (&mut lent_state[..words], &mut lent_figures[..figures]);
-        match *call {
-            Call::Format { z, s, disks } => library::format(state, medium, z, s, disks),
-            Call::Restart => library::restart(state, medium, figures),
-            Call::Grow { count } => library::grow(state, medium, count, figures),
-            Call::Copy { block } => library::copy(state, medium, block, figures),
-            Call::Checkpoint => library::checkpoint(state, medium, figures),
-            Call::Advance => library::advance(state, medium, figures),
-            Call::Write { block, .. } => library::write(state, medium, block, &piece),
-            Call::Read { block, .. } => library::read(state, medium, block, &mut piece),
-            Call::Address { block } => library::address(state, block, figures),
-            Call::Holder { disk, row } => library::holder(state, disk, row, figures),
-            Call::Soundness => library::soundness(state),
-        }
+    let lent = Lent {
+        state: &mut lent_state[..words],
+        medium: &mut *medium,
+        piece: &mut piece,
+        figures: &mut lent_figures[..figures],
     };
+    let number = by_library(call, lent);
     counts.call(call, number, &[0; FIGURES]);
     counts.comparisons += 5;
-    same("the number for a wrong length", number, WRONG_LENGTH)?;
+    same("the number for a wrong length", number, NO_STATE)?;
     let after = (lent_state, lent_figures, piece, medium.to_vec());
     same("what a wrong length left", after, before)
 }

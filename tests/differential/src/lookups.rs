@@ -5,7 +5,7 @@ use crate::counts::{Counts, Event};
 use crate::pair::{Changed, Difference, Pair};
 use crate::report::Step;
 use reference::sample::{sound_state, Random};
-use reference::state::State;
+use reference::state::{Pending, State};
 
 /// Looks up every block and spot at every stage of a growth.
 pub fn sweep(
@@ -21,11 +21,12 @@ pub fn sweep(
     };
     state.z = 512;
     (state.w, state.recorded, state.copied) = (0, 0, 0);
+    state.pending = Pending::NOTHING;
     let mut pair = Pair::new(vec![0; state.bytes(state.disks()) as usize]);
     pair.set_state(&state.to_words());
     let mut lookups = Pair::new(Vec::new());
     loop {
-        let state = State::from_words(pair.state());
+        let state = State::from_words(pair.state()).expect("a state");
         look_at_all(&mut lookups, &state, log, counts)?;
         if state.growing == 0 {
             return Ok(());
@@ -38,7 +39,9 @@ pub fn sweep(
             _ => Call::Advance,
         };
         let bytes = pair.medium().len();
-        pair.run(&call, bytes, Changed::AsReference, counts)?;
+        for call in [call, Call::Flushed] {
+            pair.run(&call, bytes, Changed::AsReference, counts)?;
+        }
     }
 }
 

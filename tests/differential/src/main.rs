@@ -4,6 +4,7 @@
 //! that long from a seed. Exits with 1 at any difference.
 
 mod big;
+mod cache;
 mod call;
 mod counts;
 mod damage;

@@ -1,16 +1,12 @@
-//! The plain volume and the tally, stepped call by call.
-//!
-//! They see a call's arguments, whether it was accepted, and at a cut which
-//! record it left; nothing of the state or of the record.
+//! The plain volume and the tally beside a list of calls.
 
 use crate::call::Call;
 use crate::library;
 use crate::pair::{same, same_bytes, Difference};
+use reference::followed::Followed;
 use reference::limits::RECORD;
-use reference::plain::Plain;
 use reference::refusal::NOT_OPEN;
 use reference::spot::{Block, Spot};
-use reference::tally::Tally;
 use std::ops::Range;
 
 /// Where an accepted call stores.
@@ -34,8 +30,7 @@ impl Store {
 #[derive(Clone)]
 pub struct Model {
     pub z: u64,
-    pub plain: Plain,
-    pub tally: Tally,
+    pub followed: Followed,
     /// The advance calls left by the last report.
     pub reported: u64,
 }
@@ -44,35 +39,52 @@ impl Model {
     pub fn format(z: u64, s: u64, disks: u64) -> Model {
         Model {
             z,
-            plain: Plain::format(disks * s),
-            tally: Tally::format(s, disks),
+            followed: Followed::format(s, disks),
             reported: 0,
         }
     }
 
+    /// The number of open blocks.
+    pub fn open(&self) -> u64 {
+        self.followed.plain.open()
+    }
+
+    pub fn growing(&self) -> bool {
+        self.followed.tally.growing()
+    }
+
+    pub fn disks(&self) -> u64 {
+        self.followed.tally.disks()
+    }
+
+    /// Rows on each disk.
+    pub fn rows(&self) -> u64 {
+        self.followed.tally.s()
+    }
+
     fn bytes_of(&self, spot: Spot) -> Range<usize> {
-        let at = RECORD as u64 + (spot.disk * self.tally.s() + spot.row.0) * self.z;
+        let at = RECORD as u64 + (spot.disk * self.rows() + spot.row.0) * self.z;
         at as usize..(at + self.z) as usize
     }
 
     /// The bytes that the record and `disks` disks take.
     pub fn bytes(&self, disks: u64) -> usize {
-        RECORD + (disks * self.tally.s() * self.z) as usize
+        RECORD + (disks * self.rows() * self.z) as usize
     }
 
     /// Where the call stores if it is accepted; anything if it cannot be.
     pub fn store_of(&self, call: &Call) -> Store {
-        let open = self.plain.open();
+        let (open, tally) = (self.open(), &self.followed.tally);
         match *call {
             Call::Format { .. } | Call::Grow { .. } | Call::Checkpoint => Store::Record,
             Call::Write { block, .. } if block < open => {
-                Store::Spot(self.bytes_of(self.tally.live(Block(block))))
+                Store::Spot(self.bytes_of(tally.live(Block(block))))
             }
-            Call::Copy { block } if self.tally.growing() && block < open => {
-                let step = self.tally.move_of(Block(block));
+            Call::Copy { block } if self.growing() && block < open => {
+                let step = tally.move_of(Block(block));
                 step.map_or(Store::Nothing, |step| Store::Spot(self.bytes_of(step.new)))
             }
-            Call::Advance if self.tally.growing() => match self.tally.next_copy() {
+            Call::Advance if self.growing() => match tally.next_copy() {
                 Some(step) => Store::Spot(self.bytes_of(step.new)),
                 None => Store::Record,
             },
@@ -80,50 +92,51 @@ impl Model {
         }
     }
 
-    /// Steps both by an accepted call; `piece` is the one it was lent.
+    /// Steps both by an accepted call other than format; `piece` is the one it
+    /// was lent.
     pub fn made(&mut self, call: &Call, piece: &[u8]) {
-        let grew = self.tally.growing();
+        let followed = &mut self.followed;
         match *call {
-            Call::Format { z, s, disks } => *self = Model::format(z, s, disks),
-            Call::Restart => self.tally.restart(),
-            Call::Grow { count } => self.tally.grow(count),
-            Call::Copy { block } => self.tally.copy(Block(block)),
-            Call::Checkpoint => self.tally.checkpoint(),
-            Call::Advance => self.tally.advance(),
-            Call::Write { block, .. } => self.plain.write(Block(block), piece),
-            _ => return,
-        }
-        if grew && !self.tally.growing() {
-            self.plain.grown(self.tally.disks() * self.tally.s());
+            Call::Restart => followed.restart(),
+            Call::Grow { count } => followed.grow(count),
+            Call::Copy { block } => followed.copy(Block(block)),
+            Call::Checkpoint => followed.checkpoint(),
+            Call::Advance => followed.advance(),
+            Call::Write { block, .. } => followed.write(Block(block), piece),
+            Call::Flushed => followed.flushed(),
+            _ => {}
         }
     }
 
-    /// Steps both by a cut in a block store.
-    pub fn torn(&mut self, call: &Call) {
-        if let Call::Write { block, .. } = *call {
-            self.plain.cut_write(Block(block));
+    /// Steps both by a call other than format that a cut fell in. The record
+    /// is stored, old or new; nothing of a copy is left but bytes in its spot.
+    pub fn cut_in(&mut self, call: &Call, store: &Store) {
+        match *call {
+            Call::Write { block, .. } => self.followed.cut_in_write(Block(block)),
+            _ if *store == Store::Record => self.made(call, &[]),
+            _ => {}
         }
     }
 
-    /// Reads back every open block with the library: the plain volume's bytes
-    /// if it is set, and in any case those at its live spot, which the library
-    /// has to give as its address.
-    pub fn read_back(&self, state: &[u64], medium: &[u8]) -> Result<(), Difference> {
+    /// Reads back every open block with the library: the bytes at its live
+    /// spot, which the library has to give as its address, and where they are
+    /// `held` to the plain volume, the block's bytes if it is set.
+    pub fn read_back(&self, state: &[u64], medium: &[u8], held: bool) -> Result<(), Difference> {
         let mut piece = vec![0; self.z as usize];
-        for x in (0..self.plain.open()).map(Block) {
+        for x in (0..self.open()).map(Block) {
             let number = library::read(state, medium, x.0, &mut piece);
             same("the number of a read-back", number, 0)?;
-            if let Some(bytes) = self.plain.bytes(x) {
+            if let (Some(bytes), true) = (self.followed.plain.bytes(x), held) {
                 same_bytes("a block of the plain volume", &piece, bytes)?;
             }
-            let spot = self.tally.live(x);
+            let spot = self.followed.tally.live(x);
             let bytes = &medium[self.bytes_of(spot)];
             same_bytes("a block at its live spot", &piece, bytes)?;
             let mut figures = [0; 5];
             library::address(state, x.0, &mut figures);
             same("a live spot", &figures[..2], &[spot.disk, spot.row.0])?;
         }
-        let number = library::read(state, medium, self.plain.open(), &mut piece);
+        let number = library::read(state, medium, self.open(), &mut piece);
         same("a read past the open blocks", number, NOT_OPEN)
     }
 }

@@ -1,9 +1,17 @@
 //! What is told about a difference.
 
 use crate::call::Call;
-use crate::list::Cut;
+use crate::model::Store;
 use crate::pair::Difference;
+use reference::followed::Left;
 use reference::state::WORDS;
+
+/// A cut, and the record that it left where a record store was pending.
+#[derive(Clone, PartialEq, Eq, Debug)]
+pub enum Cut {
+    In(Store, Left),
+    After(Left),
+}
 
 /// A call of a list.
 pub struct Step {
@@ -11,7 +19,8 @@ pub struct Step {
     bytes: usize,
     /// The damaged state it was made with.
     pub state: Option<[u64; WORDS]>,
-    pub cut: Option<Cut>,
+    /// Cuts in its store, or after it and before the next call.
+    pub cuts: Vec<Cut>,
     /// The answer's number, once both sides agree.
     pub number: Option<u64>,
 }
@@ -22,7 +31,7 @@ impl Step {
             call,
             bytes,
             state: None,
-            cut: None,
+            cuts: Vec::new(),
             number: None,
         }
     }
@@ -39,8 +48,8 @@ pub fn print(seed: u64, list: u64, log: &[Step], difference: &Difference) {
         if let Some(state) = step.state {
             print!(", with state {state:?}");
         }
-        if let Some(cut) = step.cut {
-            print!(", cut: {cut:?}");
+        if !step.cuts.is_empty() {
+            print!(", cut: {:?}", step.cuts);
         }
         println!();
     }

@@ -1,10 +1,12 @@
-//! The growing striped volume, written from document 01 alone.
+//! The growing striped volume, written from document 01 and W4 of document 02
+//! alone.
 //!
 //! Everything but `fast` is plain: definitions are followed word for word and
 //! searches and counts go over the blocks themselves. `fast` has the same
 //! calls with the same checks in closed form.
 
 pub mod fast;
+pub mod followed;
 pub mod limits;
 pub mod lookup;
 pub mod plain;

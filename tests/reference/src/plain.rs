@@ -19,8 +19,8 @@ impl Plain {
         self.blocks[x.0 as usize] = Some(piece.to_vec());
     }
 
-    /// A cut fell in a write of this block.
-    pub fn cut_write(&mut self, x: Block) {
+    /// The block was written after the last flushed or restart before a cut.
+    pub fn unset(&mut self, x: Block) {
         self.blocks[x.0 as usize] = None;
     }
 

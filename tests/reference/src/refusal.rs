@@ -18,3 +18,5 @@ pub const NOTHING_TO_RECORD: Refusal = 12;
 pub const NO_RECORD: Refusal = 13;
 pub const NO_SUCH_SPOT: Refusal = 14;
 pub const NOBODY_THERE: Refusal = 15;
+pub const BLOCKS_PENDING: Refusal = 18;
+pub const RECORD_PENDING: Refusal = 19;

@@ -2,7 +2,7 @@
 
 use crate::limits;
 use crate::record;
-use crate::state::{State, WORDS};
+use crate::state::{Pending, State, WORDS};
 
 /// A splitmix64 generator.
 #[derive(Clone, Debug)]
@@ -87,7 +87,8 @@ pub fn growing(counts: &[u64], s: u64, w: u64, recorded: u64) -> State {
     }
 }
 
-/// A sound state with up to `rows` rows; most often a growth runs.
+/// A sound state with up to `rows` rows; most often a growth runs. Anything
+/// may be pending.
 pub fn sound_state(random: &mut Random, rows: u64) -> State {
     let mut state = State::ZEROS;
     state.z = limits::SECTOR * random.pick(&[1, 1, 1, 2, 3, 128]);
@@ -100,6 +101,8 @@ pub fn sound_state(random: &mut Random, rows: u64) -> State {
         state.w = random.pick(&[0, windows - 1, any]);
         put_marks(random, &mut state);
     }
+    let pending = random.pick(&[0, 0, 0, 0, 1, 2, 2, 3]);
+    state.pending = Pending::from_word(pending).expect("at most 3");
     state
 }
 
@@ -133,7 +136,8 @@ fn put_marks(random: &mut Random, state: &mut State) {
     }
 }
 
-/// The words of a state with one or a few of them changed.
+/// The words of a state with one or a few of them changed. They may make no
+/// state.
 pub fn damage(random: &mut Random, state: &State) -> [u64; WORDS] {
     let mut words = state.to_words();
     for _ in 0..random.pick(&[1, 1, 1, 2, 3]) {
@@ -157,7 +161,10 @@ pub fn damaged_record(random: &mut Random, state: &State) -> [u8; limits::RECORD
     let mut bytes = record::write(state);
     match random.below(8) {
         0 => random.fill(&mut bytes),
-        1 => bytes = record::write(&State::from_words(&damage(random, state))),
+        1 => {
+            let damaged = State::from_words(&damage(random, state));
+            bytes = record::write(&damaged.unwrap_or(*state));
+        }
         2 => swap_columns(random, &mut bytes),
         3 => zeros_before(random, &mut bytes),
         4 => bytes.copy_within(0..511, 1),

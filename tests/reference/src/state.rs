@@ -6,7 +6,33 @@ use crate::window::Growth;
 use std::ops::Range;
 
 /// Words of a state at the library's boundary.
-pub const WORDS: usize = 15;
+pub const WORDS: usize = 16;
+
+/// Which stores are pending: made, and not yet told to be down by a flushed.
+#[derive(Clone, Copy, PartialEq, Eq, Debug, Default)]
+pub struct Pending {
+    pub record: bool,
+    pub blocks: bool,
+}
+
+impl Pending {
+    pub const NOTHING: Pending = Pending {
+        record: false,
+        blocks: false,
+    };
+
+    /// Above 3 a word tells nothing.
+    pub fn from_word(word: u64) -> Option<Pending> {
+        (word <= 3).then_some(Pending {
+            record: word & 1 != 0,
+            blocks: word & 2 != 0,
+        })
+    }
+
+    pub fn to_word(self) -> u64 {
+        self.record as u64 + 2 * self.blocks as u64
+    }
+}
 
 /// Any numbers at all may stand here; `sound` tells which make a state.
 #[derive(Clone, Copy, PartialEq, Eq, Debug, Default)]
@@ -19,6 +45,8 @@ pub struct State {
     pub w: u64,
     pub recorded: u64,
     pub copied: u64,
+    /// Kept in memory only; any value is sound.
+    pub pending: Pending,
 }
 
 impl State {
@@ -32,12 +60,14 @@ impl State {
         w: 0,
         recorded: 0,
         copied: 0,
+        pending: Pending::NOTHING,
     };
 
-    pub fn from_words(words: &[u64; WORDS]) -> State {
+    /// Words make a state when the last one tells what is pending.
+    pub fn from_words(words: &[u64; WORDS]) -> Option<State> {
         let mut counts = [0; 8];
         counts.copy_from_slice(&words[3..11]);
-        State {
+        Some(State {
             z: words[0],
             s: words[1],
             t: words[2],
@@ -46,14 +76,16 @@ impl State {
             w: words[12],
             recorded: words[13],
             copied: words[14],
-        }
+            pending: Pending::from_word(words[15])?,
+        })
     }
 
     pub fn to_words(&self) -> [u64; WORDS] {
         let mut words = [0; WORDS];
         words[..3].copy_from_slice(&[self.z, self.s, self.t]);
         words[3..11].copy_from_slice(&self.counts);
-        words[11..].copy_from_slice(&[self.growing, self.w, self.recorded, self.copied]);
+        words[11..15].copy_from_slice(&[self.growing, self.w, self.recorded, self.copied]);
+        words[15] = self.pending.to_word();
         words
     }
 

@@ -4,7 +4,7 @@ use crate::limits::{self, RECORD};
 use crate::record;
 use crate::refusal::*;
 use crate::spot::{Block, Part};
-use crate::state::{marked, State};
+use crate::state::{marked, Pending, State};
 
 /// What an advance did.
 #[derive(Clone, Copy, PartialEq, Eq, Debug)]
@@ -24,7 +24,7 @@ pub fn format(medium: &mut [u8], z: u64, s: u64, disks: u64) -> Result<State, Re
     let mut state = State::ZEROS;
     (state.z, state.s, state.counts[0]) = (z, s, disks);
     holds(medium, &state, disks)?;
-    store_record(medium, &state);
+    store_record(medium, &mut state);
     Ok(state)
 }
 
@@ -49,15 +49,17 @@ pub fn grow(state: State, medium: &mut [u8], count: u64) -> Result<Next, Refusal
         return Err(OUTSIDE_LIMITS);
     }
     holds(medium, &state, count)?;
+    no_store_pending(&state)?;
     let mut next = state;
     next.t += 1;
     next.counts[next.t as usize] = count;
     next.growing = 1;
-    store_record(medium, &next);
+    store_record(medium, &mut next);
     Ok((next, next.calls_left()))
 }
 
-pub fn write(state: &State, medium: &mut [u8], x: Block, piece: &[u8]) -> Result<(), Refusal> {
+/// Changes the state only in what is pending.
+pub fn write(state: &mut State, medium: &mut [u8], x: Block, piece: &[u8]) -> Result<(), Refusal> {
     ready(state, medium)?;
     open(state, x)?;
     if piece.len() as u64 != state.z {
@@ -66,7 +68,16 @@ pub fn write(state: &State, medium: &mut [u8], x: Block, piece: &[u8]) -> Result
     if waits(state, x) {
         return Err(UNRECORDED);
     }
+    no_record_pending(state)?;
     medium[state.bytes_of(state.live(x).spot)].copy_from_slice(piece);
+    state.pending.blocks = true;
+    Ok(())
+}
+
+/// All earlier stores are down.
+pub fn flushed(state: &mut State) -> Result<(), Refusal> {
+    sound(state)?;
+    state.pending = Pending::NOTHING;
     Ok(())
 }
 
@@ -100,10 +111,12 @@ pub fn copy(state: State, medium: &mut [u8], x: Block) -> Result<Next, Refusal> 
     if marked(state.copied, step.mark) {
         return Err(COPIED_ALREADY);
     }
+    no_record_pending(&state)?;
     let bytes = medium[state.bytes_of(step.old)].to_vec();
     medium[state.bytes_of(step.new)].copy_from_slice(&bytes);
     let mut next = state;
     next.copied |= 1 << step.mark;
+    next.pending.blocks = true;
     Ok((next, next.calls_left()))
 }
 
@@ -113,6 +126,7 @@ pub fn checkpoint(state: State, medium: &mut [u8]) -> Result<Next, Refusal> {
     if state.copied == state.recorded {
         return Err(NOTHING_TO_RECORD);
     }
+    no_store_pending(&state)?;
     let mut next = state;
     next.recorded = next.copied;
     if next.recorded == next.moving_marks() {
@@ -122,7 +136,7 @@ pub fn checkpoint(state: State, medium: &mut [u8]) -> Result<Next, Refusal> {
             (next.growing, next.w) = (0, 0);
         }
     }
-    store_record(medium, &next);
+    store_record(medium, &mut next);
     Ok((next, next.calls_left()))
 }
 
@@ -145,8 +159,9 @@ pub fn advance(state: State, medium: &mut [u8]) -> Result<(Next, Advanced), Refu
     Ok((next, done))
 }
 
-fn store_record(medium: &mut [u8], state: &State) {
+fn store_record(medium: &mut [u8], state: &mut State) {
     medium[..RECORD].copy_from_slice(&record::write(state));
+    state.pending.record = true;
 }
 
 /// The first two checks of most calls.
@@ -166,6 +181,17 @@ fn holds(medium: &[u8], state: &State, disks: u64) -> Result<(), Refusal> {
 
 fn growing(state: &State) -> Result<(), Refusal> {
     (state.growing == 1).then_some(()).ok_or(NOT_GROWING)
+}
+
+/// The last check before a block store.
+fn no_record_pending(state: &State) -> Result<(), Refusal> {
+    (!state.pending.record).then_some(()).ok_or(RECORD_PENDING)
+}
+
+/// The last checks before a record store.
+fn no_store_pending(state: &State) -> Result<(), Refusal> {
+    no_record_pending(state)?;
+    (!state.pending.blocks).then_some(()).ok_or(BLOCKS_PENDING)
 }
 
 pub(crate) fn open(state: &State, x: Block) -> Result<(), Refusal> {

@@ -51,13 +51,6 @@ impl Tally {
         }
     }
 
-    pub fn advance(&mut self) {
-        match self.next_copy() {
-            Some(step) => self.copy(step.block),
-            None => self.checkpoint(),
-        }
-    }
-
     pub fn restart(&mut self) {
         self.copied = self.recorded.clone();
     }

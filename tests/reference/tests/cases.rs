@@ -1,4 +1,4 @@
-//! The cases that document 01 works out.
+//! The cases that document 01 works out, with a flushed after each store.
 
 use reference::limits::RECORD;
 use reference::lookup::{address, holder};
@@ -6,7 +6,9 @@ use reference::record;
 use reference::refusal::*;
 use reference::spot::{after, blocks_of_row, Block, Part, Row, Spot, Why};
 use reference::state::State;
-use reference::store::{advance, checkpoint, copy, format, grow, restart, write, Advanced};
+use reference::store::{
+    advance, checkpoint, copy, flushed, format, grow, restart, write, Advanced, Next,
+};
 
 fn spot(disk: u64, row: u64) -> Spot {
     let row = Row(row);
@@ -44,12 +46,23 @@ fn layout_cases_10_and_11() {
     assert_eq!(place(&[4, 6], 6, 9), ((4, 2), moved(1, Part::Body)));
 }
 
+/// The state with all stores down.
+fn down(mut state: State) -> State {
+    flushed(&mut state).unwrap();
+    state
+}
+
+/// The same for the answer of a call.
+fn next(answer: Result<Next, Refusal>) -> State {
+    down(answer.unwrap().0)
+}
+
 /// A medium and state under growth from 3 to 5 disks, and the calls left.
 fn three_to_five(s: u64) -> (Vec<u8>, State, u64) {
     let mut medium = vec![0; RECORD + 5 * s as usize * 512];
-    let state = format(&mut medium, 512, s, 3).unwrap();
+    let state = down(format(&mut medium, 512, s, 3).unwrap());
     let (state, left) = grow(state, &mut medium, 5).unwrap();
-    (medium, state, left)
+    (medium, down(state), left)
 }
 
 #[test]
@@ -61,7 +74,7 @@ fn layout_case_12() {
             let ((next, left), done) = advance(state, &mut medium).unwrap();
             assert_eq!(left, calls - call);
             assert_eq!(done == Advanced::Finished, call == calls);
-            state = next;
+            state = down(next);
         }
         assert_eq!(advance(state, &mut medium), Err(NOT_GROWING));
     }
@@ -69,19 +82,18 @@ fn layout_case_12() {
 
 #[test]
 fn during_three_to_five() {
-    let (mut medium, state, _) = three_to_five(5);
+    let (mut medium, mut state, _) = three_to_five(5);
     let piece = [7; 512];
     assert!(address(&state, Block(14)).is_ok());
     assert_eq!(address(&state, Block(15)), Err(NOT_OPEN));
-    assert_eq!(write(&state, &mut medium, Block(15), &piece), Err(NOT_OPEN));
-    let (state, _) = copy(state, &mut medium, Block(0)).unwrap();
-    assert_eq!(
-        write(&state, &mut medium, Block(0), &piece),
-        Err(UNRECORDED)
-    );
-    let (state, _) = checkpoint(state, &mut medium).unwrap();
+    let refused = write(&mut state, &mut medium, Block(15), &piece);
+    assert_eq!(refused, Err(NOT_OPEN));
+    state = next(copy(state, &mut medium, Block(0)));
+    let refused = write(&mut state, &mut medium, Block(0), &piece);
+    assert_eq!(refused, Err(UNRECORDED));
+    state = next(checkpoint(state, &mut medium));
     let before = medium.clone();
-    write(&state, &mut medium, Block(0), &piece).unwrap();
+    write(&mut state, &mut medium, Block(0), &piece).unwrap();
     assert_eq!(medium[..8192], before[..8192]);
     assert_eq!(medium[8192..8704], piece);
     assert_eq!(medium[8704..], before[8704..]);
@@ -91,9 +103,9 @@ fn during_three_to_five() {
 fn record_example() {
     let (mut medium, mut state, _) = three_to_five(5);
     for x in [0, 3] {
-        state = copy(state, &mut medium, Block(x)).unwrap().0;
+        state = next(copy(state, &mut medium, Block(x)));
     }
-    state = checkpoint(state, &mut medium).unwrap().0;
+    state = next(checkpoint(state, &mut medium));
     let mut text = String::new();
     for field in ["512", "5", "1", "3", "5", "", "", "", "", "", "", "1", "0"] {
         text += &format!("{field:>10}");
@@ -138,7 +150,7 @@ fn holder_finds_every_open_block_and_no_other() {
             assert_eq!(holder(&state, d, Row(b)), found.ok_or(NOBODY_THERE));
         }
         if state.growing == 1 {
-            state = advance(state, &mut medium).unwrap().0 .0;
+            state = down(advance(state, &mut medium).unwrap().0 .0);
         }
     }
     assert_eq!(holder(&state, 5, Row(0)), Err(NO_SUCH_SPOT));

@@ -1,9 +1,11 @@
 //! The fast calls answer as the plain ones do.
 
 use reference::limits::RECORD;
+use reference::refusal::{BLOCKS_PENDING, RECORD_PENDING};
 use reference::sample::{damage, damaged_record, sound_state, Random};
 use reference::spot::{Block, Row};
 use reference::state::State;
+use reference::store::Advanced;
 use reference::{fast, lookup, record, store};
 
 const ROUNDS: u64 = 2_000;
@@ -12,7 +14,7 @@ const ROUNDS: u64 = 2_000;
 fn any_state(random: &mut Random) -> State {
     let state = sound_state(random, 40);
     if random.percent(30) {
-        State::from_words(&damage(random, &state))
+        State::from_words(&damage(random, &state)).unwrap_or(state)
     } else {
         state
     }
@@ -65,8 +67,13 @@ fn soundness_of_damaged_states() {
     let mut random = Random::new(2);
     for _ in 0..20 * ROUNDS {
         let state = sound_state(&mut random, 40);
-        let state = State::from_words(&damage(&mut random, &state));
+        let Some(mut state) = State::from_words(&damage(&mut random, &state)) else {
+            continue;
+        };
         assert_eq!(fast::sound(&state), state.sound(), "{state:?}");
+        let mut other = state;
+        assert_eq!(fast::flushed(&mut state), store::flushed(&mut other));
+        assert_eq!(state, other);
     }
 }
 
@@ -74,7 +81,7 @@ fn soundness_of_damaged_states() {
 fn reads_and_writes() {
     let mut random = Random::new(3);
     for _ in 0..ROUNDS {
-        let state = any_state(&mut random);
+        let mut state = any_state(&mut random);
         let mut medium = any_medium(&mut random, &state);
         let mut other = medium.clone();
         for _ in 0..20 {
@@ -89,11 +96,16 @@ fn reads_and_writes() {
             );
             assert_eq!(piece, copy);
             random.fill(&mut piece);
+            let mut same = state;
             assert_eq!(
-                fast::write(&state, &mut medium, x, &piece),
-                store::write(&state, &mut other, x, &piece)
+                fast::write(&mut state, &mut medium, x, &piece),
+                store::write(&mut same, &mut other, x, &piece)
             );
+            assert_eq!(state, same);
             assert_eq!(medium, other);
+            if random.percent(30) {
+                let _ = fast::flushed(&mut state);
+            }
         }
     }
 }
@@ -101,6 +113,7 @@ fn reads_and_writes() {
 #[test]
 fn growths() {
     let mut random = Random::new(4);
+    let (mut recorded, mut waited) = (0, 0);
     for _ in 0..ROUNDS {
         let mut state = any_state(&mut random);
         let mut medium = any_medium(&mut random, &state);
@@ -119,8 +132,14 @@ fn growths() {
             assert_eq!(advanced, store::advance(state, &mut other));
             state = advanced.map_or(state, |next| next.0 .0);
             assert_eq!(medium, other);
+            recorded += matches!(advanced, Ok((_, Advanced::Recorded))) as u64;
+            waited += matches!(advanced, Err(BLOCKS_PENDING | RECORD_PENDING)) as u64;
+            if random.percent(50) {
+                let _ = fast::flushed(&mut state);
+            }
         }
     }
+    assert!(recorded > 200 && waited > 1_000, "{recorded} and {waited}");
 }
 
 #[test]

@@ -3,7 +3,7 @@
 
 use reference::refusal::NOT_SOUND;
 use reference::spot::Block;
-use reference::state::State;
+use reference::state::{State, WORDS};
 use streterva::raw::{self, Scene};
 
 /// Disks that an answer has numbers for.
@@ -55,6 +55,15 @@ pub fn not_sound() -> Answer {
     }
 }
 
+/// The answer to words that are no state: every figure stays as it was.
+pub fn no_state() -> Answer {
+    Answer {
+        number: raw::WRONG_LENGTH,
+        place: BEFORE,
+        served: [BEFORE; DISKS],
+    }
+}
+
 /// What load must answer.
 pub fn expected(state: &State, scenes: &[Scene]) -> Answer {
     if !state.sound() {
@@ -80,15 +89,20 @@ fn reaches_past(state: &State, scene: &Scene) -> bool {
     scene.count > 0 && end > state.open() as u128
 }
 
-/// What load answers. The words around the figures stay as they were, and so
-/// does the state.
+/// What load answers.
 pub fn answer(state: &State, scenes: &[Scene]) -> Answer {
-    let words = state.to_words();
+    answer_to(&state.to_words(), scenes)
+}
+
+/// What load answers to any words. The words around the figures stay as they
+/// were, and so does the state.
+pub fn answer_to(words: &[u64; WORDS], scenes: &[Scene]) -> Answer {
+    let lent_words = *words;
     let mut lent = [BEFORE; raw::LOAD_FIGURES + 2];
-    let number = raw::load(&words, scenes, &mut lent[1..=raw::LOAD_FIGURES]);
+    let number = raw::load(&lent_words, scenes, &mut lent[1..=raw::LOAD_FIGURES]);
     let [before, place, numbers @ .., after] = lent;
     assert_eq!((before, after), (BEFORE, BEFORE));
-    assert_eq!(State::from_words(&words), *state);
+    assert_eq!(lent_words, *words);
     Answer {
         number,
         place,

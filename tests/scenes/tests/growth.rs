@@ -7,12 +7,16 @@ use streterva::{self as library, Block, Refusal};
 
 /// The state, as the reference has it.
 fn plain(volume: &library::State) -> State {
-    State::from_words(&volume.words())
+    State::from_words(&volume.words()).expect("a state")
 }
 
-/// One call of a growth, taken at random. A checkpoint may have nothing to
-/// record, and a block not be one to copy.
+/// One call of a growth, taken at random, most often with nothing pending. A
+/// checkpoint may have nothing to record, a block not be one to copy, and a
+/// record store have to wait for a flushed.
 fn step(random: &mut Random, volume: &mut library::State, medium: &mut [u8]) {
+    if random.percent(70) {
+        volume.flushed().unwrap();
+    }
     let block = Block(random.below(plain(volume).open()));
     let refusal = match random.below(8) {
         0 => volume.checkpoint(medium).err(),
@@ -21,7 +25,13 @@ fn step(random: &mut Random, volume: &mut library::State, medium: &mut [u8]) {
     };
     assert!(matches!(
         refusal,
-        None | Some(Refusal::NothingToRecord | Refusal::NotMoving | Refusal::AlreadyCopied)
+        None | Some(
+            Refusal::NothingToRecord
+                | Refusal::NotMoving
+                | Refusal::AlreadyCopied
+                | Refusal::FlushBlocks
+                | Refusal::FlushRecord
+        )
     ));
 }
 
@@ -47,10 +57,12 @@ fn load(volume: &library::State, open: u64) -> Answer {
 }
 
 /// Takes a growth to its end. The numbers change at checkpoints and at no other
-/// call, and after a power cut they are the same. Returns the checkpoints.
+/// call, and after a power cut that leaves the newest record they are the same.
+/// Returns the checkpoints.
 fn run(random: &mut Random, volume: &mut library::State, medium: &mut [u8], count: u64) -> u64 {
     let open = plain(volume).open();
     let mut last = load(volume, open);
+    volume.flushed().unwrap();
     volume.grow(medium, count).unwrap();
     assert_eq!(load(volume, open), last);
     let mut checkpoints = 0;

@@ -1,8 +1,8 @@
 //! Load on many states, sound and not.
 
 use reference::sample::{at_rest, damage, growing, sound_state, Random};
-use reference::state::State;
-use scenes::{compared, not_sound, refused, scene, whole, MOST};
+use reference::state::{Pending, State, WORDS};
+use scenes::{answer_to, compared, no_state, not_sound, refused, scene, whole, MOST};
 use streterva::Scene;
 
 /// A scene within `open` blocks, of no more than 300.
@@ -92,22 +92,47 @@ fn whole_volumes() {
 #[test]
 fn unsound_states() {
     let mut random = Random::new(3);
-    let mut unsound = 0;
+    let (mut unsound, mut none) = (0, 0);
     for _ in 0..5_000 {
         let rows = random.pick(&[2, 40, 1_000_000]);
         let state = sound_state(&mut random, rows);
-        let damaged = State::from_words(&damage(&mut random, &state));
-        if damaged.sound() {
-            continue;
-        }
-        unsound += 1;
+        let words = damage(&mut random, &state);
         let good = [good_scene(&mut random, state.open())];
         let odd = [odd_scene(&mut random, state.open())];
+        let expected = match State::from_words(&words) {
+            Some(damaged) if damaged.sound() => continue,
+            Some(_) => not_sound(),
+            None => no_state(),
+        };
+        unsound += (expected == not_sound()) as u32;
+        none += (expected == no_state()) as u32;
         for scenes in [&[][..], &good, &odd] {
-            assert_eq!(compared(&damaged, scenes), not_sound());
+            assert_eq!(answer_to(&words, scenes), expected);
         }
     }
-    assert!(unsound > 2_500, "{unsound}");
+    assert!(unsound > 2_500 && none > 100, "{unsound} and {none}");
+}
+
+/// Load is the same whatever is pending; with a last word above 3 there is no
+/// state, and that is refused before the scenes are looked at.
+#[test]
+fn pending() {
+    let state = growing(&[3, 5], 5, 0, 0b11);
+    let all = [whole(&state)];
+    let past = [scene(u64::MAX, 1)];
+    for word in 0..=3 {
+        let pending = Pending::from_word(word).expect("at most 3");
+        let state = State { pending, ..state };
+        assert_eq!(compared(&state, &all).number, 0);
+        assert_eq!(compared(&state, &past), refused(0));
+    }
+    for word in [4, 5, 1 << 32, 1 << 63, u64::MAX] {
+        let mut words = state.to_words();
+        words[WORDS - 1] = word;
+        assert_eq!(answer_to(&words, &all), no_state());
+        assert_eq!(answer_to(&words, &past), no_state());
+        assert_eq!(answer_to(&[word; WORDS], &[]), no_state());
+    }
 }
 
 /// States that are not sound, with lists that would be refused.
@@ -127,8 +152,9 @@ fn unsound_comes_first() {
             assert_eq!(compared(&state, scenes), not_sound());
         }
     }
-    let most = State::from_words(&[u64::MAX; 15]);
-    assert_eq!(compared(&most, &past), not_sound());
+    let mut words = [u64::MAX; WORDS];
+    words[WORDS - 1] = 3;
+    assert_eq!(answer_to(&words, &past), not_sound());
 }
 
 /// The first and the last blocks of the largest volume.

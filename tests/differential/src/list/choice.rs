@@ -7,7 +7,7 @@ use reference::limits::{DISKS, RECORD, SECTOR};
 impl List<'_> {
     /// Any call with any arguments.
     pub fn any_call(&mut self) -> Call {
-        match self.random.below(11) {
+        match self.random.below(12) {
             0 => self.format_call(),
             1 => Call::Restart,
             2 => Call::Grow {
@@ -27,13 +27,17 @@ impl List<'_> {
                 block: self.block(),
             },
             9 => self.holder_call(),
-            _ => Call::Soundness,
+            10 => Call::Soundness,
+            _ => Call::Flushed,
         }
     }
 
     /// A call that brings the volume on more often than not.
     pub fn likely_call(&mut self) -> Call {
-        let growing = self.model.as_ref().is_some_and(|it| it.tally.growing());
+        if self.random.percent(self.settings.flushes) {
+            return Call::Flushed;
+        }
+        let growing = self.model.as_ref().is_some_and(|it| it.growing());
         match (self.random.below(100), growing) {
             (0..=27, true) => Call::Advance,
             (28..=47, true) => Call::Copy {
@@ -74,7 +78,7 @@ impl List<'_> {
     }
 
     fn grown_count(&mut self) -> u64 {
-        let disks = self.model.as_ref().map_or(1, |it| it.tally.disks());
+        let disks = self.model.as_ref().map_or(1, |it| it.disks());
         let any = self.random.odd_number(disks);
         let high = self.random.range(14, 18);
         let some = self.random.range(1, self.settings.widest);
@@ -93,8 +97,8 @@ impl List<'_> {
     }
 
     fn holder_call(&mut self) -> Call {
-        let disks = self.model.as_ref().map_or(1, |it| it.tally.disks());
-        let rows = self.model.as_ref().map_or(1, |it| it.tally.s());
+        let disks = self.model.as_ref().map_or(1, |it| it.disks());
+        let rows = self.model.as_ref().map_or(1, |it| it.rows());
         let (mut disk, mut row) = (self.random.below(disks), self.random.below(rows));
         if self.random.percent(10) {
             disk = self.random.odd_number(disks);
@@ -110,9 +114,9 @@ impl List<'_> {
         let Some(model) = &self.model else {
             return self.random.odd_number(3);
         };
-        let open = model.plain.open();
-        if model.tally.growing() && self.random.percent(60) {
-            let moves = model.tally.moves();
+        let open = model.open();
+        if model.growing() && self.random.percent(60) {
+            let moves = model.followed.tally.moves();
             return self.random.pick(&moves).block.0;
         }
         if self.random.percent(90) {
@@ -139,7 +143,7 @@ impl List<'_> {
         let any = self.random.below(whole as u64 + 1) as usize;
         let needed = match (&self.model, call) {
             (Some(model), Call::Grow { count }) if *count <= DISKS => model.bytes(*count),
-            (Some(model), _) => model.bytes(model.tally.disks()),
+            (Some(model), _) => model.bytes(model.disks()),
             _ => RECORD,
         };
         let choices = [0, 511, 512, needed - 1, needed - 1, needed, any];

@@ -2,31 +2,29 @@
 //! and the tally.
 
 mod choice;
+mod cuts;
 mod settings;
 
+use crate::cache::Cache;
 use crate::call::Call;
 use crate::counts::{Counts, Event};
 use crate::model::{Model, Store};
 use crate::pair::{same, Answer, Changed, Difference, Pair};
 use crate::report::Step;
 use reference::limits::{GROWTHS, RECORD};
+use reference::refusal::{BLOCKS_PENDING, RECORD_PENDING};
 use reference::sample::{damage, Random};
 use reference::state::{State, WORDS};
 use settings::Settings;
-
-/// What a cut left behind.
-#[derive(Clone, Copy, PartialEq, Eq, Debug)]
-pub enum Cut {
-    Torn,
-    OldRecord,
-    NewRecord,
-}
 
 pub struct List<'a> {
     random: Random,
     settings: Settings,
     pair: Pair,
     model: Option<Model>,
+    /// The model before the format whose record is pending.
+    replaced: Option<Model>,
+    cache: Cache,
     log: &'a mut Vec<Step>,
     counts: &'a mut Counts,
 }
@@ -41,11 +39,16 @@ pub fn run(mut random: Random, log: &mut Vec<Step>, counts: &mut Counts) -> Resu
         random.fill(&mut medium);
     }
     counts.lists += 1;
+    if !settings.covered {
+        counts.event(Event::OutsideLists);
+    }
     let mut list = List {
         random,
         settings,
         pair: Pair::new(medium),
         model: None,
+        replaced: None,
+        cache: Cache::default(),
         log,
         counts,
     };
@@ -73,6 +76,9 @@ impl List<'_> {
 
     /// Finishes what is under way and reads the volume back.
     fn end(&mut self) -> Result<(), Difference> {
+        if self.model.is_none() {
+            self.begin()?;
+        }
         if self.lost() {
             self.bring_back()?;
         }
@@ -87,6 +93,10 @@ impl List<'_> {
     }
 
     fn act(&mut self) -> Result<(), Difference> {
+        if self.model.is_none() {
+            // A cut took the only format back.
+            return self.begin();
+        }
         if self.lost() && self.random.percent(85) {
             return self.step(Call::Restart, false).map(|_| ());
         }
@@ -94,12 +104,27 @@ impl List<'_> {
             0..=2 => self.run_growth(),
             3..=6 => self.probe(),
             7..=10 => self.read_back(),
-            _ => {
-                let call = self.likely_call();
-                let cut = self.random.percent(self.settings.cuts);
-                self.step(call, cut).map(|_| ())
-            }
+            _ => self.likely_step(),
         }
+    }
+
+    /// A likely call; refused with 18 or 19, most often once more after a
+    /// flushed. At times a cut comes instead.
+    fn likely_step(&mut self) -> Result<(), Difference> {
+        let cut = self.random.percent(self.settings.cuts);
+        if cut && self.random.percent(50) {
+            return self.cut_between();
+        }
+        let call = self.likely_call();
+        if call == Call::Restart && self.settings.covered && !self.cache.is_empty() {
+            self.step_whole(Call::Flushed)?;
+        }
+        let answer = self.step(call, cut)?;
+        if waits(&answer) && self.random.percent(75) {
+            self.step_whole(Call::Flushed)?;
+            self.step(call, cut)?;
+        }
+        Ok(())
     }
 
     /// Makes a call with the medium most often whole, and at times cuts it.
@@ -126,30 +151,80 @@ impl List<'_> {
             .run(&call, bytes, Changed::Only(changed), self.counts)?;
         self.counts.list_calls += 1;
         self.log.last_mut().expect("a step").number = Some(answer.number);
-        if answer.accepted() {
-            if cut && store != Store::Nothing {
-                return self.cut(call, store, &old).map(|_| answer);
+        if !answer.accepted() {
+            self.refused(&call, bytes, answer.number, &kept);
+        } else {
+            self.keep_store(&call, &store, &old);
+            if cut && store != Store::Nothing && self.may_be_cut(&call) {
+                self.cut_in(&call, &store)?;
+            } else {
+                self.note_restart(&call, &kept);
+                self.made(&call);
+                self.check_report(&call, &answer)?;
             }
-            self.note_restart(&call, &kept);
-            self.made(&call);
-            self.check_report(&call, &answer)?;
-        } else if call == Call::Restart {
-            self.note_short_restart(bytes, answer.number);
         }
-        Ok(answer)
+        self.check_pending().map(|_| answer)
+    }
+
+    /// After a refused call. A refused format or restart leaves a state of
+    /// zeros; where stores are pending and a restart would be outside the
+    /// guarantee, the state is put back.
+    fn refused(&mut self, call: &Call, bytes: usize, number: u64, kept: &[u64; WORDS]) {
+        if self.settings.covered && !self.cache.is_empty() {
+            self.pair.set_state(kept);
+        }
+        if *call == Call::Restart {
+            self.note_short_restart(bytes, number);
+        }
+    }
+
+    /// Puts an accepted call's store into the write cache; flushed and restart
+    /// clear it.
+    fn keep_store(&mut self, call: &Call, store: &Store, old: &[u8]) {
+        let pending = !self.cache.is_empty();
+        match (call, store) {
+            (Call::Restart, _) if pending => self.counts.event(Event::PendingRestart),
+            (Call::Format { .. }, _) if pending => self.counts.event(Event::PendingFormat),
+            _ => {}
+        }
+        match (call, store) {
+            (Call::Flushed | Call::Restart, _) => {
+                self.cache.clear();
+                self.replaced = None;
+            }
+            (_, Store::Record) => self.cache.store_record(old),
+            (_, Store::Spot(place)) => {
+                let new = &self.pair.medium()[place.clone()];
+                self.cache.store(place.start, old, new);
+            }
+            _ => {}
+        }
+    }
+
+    /// Compares what is pending with the stores that were made.
+    fn check_pending(&mut self) -> Result<(), Difference> {
+        if self.lost() {
+            return Ok(());
+        }
+        let Some(model) = &self.model else {
+            return Ok(());
+        };
+        let pending = model.followed.pending().to_word();
+        self.counts.comparisons += 1;
+        same("what is pending", self.pair.state()[15], pending)
     }
 
     /// Steps plain volume and tally by an accepted call.
     fn made(&mut self, call: &Call) {
-        let grew = self.model.as_ref().is_some_and(|it| it.tally.growing());
-        match (&mut self.model, call) {
-            (Some(model), _) => model.made(call, self.pair.piece(call)),
-            (None, &Call::Format { z, s, disks }) => self.model = Some(Model::format(z, s, disks)),
-            (None, _) => {}
+        if let &Call::Format { z, s, disks } = call {
+            self.replaced = self.model.replace(Model::format(z, s, disks));
+            return;
         }
-        let Some(model) = &self.model else { return };
-        let growths = model.tally.counts().len() as u64 - 1;
-        if grew && !model.tally.growing() && growths == GROWTHS {
+        let Some(model) = &mut self.model else { return };
+        let grew = model.growing();
+        model.made(call, self.pair.piece(call));
+        let growths = model.followed.tally.counts().len() as u64 - 1;
+        if grew && !model.growing() && growths == GROWTHS {
             self.counts.event(Event::SevenGrowths);
         }
     }
@@ -162,42 +237,15 @@ impl List<'_> {
         if call.reports() {
             model.reported = answer.figures[0];
         }
-        if model.tally.growing() || call.reports() {
+        if model.growing() || call.reports() {
             same(
                 "the calls left by the tally",
                 model.reported,
-                model.tally.calls_left(),
+                model.followed.tally.calls_left(),
             )?;
             self.counts.comparisons += 1;
         }
-        if call.reports() && *call != Call::Restart && !model.tally.growing() {
-            self.read_back()?;
-        }
-        Ok(())
-    }
-
-    /// Leaves what a cut in this call leaves, and restarts.
-    fn cut(&mut self, call: Call, store: Store, old: &[u8]) -> Result<(), Difference> {
-        let left = match store {
-            Store::Record => self.random.pick(&[Cut::OldRecord, Cut::NewRecord]),
-            _ => Cut::Torn,
-        };
-        self.log.last_mut().expect("a step").cut = Some(left);
-        self.counts.event(cut_event(&call, left));
-        match left {
-            Cut::Torn => {
-                let bytes = self.torn_bytes(store.bytes().start, old);
-                self.pair.put(store.bytes().start, &bytes);
-                if let Some(model) = &mut self.model {
-                    model.torn(&call);
-                }
-            }
-            Cut::OldRecord => self.pair.put(0, old),
-            Cut::NewRecord => self.made(&call),
-        }
-        self.pair.set_state(&State::ZEROS.to_words());
-        if self.model.is_some() {
-            self.bring_back()?;
+        if call.reports() && *call != Call::Restart && !model.growing() {
             self.read_back()?;
         }
         Ok(())
@@ -207,20 +255,6 @@ impl List<'_> {
     fn bring_back(&mut self) -> Result<(), Difference> {
         let answer = self.step_whole(Call::Restart)?;
         same("the number of a restart", answer.number, 0)
-    }
-
-    /// Any bytes: random, the old ones, or some new ones before old ones.
-    fn torn_bytes(&mut self, at: usize, old: &[u8]) -> Vec<u8> {
-        let mut bytes = old.to_vec();
-        match self.random.below(4) {
-            0 => {}
-            1 => {
-                let new = self.random.below(old.len() as u64) as usize;
-                bytes[..new].copy_from_slice(&self.pair.medium()[at..at + new]);
-            }
-            _ => self.random.fill(&mut bytes),
-        }
-        bytes
     }
 
     fn note_restart(&mut self, call: &Call, before: &[u64; WORDS]) {
@@ -237,22 +271,46 @@ impl List<'_> {
         }
     }
 
-    /// Runs the growth to its end by as many advances as were reported last.
+    /// Runs the growth to its end by as many accepted advances as were
+    /// reported last, whatever flushed and refused calls come between them.
     fn run_growth(&mut self) -> Result<(), Difference> {
         let Some(model) = &self.model else {
             return Ok(());
         };
-        if self.lost() || !model.tally.growing() {
+        if self.lost() || !model.growing() {
             return Ok(());
         }
-        let left = model.reported;
-        for call in 1..=left {
+        let mut left = model.reported;
+        while left > 0 {
+            self.step_in_run()?;
             let answer = self.step_whole(Call::Advance)?;
+            if waits(&answer) {
+                self.counts.event(Event::RefusedInRun);
+                let flushed = self.step_whole(Call::Flushed)?;
+                same("the number of a flushed", flushed.number, 0)?;
+                continue;
+            }
+            left -= 1;
             let told = (answer.number, answer.figures[1] == 3);
-            same("the end of the growth", told, (0, call == left))?;
+            same("the end of the growth", told, (0, left == 0))?;
         }
         self.counts.event(Event::FullRuns);
         Ok(())
+    }
+
+    /// At times a flushed, or a call that a growth under way refuses.
+    fn step_in_run(&mut self) -> Result<(), Difference> {
+        match self.random.below(12) {
+            0 => {
+                self.counts.event(Event::FlushedInRun);
+                self.step_whole(Call::Flushed).map(|_| ())
+            }
+            1 => {
+                self.counts.event(Event::RefusedInRun);
+                self.step_whole(Call::Grow { count: 16 }).map(|_| ())
+            }
+            _ => Ok(()),
+        }
     }
 
     fn read_back(&mut self) -> Result<(), Difference> {
@@ -260,10 +318,11 @@ impl List<'_> {
             return Ok(());
         };
         if !self.lost() {
-            model.read_back(self.pair.state(), self.pair.medium())?;
+            let held = self.settings.covered;
+            model.read_back(self.pair.state(), self.pair.medium(), held)?;
             self.counts.event(Event::ReadBacks);
-            self.counts.read_backs += model.plain.open();
-            self.counts.comparisons += 4 * model.plain.open();
+            self.counts.read_backs += model.open();
+            self.counts.comparisons += 4 * model.open();
         }
         Ok(())
     }
@@ -273,7 +332,8 @@ impl List<'_> {
         let call = self.likely_call();
         let bytes = self.lent_bytes(&call);
         let kept = (*self.pair.state(), self.pair.medium().to_vec());
-        let state = damage(&mut self.random, &State::from_words(&kept.0));
+        let sound = State::from_words(&kept.0).expect("a state");
+        let state = damage(&mut self.random, &sound);
         let mut step = Step::new(call, bytes);
         step.state = Some(state);
         self.log.push(step);
@@ -288,18 +348,7 @@ impl List<'_> {
     }
 }
 
-fn cut_event(call: &Call, left: Cut) -> Event {
-    match (call, left) {
-        (Call::Write { .. }, _) => Event::TornWrite,
-        (Call::Copy { .. }, _) => Event::TornCopy,
-        (_, Cut::Torn) => Event::TornAdvance,
-        (Call::Format { .. }, Cut::OldRecord) => Event::OldInFormat,
-        (Call::Format { .. }, _) => Event::NewInFormat,
-        (Call::Grow { .. }, Cut::OldRecord) => Event::OldInGrow,
-        (Call::Grow { .. }, _) => Event::NewInGrow,
-        (Call::Checkpoint, Cut::OldRecord) => Event::OldInCheckpoint,
-        (Call::Checkpoint, _) => Event::NewInCheckpoint,
-        (_, Cut::OldRecord) => Event::OldInAdvance,
-        (_, Cut::NewRecord) => Event::NewInAdvance,
-    }
+/// Whether 18 or 19 refused the call.
+fn waits(answer: &Answer) -> bool {
+    matches!(answer.number, BLOCKS_PENDING | RECORD_PENDING)
 }

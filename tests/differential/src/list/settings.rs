@@ -15,8 +15,13 @@ pub struct Settings {
     pub room: u64,
     /// Most disks added at once.
     pub widest: u64,
-    /// Calls in a hundred that are cut, if they store.
+    /// Calls in a hundred that are cut, if they store, or followed by a cut.
     pub cuts: u64,
+    /// Calls in a hundred that are flushed, besides those that 18 or 19 ask for.
+    pub flushes: u64,
+    /// Whether the guarantee covers the list: restart comes only after a cut or
+    /// with nothing pending, and no cut before the first flushed after format.
+    pub covered: bool,
 }
 
 pub fn choose(random: &mut Random) -> Settings {
@@ -42,6 +47,8 @@ pub fn choose(random: &mut Random) -> Settings {
         room: random.pick(&[most, any, most.min(first + GROWTHS)]),
         widest: random.pick(&[1, 1, 2, 3, 8, 15]),
         cuts: random.pick(&[0, 2, 5, 10]),
+        flushes: random.pick(&[2, 5, 15, 30]),
+        covered: random.percent(85),
     }
 }
 
@@ -55,5 +62,7 @@ fn widest_growth(random: &mut Random) -> Settings {
         room: DISKS,
         widest: DISKS - first,
         cuts: random.pick(&[0, 2, 5]),
+        flushes: random.pick(&[2, 5, 15]),
+        covered: random.percent(85),
     }
 }

@@ -9,7 +9,7 @@ mod record;
 use crate::limits::{self, RECORD};
 use crate::refusal::*;
 use crate::spot::{Block, Part, Place, Row, Spot, Why};
-use crate::state::State;
+use crate::state::{Pending, State};
 use crate::store::{Advanced, Next};
 use check::{examine, Run};
 use layout::Layout;
@@ -58,6 +58,7 @@ pub fn format(medium: &mut [u8], z: u64, s: u64, disks: u64) -> Result<State, Re
         return Err(MEDIUM_SHORT);
     }
     record::write(&state, &mut medium[..RECORD]);
+    state.pending.record = true;
     Ok(state)
 }
 
@@ -74,15 +75,17 @@ pub fn grow(state: State, medium: &mut [u8], count: u64) -> Result<Next, Refusal
     if (medium.len() as u64) < state.bytes(count) {
         return Err(MEDIUM_SHORT);
     }
+    no_store_pending(&state)?;
     let mut next = state;
     next.t += 1;
     next.counts[next.t as usize] = count;
     next.growing = 1;
     record::write(&next, &mut medium[..RECORD]);
+    next.pending.record = true;
     Ok((next, Run::begun(&next).calls_left(&next)))
 }
 
-pub fn write(state: &State, medium: &mut [u8], x: Block, piece: &[u8]) -> Result<(), Refusal> {
+pub fn write(state: &mut State, medium: &mut [u8], x: Block, piece: &[u8]) -> Result<(), Refusal> {
     let run = ready(state, medium)?;
     let x = open(state, run, x)?;
     if piece.len() as u64 != state.z {
@@ -92,7 +95,15 @@ pub fn write(state: &State, medium: &mut [u8], x: Block, piece: &[u8]) -> Result
     if waits {
         return Err(UNRECORDED);
     }
+    no_record_pending(state)?;
     medium[state.bytes_of(place.spot)].copy_from_slice(piece);
+    state.pending.blocks = true;
+    Ok(())
+}
+
+pub fn flushed(state: &mut State) -> Result<(), Refusal> {
+    examine(state)?;
+    state.pending = Pending::NOTHING;
     Ok(())
 }
 
@@ -119,6 +130,7 @@ pub fn copy(state: State, medium: &mut [u8], x: Block) -> Result<Next, Refusal> 
     if state.copied >> mark & 1 == 1 {
         return Err(COPIED_ALREADY);
     }
+    no_record_pending(&state)?;
     Ok(copy_mark(state, medium, run, d0, b, mark))
 }
 
@@ -127,13 +139,16 @@ pub fn checkpoint(state: State, medium: &mut [u8]) -> Result<Next, Refusal> {
     if state.copied == state.recorded {
         return Err(NOTHING_TO_RECORD);
     }
+    no_store_pending(&state)?;
     Ok(store_checkpoint(state, medium, run))
 }
 
 pub fn advance(state: State, medium: &mut [u8]) -> Result<(Next, Advanced), Refusal> {
     let run = ready(&state, medium)?.ok_or(NOT_GROWING)?;
+    no_record_pending(&state)?;
     let waiting = run.moving & !state.copied;
     if waiting == 0 {
+        no_store_pending(&state)?;
         let next = store_checkpoint(state, medium, run);
         let finished = next.0.growing == 0;
         let done = if finished {
@@ -178,6 +193,17 @@ fn ready(state: &State, medium: &[u8]) -> Result<Option<Run>, Refusal> {
         return Err(MEDIUM_SHORT);
     }
     Ok(run)
+}
+
+/// The last check before a block store.
+fn no_record_pending(state: &State) -> Result<(), Refusal> {
+    (!state.pending.record).then_some(()).ok_or(RECORD_PENDING)
+}
+
+/// The last checks before a record store.
+fn no_store_pending(state: &State) -> Result<(), Refusal> {
+    no_record_pending(state)?;
+    (!state.pending.blocks).then_some(()).ok_or(BLOCKS_PENDING)
 }
 
 fn open(state: &State, run: Option<Run>, x: Block) -> Result<u32, Refusal> {
@@ -235,6 +261,7 @@ fn copy_mark(state: State, medium: &mut [u8], run: Run, d0: u32, b: u32, mark: u
     medium.copy_within(state.bytes_of(spot(d0)), state.bytes_of(spot(d)).start);
     let mut next = state;
     next.copied |= 1 << mark;
+    next.pending.blocks = true;
     (next, run.calls_left(&next))
 }
 
@@ -249,6 +276,7 @@ fn store_checkpoint(state: State, medium: &mut [u8], run: Run) -> Next {
         }
     }
     record::write(&next, &mut medium[..RECORD]);
+    next.pending.record = true;
     let left = if next.growing == 1 {
         run.calls_left(&next)
     } else {
