@@ -1,6 +1,6 @@
 -- What the code of the exported functions needs: the tests of the lengths, and what load puts and leaves. Assumes nothing.
 use Prim.Native.Nat.{ℕ}
-use mathlib.Core.Path.{_≡_, sym, ap, _∙_}
+use mathlib.Core.Path.{_≡_, refl, sym, ap, _∙_}
 use mathlib.Core.Bool.{Bool, true, false, cond, not}
 use mathlib.Core.List.{List, [], _∷_, _++_, append-nil}
 use mathlib.Core.Logic.{_≢_}
@@ -12,15 +12,18 @@ use Rattle.base.specs.Refusals.{refusal}
 use Rattle.base.proofs.Booleans.{and-left, by-test}
 use Rattle.medium.specs.declared.Geometry.{Geometry}
 use Rattle.medium.specs.Medium.{Observations, apply}
+use Rattle.volume.specs.declared.Pending.{Pending}
 use Rattle.volume.specs.declared.Volume.{Volume}
-use Rattle.volume.specs.Calls.{refused, doing, formatTable, formatEffect, formatOutcome}
+use Rattle.volume.specs.States.{withPending}
+use Rattle.volume.specs.Calls.{Outcome, refused, doing, formatTable, formatEffect, formatOutcome, writeTable, writeEffect, writeOutcome, flushedTable, flushedEffect, flushedOutcome}
+use Rattle.volume.proofs.Judged.{judged-cases}
 use Rattle.scene_load.specs.declared.Load.{Load}
 use Rattle.scene_load.specs.declared.Scene.{Scene}
 use Rattle.scene_load.specs.Loads.{loadOf, loadNumber}
 use Rattle.capi.specs.Exported.{wrongLength, lengthsFit, stateFits, untouched, lookedUp, stateTaken, loadLeft}
 use Rattle.capi.specs.Figures.{loadFigures}
-use Rattle.capi.specs.Words.{stateWords, stateFrom, areState}
-use Rattle.capi.proofs.WordLaws.{state-words}
+use Rattle.capi.specs.Words.{stateWords, pendingWord, wordsOf, stateFrom, areState}
+use Rattle.capi.proofs.WordLaws.{words-pending, state-words}
 
 pub words-wrong : (words : List ℕ) (n : ℕ) (figures : List ℕ) → length words ≢ stateWords → lengthsFit words n figures ≡ false
 unfolding lengthsFit
@@ -44,7 +47,7 @@ module _ (words : List ℕ) (n : ℕ) (figures : List ℕ) (told : Bool) (e : to
   no-state h = rw (← e, not-true told h)
 
   module _ (h : not told ≡ false) where
-    are-state : areState words ≡ true
+    pub are-state : areState words ≡ true
     are-state = sym e ∙ not-false told h
 
     pub state-figures-wrong : length figures ≢ n → stateFits words n figures ≡ false
@@ -54,6 +57,30 @@ module _ (words : List ℕ) (n : ℕ) (figures : List ℕ) (told : Bool) (e : to
     pub state-right : length figures ≡ n → stateFits words n figures ≡ true
     unfolding stateFits
     state-right f = rw (are-state, eq-eqb (length figures) n f)
+
+-- write and flushed change what is pending and nothing else of the state
+abbrev OnlyPending : (v u : Volume) → Type 0
+OnlyPending v u = (p : Pending) × (u ≡ withPending v p)
+
+pub write-pending : (v : Volume) (x : ℕ) (piece : List ℕ) (o : Observations) → OnlyPending v (writeOutcome v x piece o .reply .state)
+unfolding writeOutcome writeEffect doing refused withPending
+write-pending v x piece o =
+    judged-cases (λ (out : Outcome). OnlyPending v (out .reply .state)) (writeTable v x (length piece) (o .byteCount)) (λ n. refused v n piece)
+    (writeEffect v x piece) (λ _. (_, refl)) (λ _. (v .pending, refl))
+
+pub flushed-pending : (v : Volume) → OnlyPending v (flushedOutcome v .reply .state)
+unfolding flushedOutcome flushedEffect doing refused withPending
+flushed-pending v =
+    judged-cases (λ (out : Outcome). OnlyPending v (out .reply .state)) (flushedTable v) (λ n. refused v n [])
+    (flushedEffect v) (λ _. (_, refl)) (λ _. (v .pending, refl))
+
+-- and so putting that into the words puts the state
+pub pending-put : (words : List ℕ) → areState words ≡ true → (u v : Volume) → u ≡ v → OnlyPending (stateFrom words) v
+    → (after : List ℕ) → after ≡ set words 15 (pendingWord (u .pending)) → after ≡ wordsOf u
+unfolding withPending
+pending-put words e u v f (p, g) after made =
+    let same = f ∙ g in
+    rw same at made ∙ sym (rw same (words-pending words (state-words words e) p))
 
 -- the store of format does not look at blocks and rows
 pub format-stores : (z s n : ℕ) (o : Observations) (g k : Geometry) (m after : List ℕ) → after ≡ apply g (formatOutcome z s n o .store) m

@@ -5,7 +5,7 @@ use mathlib.Core.Bool.{Bool, true, false, cond}
 use mathlib.Core.List.{List, [], _∷_, _++_, append-assoc}
 use native.Mathlib.Omega.{arith}
 use lib.Dec.{eqb, leb}
-use lib.ListN.{length, take, drop, getD, length-append, length-take, length-drop}
+use lib.ListN.{length, take, drop, getD, set, length-append, length-take, length-drop}
 use lib.Seq.{take-at, getD-append-add}
 use borrow.Author.Tests.{eqb-true, leb-true}
 use Rattle.base.specs.Below.{table}
@@ -14,6 +14,7 @@ use Rattle.base.proofs.Lists.{table-self}
 use Rattle.volume.specs.declared.Pending.{Pending}
 use Rattle.volume.specs.declared.Volume.{Volume}
 use Rattle.volume.specs.Records.{numbersOf}
+use Rattle.volume.specs.States.{withPending}
 use Rattle.capi.specs.Laws.{Arrays, Words}
 use Rattle.capi.specs.Words.{stateWords, mostPending, pendingWord, pendingFrom, wordsOf, stateFrom, areState}
 
@@ -86,6 +87,11 @@ counts-listed l e = ap (λ (k : List ℕ). take 8 (drop 3 k)) (sixteen-listed l 
 pub words-back : (words : List ℕ) → Words words → wordsOf (stateFrom words) ≡ words
 unfolding wordsOf numbersOf stateFrom
 words-back words f = rw (counts-listed words (f .count), pending-word-back (getD words 15 0) (f .pending-most)) (sym (sixteen-listed words (f .count)))
+
+-- the state with other stores pending differs in the last word
+pub words-pending : (words : List ℕ) → Words words → (p : Pending) → wordsOf (withPending (stateFrom words) p) ≡ set words 15 (pendingWord p)
+unfolding wordsOf numbersOf stateFrom withPending
+words-pending words f p = rw (counts-listed words (f .count)) (ap (λ (l : List ℕ). set l 15 (pendingWord p)) (sym (sixteen-listed words (f .count))))
 
 -- words of a state
 pub state-words : (words : List ℕ) → areState words ≡ true → Words words

@@ -9,6 +9,7 @@ use super::STATE_WORDS;
 use super::WRONG_LENGTH;
 use super::figures::number;
 use super::handed::hand_back;
+use super::handed::put_pending;
 use super::handed::put_state;
 use super::words::is_state;
 use super::words::state_of;
@@ -78,7 +79,7 @@ pub extern "C" fn streterva_write(
     let reply = v.write(medium, Block(block), piece);
     let next = reply.state;
     let answer = reply.answer;
-    put_state(state, next);
+    put_pending(state, next.pending);
     number(answer)
 }
 
@@ -113,9 +114,9 @@ pub extern "C" fn streterva_flushed(state: &mut [usize]) -> usize
     }
     let v = state_of(state);
     let reply = v.flushed();
-    let next = reply.state;
+    let down = reply.state;
     let answer = reply.answer;
-    put_state(state, next);
+    put_pending(state, down.pending);
     number(answer)
 }
 

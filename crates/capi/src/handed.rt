@@ -1,12 +1,14 @@
 // What a call hands back, put into the lent slices.
 ghost use mathlib.Core.Path.{_≡_};
-ghost use lib.ListN.{length};
+ghost use lib.ListN.{length, set};
 ghost use Rattle.volume.specs.Answers.{number};
 ghost use Rattle.capi.specs.Figures.{callsFigures};
-ghost use Rattle.capi.specs.Words.{stateWords, wordsOf};
+ghost use Rattle.capi.specs.Words.{stateWords, pendingWord, wordsOf};
 use super::figures::calls_told;
 use super::figures::number;
+use super::words::pending_word;
 use super::words::words_of;
+use volume::Pending;
 use volume::Reply;
 use volume::Volume;
 
@@ -29,6 +31,14 @@ pub fn put_state(words: &mut [usize], v: Volume)
 {
     let next = words_of(v);
     put(words, &next);
+}
+
+// Stores what is pending into the words of a state.
+pub fn put_pending(words: &mut [usize], pending: Pending)
+    requires { ⌜ length (now words) ≡ stateWords ⌝ }
+    ensures { λ _. ⌜ now (words .exit) ≡ set (now (words .entry)) 15 (pendingWord pending) ⌝ }
+{
+    words[15] = pending_word(pending);
 }
 
 // Hands back a reply that reports the calls left: the state, the figure, the number.

@@ -28,7 +28,7 @@ fn pending_of(word: usize) -> Pending
 }
 
 // The word of what is pending.
-fn pending_word(pending: Pending) -> usize
+pub fn pending_word(pending: Pending) -> usize
     ensures { λ r. ⌜ r ≡ pendingWord pending ⌝ }
 {
     if pending.records {

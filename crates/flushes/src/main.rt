@@ -1,90 +1,39 @@
-// What waits for a flushed: refusals 19 and 18 of document 02, W4, and what is pending after each call. What it must write is in the file
-// stdout.
-use layout::Block;
-use printing::labelled;
-use printing::text;
-use volume::Answer;
-use volume::Pending;
-use volume::Reply;
+// What waits for a flushed: refusals 19 and 18 of document 02, W4, and what is pending after each call; and what power cuts between calls
+// leave. What it must write is in the file stdout.
+mod calls;
+mod cuts;
+
+use calls::advance;
+use calls::checkpoint;
+use calls::copy;
+use calls::flushed;
+use calls::format;
+use calls::grow;
+use calls::restart;
+use calls::write;
+use cuts::cut_after_saves;
+use cuts::cuts_in_growth;
 use volume::Volume;
-
-fn show_answer(answer: Answer) {
-    match answer {
-        Answer::Refused(k) => labelled(b": refusal", k),
-        Answer::Done => text(b": done"),
-        Answer::CallsLeft(n) => labelled(b": advance calls left", n),
-        Answer::Told(_, n) => labelled(b": advanced, advance calls left", n),
-    }
-}
-
-fn show_pending(pending: Pending) {
-    if pending.records {
-        text(b", a record is pending");
-    }
-    if pending.blocks {
-        text(b", blocks are pending");
-    }
-    text(b"\n");
-}
-
-// A line for a call: its name, its answer, and what is pending then.
-fn show(call: &[u8], reply: Reply) -> Volume {
-    let answer = reply.answer;
-    let state = reply.state;
-    let pending = state.pending;
-    text(call);
-    show_answer(answer);
-    show_pending(pending);
-    state
-}
-
-fn write(v: Volume, medium: &mut [u8], x: usize) -> Volume {
-    let block = [7u8; 512];
-    let piece: &[u8] = &block;
-    labelled(b"write block", x);
-    show(b"", v.write(medium, Block(x), piece))
-}
-
-fn copy(v: Volume, medium: &mut [u8], x: usize) -> Volume {
-    labelled(b"copy block", x);
-    show(b"", v.copy(medium, Block(x)))
-}
-
-fn grow(v: Volume, medium: &mut [u8]) -> Volume {
-    show(b"grow", v.grow(medium, 5))
-}
-
-fn checkpoint(v: Volume, medium: &mut [u8]) -> Volume {
-    show(b"checkpoint", v.checkpoint(medium))
-}
-
-fn advance(v: Volume, medium: &mut [u8]) -> Volume {
-    show(b"advance", v.advance(medium))
-}
-
-fn flushed(v: Volume) -> Volume {
-    show(b"flushed", v.flushed())
-}
 
 // The record of a new volume is pending.
 fn new_volume(medium: &mut [u8]) -> Volume {
-    let v = show(b"format", Volume::format(medium, 512, 5, 3));
-    let refused = write(v, medium, 0);
-    let still = grow(refused, medium);
+    let v = format(medium, 5, 3);
+    let refused = write(v, medium, 0, 7);
+    let still = grow(refused, medium, 5);
     flushed(still)
 }
 
 // Saves are pending, and do not wait for each other; the record of a growth does.
 fn saves(v: Volume, medium: &mut [u8]) -> Volume {
-    let one = write(v, medium, 0);
-    let two = write(one, medium, 1);
-    let refused = grow(two, medium);
+    let one = write(v, medium, 0, 7);
+    let two = write(one, medium, 1, 7);
+    let refused = grow(two, medium, 5);
     flushed(refused)
 }
 
 // The record of a growth is pending: nothing is stored.
 fn growth(v: Volume, medium: &mut [u8]) -> Volume {
-    let grown = grow(v, medium);
+    let grown = grow(v, medium, 5);
     let one = copy(grown, medium, 0);
     let two = advance(one, medium);
     flushed(two)
@@ -102,7 +51,7 @@ fn copies(v: Volume, medium: &mut [u8]) -> Volume {
 fn recorded(v: Volume, medium: &mut [u8]) -> Volume {
     let one = checkpoint(v, medium);
     let two = checkpoint(one, medium);
-    let three = write(two, medium, 14);
+    let three = write(two, medium, 14, 7);
     flushed(three)
 }
 
@@ -122,8 +71,8 @@ fn growth_ends(v: Volume, medium: &mut [u8]) -> Volume {
 
 // The record that ends the growth is pending; after a restart nothing is.
 fn after_growth(v: Volume, medium: &mut [u8]) {
-    write(v, medium, 15);
-    show(b"restart", Volume::restart(medium));
+    write(v, medium, 15, 7);
+    restart(medium);
 }
 
 fn main() {
@@ -137,4 +86,6 @@ fn main() {
     let last = window_ends(marked, medium);
     let finished = growth_ends(last, medium);
     after_growth(finished, medium);
+    cut_after_saves();
+    cuts_in_growth();
 }

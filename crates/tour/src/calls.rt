@@ -13,12 +13,18 @@ use volume::HolderAnswer;
 use volume::Reply;
 use volume::Volume;
 
-// The reply, with its store down: a flushed follows each call here.
+// The volume after a flushed, which has no line.
+pub fn flush(v: Volume) -> Volume {
+    let reply = v.flushed();
+    let state = reply.state;
+    state
+}
+
+// The reply of a call that a flushed follows.
 pub fn stored(reply: Reply) -> Reply {
     let state = reply.state;
     let answer = reply.answer;
-    let down = state.flushed();
-    let after = down.state;
+    let after = flush(state);
     Reply {
         state: after,
         answer,
@@ -36,9 +42,10 @@ pub fn show_format(medium: &mut [u8], size: usize, rows: usize, disks: usize) ->
     state
 }
 
+// No flushed follows.
 pub fn show_grow(v: Volume, medium: &mut [u8], count: usize) -> Reply {
     counted(b"  grow to ", count, b" disks: ");
-    let reply = stored(v.grow(medium, count));
+    let reply = v.grow(medium, count);
     let answer = reply.answer;
     show_answer(answer);
     reply
@@ -55,6 +62,15 @@ pub fn show_restart(medium: &[u8]) -> Reply {
 pub fn show_checkpoint(v: Volume, medium: &mut [u8]) -> Volume {
     text(b"  checkpoint: ");
     let reply = stored(v.checkpoint(medium));
+    let answer = reply.answer;
+    show_answer(answer);
+    let state = reply.state;
+    state
+}
+
+pub fn show_flushed(v: Volume) -> Volume {
+    text(b"  flushed: ");
+    let reply = v.flushed();
     let answer = reply.answer;
     show_answer(answer);
     let state = reply.state;

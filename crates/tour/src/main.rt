@@ -1,15 +1,18 @@
 // One rack through its life, printed for a person. What it must write is in the file stdout.
+mod cache;
 mod calls;
 mod growth;
 mod pictures;
 mod words;
 
+use cache::write_cache;
 use calls::show_address;
 use calls::show_checkpoint;
 use calls::show_format;
 use calls::show_grow;
 use calls::show_holder;
 use calls::show_restart;
+use calls::stored;
 use growth::advance_times;
 use growth::advance_to_end;
 use pictures::read_back;
@@ -34,7 +37,13 @@ fn the_calls() {
     );
     text(b"checkpoint records the copies made. restart takes the state from the record.\n");
     text(b"address tells where a block lives and why, holder which block lives at a spot.\n");
-    text(b"Indented lines are calls with their answers.\n");
+    text(
+        b"flushed tells the volume that the drives were flushed: all that it stored is on them.\n",
+    );
+    text(
+        b"Before part 6 the drives are flushed after each call that stores, and flushed is called.\n",
+    );
+    text(b"Indented lines are calls with their answers; these calls of flushed have no lines.\n");
 }
 
 fn three_disks(medium: &mut [u8], versions: &mut [u8]) -> Volume {
@@ -52,7 +61,7 @@ fn three_disks(medium: &mut [u8], versions: &mut [u8]) -> Volume {
 // Blocks 0 and 3 are copied.
 fn growth_begins(v: Volume, medium: &mut [u8]) -> Volume {
     text(b"\n2. GROWTH 1 BEGINS: FROM 3 DISKS TO 5\n");
-    let grown = show_grow(v, medium, 5);
+    let grown = stored(show_grow(v, medium, 5));
     let copied = advance_times(grown, medium, 2);
     let state = copied.state;
     state
@@ -115,11 +124,11 @@ fn five_disks(v: Volume, medium: &mut [u8], versions: &mut [u8]) -> Volume {
 
 fn second_growth(v: Volume, medium: &mut [u8]) -> Volume {
     text(b"\n5. GROWTH 2: FROM 5 DISKS TO 6\n");
-    let reply = show_grow(v, medium, 6);
+    let reply = stored(show_grow(v, medium, 6));
     advance_to_end(reply, medium)
 }
 
-fn six_disks(v: Volume, medium: &mut [u8], versions: &mut [u8]) {
+fn six_disks(v: Volume, medium: &mut [u8], versions: &mut [u8]) -> Volume {
     text(b"The blocks that growth 2 added are open now, 25 to 29.\n");
     let saved = save_first(v, medium, versions, 25, 30);
     show_address(saved, 7);
@@ -129,10 +138,11 @@ fn six_disks(v: Volume, medium: &mut [u8], versions: &mut [u8]) {
     show_address(saved, 25);
     show_holder(saved, 0, 0);
     read_back(saved, medium, versions);
+    saved
 }
 
 fn main() {
-    let mut space = [0x55u8; 15_872];
+    let mut space = [0x55u8; 18_432];
     let mut saved = [0u8; 30];
     let medium: &mut [u8] = &mut space;
     let versions: &mut [u8] = &mut saved;
@@ -146,5 +156,6 @@ fn main() {
     let grown = growth_ends(medium, versions);
     let five = five_disks(grown, medium, versions);
     let six = second_growth(five, medium);
-    six_disks(six, medium, versions);
+    let full = six_disks(six, medium, versions);
+    write_cache(full, medium, versions);
 }

@@ -1,6 +1,6 @@
 // Pictures of 512 bytes, saved and read back. Bytes 0 and 1 of a picture are its block and its version. A lent list has the version
 // last saved of each block; 0 is none.
-use super::calls::stored;
+use super::calls::flush;
 use super::words::show_answer;
 use layout::Block;
 use printing::counted;
@@ -23,7 +23,7 @@ fn write_picture(v: Volume, medium: &mut [u8], x: usize, version: u8) -> Reply {
     let mut space = [0u8; 512];
     let piece: &mut [u8] = &mut space;
     draw(piece, x, version);
-    stored(v.write(medium, Block(x), piece))
+    v.write(medium, Block(x), piece)
 }
 
 // Keeps the version if its write was done, and tells whether it was.
@@ -36,8 +36,14 @@ fn keep_if_done(answer: Answer, versions: &mut [u8], x: usize, version: u8) -> b
     true
 }
 
-// Saves a picture as block x, in a line of its own.
-pub fn save(v: Volume, medium: &mut [u8], versions: &mut [u8], x: usize, version: u8) -> Volume {
+// Saves a picture as block x, in a line of its own. No flushed follows.
+pub fn save_pending(
+    v: Volume,
+    medium: &mut [u8],
+    versions: &mut [u8],
+    x: usize,
+    version: u8,
+) -> Volume {
     counted(b"  write picture ", version as usize, b" of block ");
     counted(b"", x, b": ");
     let reply = write_picture(v, medium, x, version);
@@ -46,6 +52,12 @@ pub fn save(v: Volume, medium: &mut [u8], versions: &mut [u8], x: usize, version
     keep_if_done(answer, versions, x, version);
     let state = reply.state;
     state
+}
+
+// The same with a flushed.
+pub fn save(v: Volume, medium: &mut [u8], versions: &mut [u8], x: usize, version: u8) -> Volume {
+    let saved = save_pending(v, medium, versions, x, version);
+    flush(saved)
 }
 
 // Saves picture 1 of the blocks from `from` up to, not including, `end`, and tells how often that was done.
@@ -62,7 +74,8 @@ pub fn save_first(
     while x < end {
         let reply = write_picture(state, medium, x, 1);
         let answer = reply.answer;
-        state = reply.state;
+        let saved = reply.state;
+        state = flush(saved);
         if keep_if_done(answer, versions, x, 1) {
             total += 1;
         }

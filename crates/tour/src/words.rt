@@ -27,13 +27,14 @@ pub fn show_reason(reason: Reason) {
     }
 }
 
-// A refusal; those that the rack meets have document 01's words.
+// A refusal; those that the rack meets have the documents' words.
 pub fn show_refusal(k: usize) {
     labelled(b"refused with", k);
     match k {
         3 => text(b": block not open"),
         7 => text(b": block copied but not recorded"),
         15 => text(b": no open block lives there"),
+        18 => text(b": a record store is due and block stores are pending"),
         _ => {}
     }
 }

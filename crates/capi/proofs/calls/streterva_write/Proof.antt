@@ -1,13 +1,14 @@
 -- `streterva_write` meets its contract. Assumes nothing.
-use mathlib.Core.Path.{_≡_, refl, sym}
+use mathlib.Core.Path.{_≡_, refl, sym, ap}
 use mathlib.Core.Bool.{true}
 use mathlib.Core.List.{[]}
 use lib.ListN.{length}
 use borrow.Author.Needs.{needs}
 use Rattle.medium.specs.Medium.{apply}
+use Rattle.volume.specs.declared.Reply.{Reply}
 use Rattle.capi.specs.Exported.{stateFits, untouched, handedBack, writeLeft}
 use Rattle.capi.specs.Words.{stateWords}
-use Rattle.capi.proofs.ExportedCode.{words-length, no-state, state-right}
+use Rattle.capi.proofs.ExportedCode.{words-length, no-state, are-state, state-right, write-pending, pending-put}
 use Rattle.capi.proofs.calls.streterva_write.Statement.{statement}
 use Rattle.capi.proofs.calls.streterva_write.Tie as tie
 
@@ -34,8 +35,8 @@ state-of-requires c κs = long (c .before)
 write-requires : tie.Need-write-requires
 write-requires c κs = search needs
 
-put-state-requires : tie.Need-put-state-requires
-put-state-requires c κs = long (c .before .before .before .before .before .before .before .before)
+put-pending-requires : tie.Need-put-pending-requires
+put-pending-requires c κs = long (c .before .before .before .before .before .before .before .before)
 
 number-requires : tie.Need-number-requires
 number-requires c κs = search needs
@@ -49,8 +50,11 @@ same-length-3 c = search needs
 returns-2 : tie.Need-returns-2
 unfolding writeLeft handedBack
 returns-2 c =
-    let made = rw (c .before .before .before .before .before .before .before .before .before .before .state-of .ensures) at (c .before .before .before .before .before .before .before .before .write .ensures) in
-    rw (fits (c .before .before .before .before .before .before .before .before .before .before .before .before), sym (made .0)) (c .number .ensures, (c .before .before .before .put-state .ensures, made .1))
+    let t = c .before .before .before .before .before .before .before .before .before .before .before .before in
+    let w = c .before .before .before .before .before .before .before .before .write in
+    let made = rw (c .before .before .before .before .before .before .before .before .before .before .state-of .ensures) at (w .ensures) in
+    let words = pending-put _ (are-state _ 0 [] _ (t .before .is-state .ensures) (t .if1 .left)) (w .result .state) _ (ap (λ (r : Reply). r .state) (made .0)) (write-pending _ _ _ _) _ (c .before .before .before .put-pending .ensures) in
+    rw (fits t, sym (made .0)) (c .number .ensures, (words, made .1))
 
 pub streterva-write-spec : {M : Type 1} → statement M
 streterva-write-spec =
@@ -61,7 +65,7 @@ streterva-write-spec =
     returns
     state-of-requires
     write-requires
-    put-state-requires
+    put-pending-requires
     number-requires
     same-length-2
     same-length-3

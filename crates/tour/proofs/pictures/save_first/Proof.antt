@@ -22,6 +22,9 @@ loop-holds c = search needs
 write-picture-requires : tie.Need-write-picture-requires Inv-loop μ-loop
 write-picture-requires c κs = search needs
 
+flush-requires : tie.Need-flush-requires Inv-loop μ-loop
+flush-requires c κs = search needs
+
 keep-if-done-requires : tie.Need-keep-if-done-requires Inv-loop μ-loop
 keep-if-done-requires c κs = search needs
 
@@ -72,6 +75,7 @@ save-first-spec =
     μ-loop
     loop-holds
     write-picture-requires
+    flush-requires
     keep-if-done-requires
     add-total
     add-x
