@@ -76,7 +76,7 @@ read-keeps-tally : (s : System) (x : ℕ) (piece : List ℕ) (k : CachedModel) �
 read-keeps-tally s x piece k = quiet-by s (read x piece) (unfold isAdvance in refl) (λ t. unfold stepOf leaving in refl) .tally-kept k
 
 -- with no advance the tally stays
-none-advanced : {further : List DirectEvent} → DirectFurther further → (s : System) (k : CachedModel) → length (advancesTold s further) ≡ 0
+none-advanced : {further : List DirectEvent} → DirectFurther further → (s : System) (k : CachedModel) → length (advancesTold callOutcome s further) ≡ 0
     → modelled (fedAll callOutcome s (flushedAfter further)) k .current .tally ≡ k .current .tally
 unfolding advancesTold flushedAfter modelled fedAll afterAll isAdvance
 none-advanced no-call s k z = refl
@@ -99,7 +99,7 @@ both-keep g v d k told i c s =
 
 direct-ending : {further : List DirectEvent} → DirectFurther further → (g : Geometry) (v : Volume) (d : Drives) (k : CachedModel) (told : Option ℕ)
     → Live true g v d k told → v .pending ≡ nonePending → k .current .tally .mode ≡ growing
-    → Ending (advancesTold (up v d) further) (modelled (fedAll callOutcome (up v d) (flushedAfter further)) k .current .tally .mode) (callsLeftOf (k .current .tally))
+    → Ending (advancesTold callOutcome (up v d) further) (modelled (fedAll callOutcome (up v d) (flushedAfter further)) k .current .tally .mode) (callsLeftOf (k .current .tally))
 unfolding advancesTold flushedAfter modelled fedAll afterAll isAdvance after
 direct-ending no-call g v d k told i clear on = ending-none on (left-positive (k .current .tally) (tally-runs (i .up) on))
 direct-ending (an-advance f) g v d k told i clear on =
@@ -126,7 +126,7 @@ direct-ending (a-read {x = x} {piece = piece} f) g v d k told i clear on =
 
 ending-from : (g : Geometry) (s : System) (k : CachedModel) (told : Option ℕ) → Invariant true g s k told → Flushed s → IsUp s → k .current .tally .mode ≡ growing
     → {further : List DirectEvent} → DirectFurther further
-    → Ending (advancesTold s further) (modelled (fedAll callOutcome s (flushedAfter further)) k .current .tally .mode) (callsLeftOf (k .current .tally))
+    → Ending (advancesTold callOutcome s further) (modelled (fedAll callOutcome s (flushedAfter further)) k .current .tally .mode) (callsLeftOf (k .current .tally))
 unfolding IsUp
 ending-from g (up v d) k told i clear is-up on f = direct-ending f g v d k told i clear on
 ending-from g (down m) k told i clear is-up on f = absurd is-up
@@ -147,11 +147,11 @@ module _ (a : Start) (ok : accepted (formatted a .reply .answer) ≡ true) (es :
   unfolding begin after outcome memoryOf callOutcome
   first-keeps = (flushed-keeps (startGeometry a) (startCached a) none false _ _ (start a ok), flushed-pending false (startGeometry a) _ _ _ _ (start a ok))
 
-  all-keep : Invariant true (startGeometry a) (systemWithout a es) (cachedAfter a (fromFormat es)) (lastReported callOutcome first (flushedAfter es) firstHeard)
+  all-keep : Invariant true (startGeometry a) (systemWithout callOutcome a es) (cachedAfter a (fromFormat es)) (lastReported callOutcome first (flushedAfter es) firstHeard)
   unfolding systemAfter fromFormat afterAll modelled fedAll Lawful
   all-keep = keeps-all (startGeometry a) first firstModel firstHeard (flushedAfter es) (first-keeps .0) (l .1)
 
-  all-flushed : Flushed (systemWithout a es)
+  all-flushed : Flushed (systemWithout callOutcome a es)
   unfolding systemAfter fromFormat afterAll Lawful
   all-flushed = flushed-all (startGeometry a) first firstModel firstHeard es (first-keeps .0) (first-keeps .1) (l .1)
 
@@ -159,12 +159,12 @@ module _ (a : Start) (ok : accepted (formatted a .reply .answer) ≡ true) (es :
   unfolding fromFormat NoEarlyCut
   early = inl refl
 
-  finishing : IsUp (systemWithout a es) → isRunning (modelWithout a es .tally .mode) ≡ true → (further : List DirectEvent) → DirectFurther further
-      → DirectFinishing a es further (callsLeftOf (modelWithout a es .tally))
+  finishing : IsUp (systemWithout callOutcome a es) → isRunning (modelWithout callOutcome a es .tally .mode) ≡ true → (further : List DirectEvent) → DirectFurther further
+      → DirectFinishing callOutcome a es further (callsLeftOf (modelWithout callOutcome a es .tally))
   unfolding modelOf systemAfter
   finishing is-up on further f =
-      let e = ending-from (startGeometry a) (systemWithout a es) (cachedAfter a (fromFormat es)) _ all-keep all-flushed is-up (running-grows _ on) f in
-      let joined : modelWithout a (es ++ further) ≡ modelled (fedAll callOutcome (systemWithout a es) (flushedAfter further)) (cachedAfter a (fromFormat es)) .current =
+      let e = ending-from (startGeometry a) (systemWithout callOutcome a es) (cachedAfter a (fromFormat es)) _ all-keep all-flushed is-up (running-grows _ on) f in
+      let joined : modelWithout callOutcome a (es ++ further) ≡ modelled (fedAll callOutcome (systemWithout callOutcome a es) (flushedAfter further)) (cachedAfter a (fromFormat es)) .current =
       ap (modelOf callOutcome a) (from-append es further) ∙ ap (λ (k : CachedModel). k .current) (modelled-append (begin a) (startCached a) (fromFormat es) (flushedAfter further)) in
       record {
         still-runs = λ n. grows-running (ap (λ (k : Model). k .tally .mode) joined ∙ e .still-runs n);

@@ -130,7 +130,7 @@ unfolding computing
 all-fed = refl
 
 -- what is fed of the first events
-fed-before : (s : System) (es rest : List Event) → fedAll callOutcome s es ≡ take (length es) (fedAll callOutcome s (es ++ rest))
+pub fed-before : (s : System) (es rest : List Event) → fedAll callOutcome s es ≡ take (length es) (fedAll callOutcome s (es ++ rest))
 unfolding fedAll
 fed-before s [] rest = refl
 fed-before s (e ∷ es) rest = ap (λ (fs : List Fed). fed callOutcome s e ∷ fs) (fed-before (after callOutcome s e) es rest)
@@ -143,10 +143,10 @@ first-fed : fedAll callOutcome (begin workedStart) firstEvents ≡ firstFed
 unfolding finishedEvents firstEvents
 first-fed = fed-before (begin workedStart) firstEvents lastEvents ∙ ap (take 13) finished-fed
 
-abbrev modelFed : (fs : List Fed) → Model
+abbrev pub modelFed : (fs : List Fed) → Model
 modelFed fs = modelled fs (nothingPending (startModel 1 1)) .current
 
-model-fed : (es : List Event) (fs : List Fed) → fedAll callOutcome (begin workedStart) es ≡ fs → modelOf callOutcome workedStart es ≡ modelFed fs
+pub model-fed : (es : List Event) (fs : List Fed) → fedAll callOutcome (begin workedStart) es ≡ fs → modelOf callOutcome workedStart es ≡ modelFed fs
 unfolding modelOf workedStart
 model-fed es fs e = ap (λ (l : List Fed). modelled l (nothingPending (startModel 1 1)) .current) e
 
