@@ -1,7 +1,7 @@
 -- Which spots have a block that the newest growth, from m disks to c, added, no growth running. Assumes nothing.
 use Prim.Native.Nat.{ℕ, _+_, _-_, _*_, _/_, _%_, _≤_, _<_}
 use mathlib.Core.Path.{_≡_, sym, _∙_, ap, subst}
-use mathlib.Core.Bool.{Bool, true}
+use mathlib.Core.Bool.{Bool, true, false, true≢false}
 use mathlib.Core.List.{List, _∷_}
 use mathlib.Core.Option.{some}
 use native.Mathlib.Nat.{mod-lt, div-add-mod'}
@@ -9,7 +9,7 @@ use native.Mathlib.Omega.{arith}
 use Rattle.layout.specs.declared.Spot.{Spot}
 use Rattle.layout.specs.Growth.{addedSpot, addedIndex, spotBefore}
 use Rattle.layout.specs.History.{Within, diskCount, earlier, oldCount, addedCount, rising, spotOf, blockAt}
-use Rattle.layout.specs.Tally.{Mode, notGrowing, Tally, liveSpotOf, liveBlockOf}
+use Rattle.layout.specs.Tally.{Mode, notGrowing, growing, isRunning, Tally, liveSpotOf, liveBlockOf}
 use Rattle.layout.specs.Laws.{RemainderOf, AddedAt}
 use Rattle.layout.proofs.Remainder.{remainder, minus-minus}
 use Rattle.layout.proofs.OneRow.{added-there}
@@ -80,5 +80,6 @@ module _ (s c m : ℕ) (h : List ℕ) (r : rising (c ∷ m ∷ h) ≡ true) wher
           older-told = λ k. ap some (block-older p k);
         }
 
-    pub added-law : (mode : Mode) → mode ≡ notGrowing → (p : Spot) → Within s (c ∷ m ∷ h) p → AddedAt (tally mode) p
-    added-law mode e p l = rw e (at-rest p l)
+    pub added-law : (mode : Mode) → isRunning mode ≡ false → (p : Spot) → Within s (c ∷ m ∷ h) p → AddedAt (tally mode) p
+    added-law notGrowing e p l = at-rest p l
+    added-law growing e p l = absurd (true≢false e)

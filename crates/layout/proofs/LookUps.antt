@@ -7,7 +7,7 @@ use mathlib.Core.Option.{some}
 use Rattle.layout.specs.History.{diskCount, earlier, spotOf, blockAt}
 use Rattle.layout.specs.Windows.{oldSpot}
 use Rattle.layout.specs.Live.{atNewSpot, liveSpot}
-use Rattle.layout.specs.Tally.{Mode, notGrowing, growing, Tally, openBlocks, movedBlocks, liveSpotOf, liveBlockOf, growthsOf}
+use Rattle.layout.specs.Tally.{Mode, notGrowing, growing, isRunning, Tally, openBlocks, movedBlocks, liveSpotOf, liveBlockOf, growthsOf}
 use Rattle.layout.specs.Laws.{Bijection, LiveSpots, LookUps}
 use Rattle.layout.proofs.Bijection.{spot-injective}
 
@@ -41,13 +41,13 @@ module _ (s : ℕ) (h : List ℕ) (w : ℕ) (copied recorded : ℕ → Bool) whe
         live-distinct = L .distinct;
         block-of-live = L .block-of-live;
         live-of-block = L .live-of-block;
-        each-spot-taken = λ e p f. true≢false cc;
+        each-spot-taken = λ e p f. true≢false e;
         live-growths = λ x. spot-of-choice (atNewSpot s h (movedBlocks (tally growing)) x) x;
       }
 
-  by-mode : (mode : Mode) → Bijection s h → (mode ≡ growing → LiveSpots s h (movedBlocks (tally mode))) → LookUps (tally mode)
+  by-mode : (mode : Mode) → Bijection s h → (isRunning mode ≡ true → LiveSpots s h (movedBlocks (tally mode))) → LookUps (tally mode)
   by-mode notGrowing B L = at-rest B
   by-mode growing B L = running (L refl)
 
-pub look-ups-law : (t : Tally) → Bijection (t .rows) (t .counts) → (t .mode ≡ growing → LiveSpots (t .rows) (t .counts) (movedBlocks t)) → LookUps t
+pub look-ups-law : (t : Tally) → Bijection (t .rows) (t .counts) → (isRunning (t .mode) ≡ true → LiveSpots (t .rows) (t .counts) (movedBlocks t)) → LookUps t
 look-ups-law t = by-mode (t .rows) (t .counts) (t .window) (t .copied) (t .recorded) (t .mode)

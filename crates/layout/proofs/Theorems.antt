@@ -1,7 +1,7 @@
 -- The laws of the layout: `layout-laws` proves all of `LayoutLaws` in `specs/Laws.antt`. Assumes nothing.
 use Prim.Native.Nat.{ℕ, _+_, _-_, _<_}
 use mathlib.Core.Path.{_≡_, refl}
-use mathlib.Core.Bool.{Bool, true}
+use mathlib.Core.Bool.{Bool, true, false}
 use mathlib.Core.List.{List, [], _∷_}
 use native.Mathlib.Omega.{arith}
 use lib.ListN.{length}
@@ -12,7 +12,7 @@ use Rattle.layout.specs.History.{Within, diskCount, earlier, oldCount, a
 use Rattle.layout.specs.Windows.{windows, windowOfRow, oldSpot, moving, windowOf, movingIn, uncopied, callsLeft}
 use Rattle.layout.specs.Limits.{Limits}
 use Rattle.layout.specs.Reasons.{reasonAfter, reasonOf}
-use Rattle.layout.specs.Tally.{Tally, notGrowing, growing, movedBlocks}
+use Rattle.layout.specs.Tally.{Tally, isRunning, movedBlocks}
 use Rattle.layout.specs.Laws.{RemainderOf, Bijection, Moving, LiveSpots, Marks, MarksFit, Counts, LookUps, AddedAt, ReasonTrue, LayoutLaws}
 use Rattle.layout.specs.Cases.{TableHolds, worked}
 use Rattle.layout.proofs.Histories.{rising-up}
@@ -81,12 +81,12 @@ pub marks-fit : (s : ℕ) (h : List ℕ) → Limits s h → 0 < oldCount h → M
 marks-fit s h a g = marks-most (oldCount h) (addedCount h) (omega (arith, disks-sum s h (a .rise) g, a .disks-most))
 
 -- a tally's live spots, whether a growth runs or not
-pub look-ups : (t : Tally) → rising (t .counts) ≡ true → (t .mode ≡ growing → 0 < oldCount (t .counts)) → LookUps t
+pub look-ups : (t : Tally) → rising (t .counts) ≡ true → (isRunning (t .mode) ≡ true → 0 < oldCount (t .counts)) → LookUps t
 look-ups t r g =
     look-ups-law t (spots-and-blocks (t .rows) (t .counts) r) (λ e. live-spots (t .rows) (t .counts) r (g e) (movedBlocks t))
 
 -- which spots have a block that the newest growth added, no growth running
-pub added-blocks : (t : Tally) → rising (t .counts) ≡ true → 0 < oldCount (t .counts) → t .mode ≡ notGrowing
+pub added-blocks : (t : Tally) → rising (t .counts) ≡ true → 0 < oldCount (t .counts) → isRunning (t .mode) ≡ false
     → (p : Spot) → Within (t .rows) (t .counts) p → AddedAt t p
 added-blocks t r g e =
     has-growth

@@ -14,7 +14,7 @@ use Rattle.layout.specs.History.{diskCount, earlier, oldCount, addedCoun
 use Rattle.layout.specs.Windows.{windows, rowExists, oldSpot, moving, windowOf, markOf, blockOfMark, markedBlocks, movesOfWindow, uncopied, callsLeft, cutMoves, laterMoves, callsLeftByMarks}
 use Rattle.layout.specs.Live.{liveSpot, liveBlock}
 use Rattle.layout.specs.Reasons.{reasonOf, growthTold, firstGrowths}
-use Rattle.layout.specs.Tally.{Tally, notGrowing, growing, openBlocks, liveSpotOf, liveBlockOf, growthsOf}
+use Rattle.layout.specs.Tally.{Tally, isRunning, openBlocks, liveSpotOf, liveBlockOf, growthsOf}
 use Rattle.layout.specs.Limits.{Limits}
 use Rattle.layout.specs.Cases.{TableHolds}
 
@@ -83,7 +83,7 @@ pub record LookUps (t : Tally) : Type 0 where
   pub live-of-block : (p : Spot) (x : ℕ) → Within (t .rows) (t .counts) p → liveBlockOf t p ≡ some x
       → (x < openBlocks t) × (liveSpotOf t x ≡ p)
   -- "After a finished growth 15 never occurs."
-  pub each-spot-taken : t .mode ≡ notGrowing → (p : Spot) → liveBlockOf t p ≢ none
+  pub each-spot-taken : isRunning (t .mode) ≡ false → (p : Spot) → liveBlockOf t p ≢ none
   -- the live spot is the one that the growths told of give it
   pub live-growths : (x : ℕ) → liveSpotOf t x ≡ spotOf (t .rows) (growthsOf t x) x
 
@@ -127,8 +127,8 @@ pub record LayoutLaws : Type 0 where
   pub marks-and-blocks : (s : ℕ) (h : List ℕ) → rising h ≡ true → 0 < oldCount h → Marks s h
   pub marks-fit : (s : ℕ) (h : List ℕ) → Limits s h → 0 < oldCount h → MarksFit h
   pub move-counts : (s : ℕ) (h : List ℕ) → rising h ≡ true → 0 < oldCount h → Counts s h
-  pub look-ups : (t : Tally) → rising (t .counts) ≡ true → (t .mode ≡ growing → 0 < oldCount (t .counts)) → LookUps t
-  pub added-blocks : (t : Tally) → rising (t .counts) ≡ true → 0 < oldCount (t .counts) → t .mode ≡ notGrowing
+  pub look-ups : (t : Tally) → rising (t .counts) ≡ true → (isRunning (t .mode) ≡ true → 0 < oldCount (t .counts)) → LookUps t
+  pub added-blocks : (t : Tally) → rising (t .counts) ≡ true → 0 < oldCount (t .counts) → isRunning (t .mode) ≡ false
       → (p : Spot) → Within (t .rows) (t .counts) p → AddedAt t p
   pub reason-true : (s : ℕ) (h : List ℕ) (x : ℕ) → rising h ≡ true → ReasonTrue s h x
   -- L1 to L12

@@ -143,8 +143,8 @@ module _ (t : Tally) (r : Running t) where
 -- ---- spots while none runs: nothing is to be copied
 
 module _ (t : Tally) (r : Resting t) where
-  not-growing {ℓ} : {X : Type ℓ} → t .mode ≡ growing → X
-  not-growing e = let f : notGrowing ≡ growing = sym (r .is-resting) ∙ e in absurd (true≢false cc)
+  not-running {ℓ} : {X : Type ℓ} → isRunning (t .mode) ≡ true → X
+  not-running e = absurd (false≢true (rw (r .is-resting) at e))
 
   none-unrecorded {ℓ} : {X : Type ℓ} (x : ℕ) → unrecorded t x ≡ true → X
   unfolding unrecorded
@@ -155,7 +155,7 @@ module _ (t : Tally) (r : Resting t) where
   none-waiting x e = absurd (false≢true (rw (r .is-resting) at e))
 
   look-resting : LookUps t
-  look-resting = layout-laws .look-ups t (r .rise) not-growing
+  look-resting = layout-laws .look-ups t (r .rise) not-running
 
   apart-resting : SpotsApart t
   apart-resting =

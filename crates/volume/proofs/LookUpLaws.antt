@@ -2,7 +2,7 @@
 -- finished growth 15 never occurs. Assumes nothing.
 use Prim.Native.Nat.{ℕ, _≤_, _<_}
 use mathlib.Core.Path.{_≡_, refl, sym, ap, _∙_}
-use mathlib.Core.Bool.{Bool, true, false, cond, not}
+use mathlib.Core.Bool.{Bool, true, false, cond, not, false≢true}
 use mathlib.Core.List.{[], _∷_}
 use mathlib.Core.Logic.{_≢_}
 use mathlib.Core.Option.{Option, none, some}
@@ -14,7 +14,7 @@ use Rattle.base.proofs.Booleans.{clash}
 use Rattle.layout.specs.declared.Spot.{Spot}
 use Rattle.layout.specs.History.{Within}
 use Rattle.layout.specs.Laws.{LookUps}
-use Rattle.layout.specs.Tally.{notGrowing, growing, openBlocks, liveSpotOf, liveBlockOf, liveReasonOf}
+use Rattle.layout.specs.Tally.{notGrowing, growing, isRunning, openBlocks, liveSpotOf, liveBlockOf, liveReasonOf}
 use Rattle.layout.proofs.Theorems as layout
 use Rattle.medium.specs.Medium.{bytesNeeded, Inside}
 use Rattle.medium.proofs.Theorems.{medium-laws}
@@ -29,20 +29,20 @@ use Rattle.volume.proofs.Judged.{refused-when, accepted-when}
 use Rattle.volume.proofs.RefusalLaws.{address-refuses, holder-refuses}
 use Rattle.volume.proofs.SoundLaws.{sound-facts, some-old}
 
--- the mode of a state that grows
-growing-number : (g : ℕ) → modeOf g ≡ growing → eqb g 0 ≡ false
+-- a state whose growth runs
+running-number : (g : ℕ) → isRunning (modeOf g) ≡ true → eqb g 0 ≡ false
 unfolding modeOf
-growing-number g e = by (eqb g 0) e
+running-number g e = by (eqb g 0) e
   where
-    by : (t : Bool) → cond t notGrowing growing ≡ growing → t ≡ false
-    by true e = cc
+    by : (t : Bool) → isRunning (cond t notGrowing growing) ≡ true → t ≡ false
+    by true e = absurd (false≢true e)
     by false e = refl
 
 pub look-ups-of : (v : Volume) → sound v ≡ true → LookUps (tallyOf v)
 unfolding tallyOf historyOf
 look-ups-of v e =
     layout.look-ups (tallyOf v) (sound-facts v e .limits .rise)
-    (λ m. some-old v e (eqb-false (v .growing) 0 (growing-number (v .growing) m)))
+    (λ m. some-old v e (eqb-false (v .growing) 0 (running-number (v .growing) m)))
 
 pub live-inside : (v : Volume) (x len : ℕ) → sound v ≡ true → x < openBlocks (tallyOf v) → bytesNeeded (geometry v) (disks v) ≤ len
     → Inside (geometry v) len (liveSpotOf (tallyOf v) x)
