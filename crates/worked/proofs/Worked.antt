@@ -1,16 +1,17 @@
 -- The worked list, by computing. Assumes nothing.
-use Prim.Native.Nat.{ℕ}
-use mathlib.Core.Bool.{Bool, true, false, true≢false}
+use Prim.Native.Nat.{ℕ, suc, _-_}
+use mathlib.Core.Bool.{Bool, true, false, cond, _&&_, true≢false}
 use mathlib.Core.List.{List, [], _∷_, _++_}
 use mathlib.Core.Logic.{inl}
 use mathlib.Core.Option.{none, some}
 use mathlib.Core.Path.{_≡_, refl, sym, ap, _∙_}
 use native.Mathlib.Omega.{arith}
-use lib.ListN.{length, take, length-replicate}
+use lib.ListN.{length, take, drop, replicate, length-replicate}
+use Rattle.base.proofs.Booleans.{by-test}
 use Rattle.layout.specs.Tally.{isRunning, callsLeftOf}
 use Rattle.volume.specs.Answers.{accepted}
-use Rattle.promise.specs.Calls.{Call, grow, copy, checkpoint, advance, write, read, restart, flushed, sameRecord, recordOld, Fed, ended, cutIn}
-use Rattle.promise.specs.Lists.{Event, System, IsUp, runs, outcome, callOutcome, after, NoEarlyCut, Lawful, afterAll, fed, fedAll, lastReported, finishedTold}
+use Rattle.promise.specs.Calls.{Call, grow, copy, checkpoint, advance, write, read, restart, flushed, isAdvance, sameRecord, recordOld, Fed, ended, cutIn}
+use Rattle.promise.specs.Lists.{Event, System, IsUp, runs, cut, outcome, isAccepted, callOutcome, after, NoEarlyCut, Lawful, AllFurther, an-advance, a-flushed, afterAll, fed, fedAll, lastReported, tellings, finishedTold}
 use Rattle.promise.specs.Model.{Model, startModel, nothingPending, modelled}
 use Rattle.promise.specs.Promise.{Kept, formatted, begin, systemAfter, modelOf}
 use Rattle.promise.proofs.Theorem.{lawful-before, promise}
@@ -225,9 +226,37 @@ kept-first = promise workedStart is-accepted firstEvents first-lawful first-earl
 calls-told : lastReported callOutcome (begin workedStart) firstEvents none ≡ some 2
 calls-told = kept-first .calls-left first-up grows ∙ ap some calls-left
 
+-- the accepted advances among what is fed are those that tell
+advancesFed : (fs : List Fed) → ℕ
+advancesFed [] = 0
+advancesFed (ended c b ∷ fs) = cond (isAdvance c && b) (suc (advancesFed fs)) (advancesFed fs)
+advancesFed (cutIn c left ∷ fs) = advancesFed fs
+
+tellings-fed : (s : System) (es : List Event) → length (finishedTold callOutcome s es) ≡ advancesFed (fedAll callOutcome s es)
+unfolding finishedTold fedAll fed tellings advancesFed
+tellings-fed s [] = refl
+tellings-fed s (runs c ∷ es) =
+    by-test (isAdvance c && isAccepted callOutcome c s) (λ t. rw t (ap suc (tellings-fed (after callOutcome s (runs c)) es)))
+    (λ t. rw t (tellings-fed (after callOutcome s (runs c)) es))
+tellings-fed s (cut c left ∷ es) = tellings-fed (after callOutcome s (cut c left)) es
+
+-- what is fed of the events after the first
+fed-after : (s : System) (es rest : List Event) → fedAll callOutcome (afterAll callOutcome s es) rest ≡ drop (length es) (fedAll callOutcome s (es ++ rest))
+unfolding fedAll afterAll
+fed-after s [] rest = refl
+fed-after s (e ∷ es) rest = fed-after (after callOutcome s e) es rest
+
+two-advances : length (finishedTold callOutcome (systemAfter callOutcome workedStart firstEvents) lastEvents) ≡ 2
+unfolding systemAfter finishedEvents firstEvents isAdvance advancesFed
+two-advances =
+    tellings-fed (systemAfter callOutcome workedStart firstEvents) lastEvents
+    ∙ ap advancesFed (fed-after (begin workedStart) firstEvents lastEvents ∙ ap (drop 13) finished-fed)
+
 told : finishedTold callOutcome (systemAfter callOutcome workedStart firstEvents) lastEvents ≡ false ∷ true ∷ []
-unfolding computing
-told = refl
+unfolding lastEvents AllFurther
+told =
+    kept-first .finishes first-up grows lastEvents (an-advance, (an-advance, (a-flushed, (an-advance, tt)))) .last-told (two-advances ∙ sym calls-left)
+    ∙ ap (λ (n : ℕ). replicate (n - 1) false ++ (true ∷ [])) calls-left
 
 block-set : modelOf callOutcome workedStart beforeRead .plain .bytes 0 ≡ some (blockOf 3)
 block-set = ap (λ (k : Model). k .plain .bytes 0) last-model ∙ last-set
