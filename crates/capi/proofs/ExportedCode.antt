@@ -12,11 +12,9 @@ use Rattle.base.specs.Refusals.{refusal}
 use Rattle.base.proofs.Booleans.{and-left, by-test}
 use Rattle.medium.specs.declared.Geometry.{Geometry}
 use Rattle.medium.specs.Medium.{Observations, apply}
-use Rattle.volume.specs.declared.Pending.{Pending}
 use Rattle.volume.specs.declared.Volume.{Volume}
 use Rattle.volume.specs.States.{withPending}
-use Rattle.volume.specs.Calls.{Outcome, refused, doing, formatTable, formatEffect, formatOutcome, writeTable, writeEffect, writeOutcome, flushedTable, flushedEffect, flushedOutcome}
-use Rattle.volume.proofs.Judged.{judged-cases}
+use Rattle.volume.specs.Calls.{refused, doing, formatTable, formatEffect, formatOutcome}
 use Rattle.scene_load.specs.declared.Load.{Load}
 use Rattle.scene_load.specs.declared.Scene.{Scene}
 use Rattle.scene_load.specs.Loads.{loadOf, loadNumber}
@@ -24,6 +22,7 @@ use Rattle.capi.specs.Exported.{wrongLength, lengthsFit, stateFits, unto
 use Rattle.capi.specs.Figures.{loadFigures}
 use Rattle.capi.specs.Words.{stateWords, pendingWord, wordsOf, stateFrom, areState}
 use Rattle.capi.proofs.WordLaws.{words-pending, state-words}
+use Rattle.capi.proofs.RefusedLaws.{OnlyPending}
 
 pub words-wrong : (words : List ℕ) (n : ℕ) (figures : List ℕ) → length words ≢ stateWords → lengthsFit words n figures ≡ false
 unfolding lengthsFit
@@ -58,23 +57,7 @@ module _ (words : List ℕ) (n : ℕ) (figures : List ℕ) (told : Bool) (e : to
     unfolding stateFits
     state-right f = rw (are-state, eq-eqb (length figures) n f)
 
--- write and flushed change what is pending and nothing else of the state
-abbrev OnlyPending : (v u : Volume) → Type 0
-OnlyPending v u = (p : Pending) × (u ≡ withPending v p)
-
-pub write-pending : (v : Volume) (x : ℕ) (piece : List ℕ) (o : Observations) → OnlyPending v (writeOutcome v x piece o .reply .state)
-unfolding writeOutcome writeEffect doing refused withPending
-write-pending v x piece o =
-    judged-cases (λ (out : Outcome). OnlyPending v (out .reply .state)) (writeTable v x (length piece) (o .byteCount)) (λ n. refused v n piece)
-    (writeEffect v x piece) (λ _. (_, refl)) (λ _. (v .pending, refl))
-
-pub flushed-pending : (v : Volume) → OnlyPending v (flushedOutcome v .reply .state)
-unfolding flushedOutcome flushedEffect doing refused withPending
-flushed-pending v =
-    judged-cases (λ (out : Outcome). OnlyPending v (out .reply .state)) (flushedTable v) (λ n. refused v n [])
-    (flushedEffect v) (λ _. (_, refl)) (λ _. (v .pending, refl))
-
--- and so putting that into the words puts the state
+-- putting what is pending into the words puts the state, where nothing else of it differs
 pub pending-put : (words : List ℕ) → areState words ≡ true → (u v : Volume) → u ≡ v → OnlyPending (stateFrom words) v
     → (after : List ℕ) → after ≡ set words 15 (pendingWord (u .pending)) → after ≡ wordsOf u
 unfolding withPending

@@ -260,18 +260,24 @@ first-words : (v : Volume) (p : Pending) → length (v .counts) ≡ 8 → take 1
 unfolding wordsOf withPending numbersOf
 first-words v p e = rw (eight-listed (v .counts) e)
 
-module _ (v : Volume) (e : length (v .counts) ≡ 8) where
-  abbrev keepsFirst : Outcome → Type 0
-  keepsFirst out = take 15 (wordsOf (out .reply .state)) ≡ take 15 (wordsOf v)
+-- write and flushed change what is pending and nothing else of the state
+abbrev pub OnlyPending : (v u : Volume) → Type 0
+OnlyPending v u = (p : Pending) × (u ≡ withPending v p)
 
-  write-first : (x : ℕ) (piece : List ℕ) (o : Observations) → keepsFirst (writeOutcome v x piece o)
-  unfolding writeOutcome writeEffect doing refused
-  write-first x piece o =
-      judged-cases keepsFirst (writeTable v x (length piece) (o .byteCount)) (λ k. refused v k piece) _ (λ _. first-words v _ e) (λ _. refl)
+pub write-pending : (v : Volume) (x : ℕ) (piece : List ℕ) (o : Observations) → OnlyPending v (writeOutcome v x piece o .reply .state)
+unfolding writeOutcome writeEffect doing refused withPending
+write-pending v x piece o =
+    judged-cases (λ (out : Outcome). OnlyPending v (out .reply .state)) (writeTable v x (length piece) (o .byteCount)) (λ n. refused v n piece)
+    (writeEffect v x piece) (λ _. (_, refl)) (λ _. (v .pending, refl))
 
-  flushed-first : keepsFirst (flushedOutcome v)
-  unfolding flushedOutcome flushedEffect doing refused withPending pendingWith
-  flushed-first = judged-cases keepsFirst (flushedTable v) (λ k. refused v k []) _ (λ _. first-words v nonePending e) (λ _. refl)
+pub flushed-pending : (v : Volume) → OnlyPending v (flushedOutcome v .reply .state)
+unfolding flushedOutcome flushedEffect doing refused withPending
+flushed-pending v =
+    judged-cases (λ (out : Outcome). OnlyPending v (out .reply .state)) (flushedTable v) (λ n. refused v n [])
+    (flushedEffect v) (λ _. (_, refl)) (λ _. (v .pending, refl))
+
+only-last : (v u : Volume) → length (v .counts) ≡ 8 → OnlyPending v u → take 15 (wordsOf u) ≡ take 15 (wordsOf v)
+only-last v u e (p, same) = rw same (first-words v p e)
 
 read-state : (v : Volume) (x : ℕ) (piece : List ℕ) (o : Observations) → readOutcome v x piece o .reply .state ≡ v
 unfolding readOutcome readEffect doing refused withPending pendingWith
@@ -288,13 +294,13 @@ module _ (words : List ℕ) where
   unfolding writeLeft handedBack untouched
   write-keeps x piece o =
       cond-cases (λ (left : Left). take 15 (left .words) ≡ take 15 words) (stateFits words 0 [])
-      (λ e. write-first (stateFrom words) (counts-of e) x piece o ∙ ap (take 15) (fits-back words 0 [] e)) (λ _. refl)
+      (λ e. only-last (stateFrom words) _ (counts-of e) (write-pending (stateFrom words) x piece o) ∙ ap (take 15) (fits-back words 0 [] e)) (λ _. refl)
 
   pub flushed-keeps : take 15 (flushedLeft words .words) ≡ take 15 words
   unfolding flushedLeft handedBack untouched
   flushed-keeps =
       cond-cases (λ (left : Left). take 15 (left .words) ≡ take 15 words) (stateFits words 0 [])
-      (λ e. flushed-first (stateFrom words) (counts-of e) ∙ ap (take 15) (fits-back words 0 [] e)) (λ _. refl)
+      (λ e. only-last (stateFrom words) _ (counts-of e) (flushed-pending (stateFrom words)) ∙ ap (take 15) (fits-back words 0 [] e)) (λ _. refl)
 
   pub read-keeps : (x : ℕ) (piece : List ℕ) (o : Observations) → readLeft words x piece o .words ≡ words
   unfolding readLeft handedBack untouched

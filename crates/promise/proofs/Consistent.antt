@@ -1,6 +1,6 @@
 -- The invariant: state, medium and plain volume agree; and each store keeps it, whole or torn. Assumes nothing.
 use Prim.Native.Nat.{ℕ, _*_, _≤_, _<_}
-use mathlib.Core.Path.{_≡_, refl, sym, _∙_}
+use mathlib.Core.Path.{_≡_, refl, _∙_}
 use mathlib.Core.Bool.{Bool, true, false, cond, _&&_}
 use mathlib.Core.List.{List}
 use mathlib.Core.Logic.{_≢_}
@@ -11,7 +11,7 @@ use Rattle.base.proofs.Booleans.{cond-cases}
 use Rattle.layout.specs.History.{diskCount, oldCount, earlier}
 use Rattle.layout.specs.Tally.{Tally, notGrowing, openBlocks, liveSpotOf, waiting, movesNow, targetOf, windowFull, lastWindow}
 use Rattle.medium.specs.declared.Geometry.{Geometry}
-use Rattle.medium.specs.Laws.{Holds, OtherThanRecord, OtherThanSpot, Stored}
+use Rattle.medium.specs.Laws.{Holds, OtherThanRecord, Stored}
 use Rattle.medium.specs.Medium.{bytesNeeded, Observations, Store, noStore, recordStore, blockStore}
 use Rattle.volume.specs.declared.Pending.{Pending}
 use Rattle.volume.specs.declared.Volume.{Volume}

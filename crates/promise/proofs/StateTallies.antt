@@ -18,7 +18,6 @@ use Rattle.layout.specs.Windows.{moving, windowOf, movingIn, markOf, blockOfMar
 use Rattle.layout.proofs.Theorems.{layout-laws}
 use Rattle.marks.specs.Marks.{markCount, noMarks}
 use Rattle.marks.proofs.MarkSets.{its-mark, marked-within}
-use Rattle.volume.specs.declared.Pending.{Pending}
 use Rattle.volume.specs.declared.Volume.{Volume}
 use Rattle.volume.specs.Sound.{sound}
 use Rattle.volume.specs.States.{historyOf, modeOf, tallyOf, newState, withPending, withGrowth, grown, recordedOnly, withCopy, checkpointed}
@@ -93,11 +92,6 @@ resting-of v s off = record { is-resting = rw (eq-eqb (v .growing) 0 off); rise 
 pub stage-of : (v : Volume) → sound v ≡ true → Stage (tallyOf v)
 stage-of v s =
     elim (ℕ-discrete (v .growing) 0) [ yes off ↦ resting (resting-of v s off) | no on ↦ running (running-of v s on) ]
-
--- what is pending is no part of the tally
-pub tally-pending : (v : Volume) (p : Pending) → tallyOf (withPending v p) ≡ tallyOf v
-unfolding tallyOf historyOf withPending
-tally-pending v p = refl
 
 -- ---- a state without marks
 

@@ -23,13 +23,13 @@ use Rattle.volume.proofs.Accepted.{format-accepted}
 use Rattle.volume.proofs.Judged.{judged-cases}
 use Rattle.volume.proofs.SoundLaws.{from-one}
 use Rattle.promise.specs.Calls.{Call, write, read, restart, flushed, settles}
-use Rattle.promise.specs.Lists.{runs, cut, Drives, mediumOf, memoryOf, drivesOf, outcome, callOutcome, drivesAfter, storesAt, after, Allowed, later, Lawful}
+use Rattle.promise.specs.Lists.{runs, cut, Drives, mediumOf, memoryOf, drivesOf, outcome, callOutcome, drivesAfter, storesAt, after, Allowed, later, NoEarlyCut, Lawful}
 use Rattle.promise.specs.Model.{Model, leaving, stepOf, withSave, stepped, startTally, startPlain, startModel, accepting, nothingPending, following, modelAfter}
 use Rattle.promise.specs.Promise.{Start, formatted, begin}
 use Rattle.promise.proofs.EventSteps.{flushed-pending, flushed-live, settling-accepted}
 use Rattle.promise.proofs.Steps.{Up}
 use Rattle.promise.proofs.Theorem.{startGeometry, start, block-open, piece-whole}
-use Rattle.worked.specs.Worked.{blockOf, unlawful, NoneLawful, NotEmpty}
+use Rattle.worked.specs.Worked.{blockOf, workedStart, unlawful, earlyCut, NoneLawful, NotEmpty}
 use Rattle.worked.proofs.Computing.{computing}
 use Rattle.worked.proofs.Worked.{other, worked}
 
@@ -126,5 +126,23 @@ module _ (a : Start) (ok : accepted (formatted a .reply .answer) ≡ true) where
     ),
   )
 
+-- ---- a list that is lawful and not covered
+
+early-lawful : Lawful callOutcome (begin workedStart) earlyCut
+unfolding computing earlyCut
+early-lawful = ((tt, tt), tt)
+
+not-covered : NoEarlyCut earlyCut → ⊥
+unfolding NoEarlyCut earlyCut
+not-covered e = e
+
 pub not-empty : NotEmpty
-not-empty = record { worked = worked; not-lawful = not-lawful; every-call = every-call; a-cut = a-cut }
+not-empty =
+    record {
+      worked = worked;
+      not-lawful = not-lawful;
+      early-lawful = early-lawful;
+      not-covered = not-covered;
+      every-call = every-call;
+      a-cut = a-cut;
+    }

@@ -8,10 +8,10 @@ use native.Mathlib.Omega.{arith}
 use lib.ListN.{take, replicate, length-replicate}
 use Rattle.layout.specs.Tally.{isRunning, callsLeftOf}
 use Rattle.promise.specs.Calls.{grow, copy, checkpoint, advance, write, read, restart, flushed, isAdvance, sameRecord, recordOld, recordNew, Fed, ended, cutIn}
-use Rattle.promise.specs.Lists.{callOutcome, after, afterAll, IsUp, outcome, Lawful, fedAll, lastReported}
-use Rattle.promise.specs.Model.{Model, startModel, nothingPending, modelled}
-use Rattle.promise.specs.Promise.{begin, systemAfter, modelOf}
-use Rattle.promise.specs.WithoutCache.{DirectEvent, ends, flushedAfter, fromFormat, systemWithout, modelWithout, no-call, an-advance, advancesTold, DirectKept}
+use Rattle.promise.specs.Lists.{callOutcome, after, afterAll, IsUp, outcome, Lawful, fedAll}
+use Rattle.promise.specs.Model.{Model}
+use Rattle.promise.specs.Promise.{begin, systemAfter}
+use Rattle.promise.specs.WithoutCache.{ends, flushedAfter, fromFormat, systemWithout, modelWithout, no-call, an-advance, advancesTold, DirectKept}
 use Rattle.promise.proofs.Theorem.{lawful-before}
 use Rattle.promise.proofs.WithoutCache.{promise-without-cache}
 use Rattle.worked.specs.Worked.{blockOf, workedStart}

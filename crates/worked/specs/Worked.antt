@@ -92,6 +92,10 @@ unlawful =
     ∷ (runs flushed ∷ runs (grow 2) ∷ cut none [] ∷ [])
     ∷ []
 
+-- a list that is lawful and not covered: the power fails before the first flushed, and format's own record is not there
+unfoldable pub earlyCut : List Event
+earlyCut = cut none (oldRecord ∷ []) ∷ []
+
 unfoldable pub NoneLawful : (lists : List (List Event)) → Type 0
 NoneLawful [] = Unit {0}
 NoneLawful (es ∷ lists) = (Lawful callOutcome (begin workedStart) es → ⊥) × NoneLawful lists
@@ -99,6 +103,8 @@ NoneLawful (es ∷ lists) = (Lawful callOutcome (begin workedStart) es → ⊥) 
 pub record NotEmpty : Type 0 where
   pub worked : WorkedFacts
   pub not-lawful : NoneLawful unlawful
+  pub early-lawful : Lawful callOutcome (begin workedStart) earlyCut
+  pub not-covered : NoEarlyCut earlyCut → ⊥
   -- from every accepted format: after flushed every call may come, and a save may be cut and restart follow
   pub every-call : (a : Start) → accepted (formatted a .reply .answer) ≡ true → (c : Call) → Lawful callOutcome (begin a) (runs flushed ∷ runs c ∷ [])
   pub a-cut : (a : Start) → accepted (formatted a .reply .answer) ≡ true → (piece torn : List ℕ) → length piece ≡ a .size → length torn ≡ a .size

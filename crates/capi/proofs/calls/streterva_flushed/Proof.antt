@@ -7,7 +7,8 @@ use borrow.Author.Needs.{needs}
 use Rattle.volume.specs.declared.Reply.{Reply}
 use Rattle.capi.specs.Exported.{stateFits, untouched, handedBack, flushedLeft}
 use Rattle.capi.specs.Words.{stateWords}
-use Rattle.capi.proofs.ExportedCode.{words-length, no-state, are-state, state-right, flushed-pending, pending-put}
+use Rattle.capi.proofs.ExportedCode.{words-length, no-state, are-state, state-right, pending-put}
+use Rattle.capi.proofs.RefusedLaws.{flushed-pending}
 use Rattle.capi.proofs.calls.streterva_flushed.Statement.{statement}
 use Rattle.capi.proofs.calls.streterva_flushed.Tie as tie
 

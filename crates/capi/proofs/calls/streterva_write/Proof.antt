@@ -8,7 +8,8 @@ use Rattle.medium.specs.Medium.{apply}
 use Rattle.volume.specs.declared.Reply.{Reply}
 use Rattle.capi.specs.Exported.{stateFits, untouched, handedBack, writeLeft}
 use Rattle.capi.specs.Words.{stateWords}
-use Rattle.capi.proofs.ExportedCode.{words-length, no-state, are-state, state-right, write-pending, pending-put}
+use Rattle.capi.proofs.ExportedCode.{words-length, no-state, are-state, state-right, pending-put}
+use Rattle.capi.proofs.RefusedLaws.{write-pending}
 use Rattle.capi.proofs.calls.streterva_write.Statement.{statement}
 use Rattle.capi.proofs.calls.streterva_write.Tie as tie
 
