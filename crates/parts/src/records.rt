@@ -2,7 +2,6 @@
 ghost use Prim.Native.Nat.{_<_};
 use printing::labelled;
 use printing::next_number;
-use printing::put_bytes;
 use printing::show_set;
 use printing::text;
 use printing::write_worked;
@@ -44,7 +43,7 @@ fn show_read(page: &[u8]) {
 
 pub fn worked_record() {
     text(
-        b"9. The worked record of document 01: from 3 disks to 5, 512-byte blocks, 5 rows, blocks 0 and 3 recorded\n",
+        b"5. The worked record of document 01: from 3 disks to 5, 512-byte blocks, 5 rows, blocks 0 and 3 recorded\n",
     );
     let mut space = [b'.'; 520];
     let page: &mut [u8] = &mut space;
@@ -102,7 +101,7 @@ fn show_changes(name: &[u8], page: &mut [u8], from: usize, end: usize) {
     text(b"\n");
 }
 
-// 9, continued.
+// 5, continued.
 pub fn changed_records() {
     let mut space = [b'.'; 512];
     let page: &mut [u8] = &mut space;
@@ -124,30 +123,11 @@ fn refusal_of(page: &[u8], length: usize) -> usize {
     found.refusal
 }
 
-// The record with other bytes from `at` on, of which `length` bytes are read.
-fn show_damaged(name: &[u8], at: usize, bytes: &[u8], length: usize) {
+pub fn other_lengths() {
     let mut space = [b'.'; 520];
     let page: &mut [u8] = &mut space;
     write_worked(page);
-    put_bytes(page, at, bytes);
-    text(name);
-    labelled(b", refusal", refusal_of(page, length));
+    labelled(b"511 bytes, refusal", refusal_of(page, 511));
+    labelled(b"\n513 bytes, refusal", refusal_of(page, 513));
     text(b"\n");
-}
-
-// 9, continued: damaged columns.
-pub fn damaged_numbers() {
-    show_damaged(b"a count after N[t]", 50, b"         7", 512);
-    show_damaged(b"N[1] blank", 40, b"          ", 512);
-    show_damaged(b"t blank", 20, b"          ", 512);
-    show_damaged(b"a leading zero in s", 10, b"        05", 512);
-}
-
-// 9, continued: damage after the columns, and records of another length.
-pub fn damaged_rest() {
-    show_damaged(b"byte 130 set to '2'", 130, b"2", 512);
-    show_damaged(b"byte 300 set to '.'", 300, b".", 512);
-    show_damaged(b"byte 511 set to ' '", 511, b" ", 512);
-    show_damaged(b"511 bytes", 0, b"", 511);
-    show_damaged(b"513 bytes", 0, b"", 513);
 }

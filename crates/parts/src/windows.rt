@@ -5,9 +5,34 @@ ghost use Prim.Native.Nat.{_*_, _<_, _≤_};
 ghost use Rattle.layout.specs.History.{history, oldCount, addedCount};
 ghost use Rattle.layout.specs.Limits.{Limits, Grows, mostRows};
 ghost use Rattle.layout.specs.Windows.{windows};
-use super::blocks::within;
 use layout::GrowthDisks;
 use volume::Volume;
+
+// Are rows, growths and disk counts within the limits.
+pub fn within(counts: [usize; 8], t: usize, s: usize) -> bool
+    ensures { λ r. ⌜ (r ≡ true → Limits s (history t counts)) ⌝ }
+{
+    if s < Volume::LEAST_ROWS {
+        return false;
+    }
+    if Volume::MOST_ROWS < s {
+        return false;
+    }
+    if Volume::MOST_GROWTHS < t {
+        return false;
+    }
+    if counts[0] < 1 {
+        return false;
+    }
+    let mut k = 0;
+    while k < t {
+        if counts[k + 1] <= counts[k] {
+            return false;
+        }
+        k += 1;
+    }
+    counts[t] <= Volume::MOST_DISKS
+}
 
 // The windows of the newest growth; 0 outside the limits and where there was no growth.
 pub fn growth_windows(counts: [usize; 8], t: usize, s: usize) -> usize
@@ -38,14 +63,6 @@ pub fn window_moves(counts: [usize; 8], t: usize, s: usize, w: usize) -> usize {
         return 0;
     }
     window::moves_of_window(&counts, t, s, w)
-}
-
-// The advance calls left when it begins; 0 if it has no window.
-pub fn growth_calls(counts: [usize; 8], t: usize, s: usize) -> usize {
-    if growth_windows(counts, t, s) == 0 {
-        return 0;
-    }
-    marks::calls_left(&counts, t, s, 1, 0, 0)
 }
 
 // Is the growth from m disks by n within the limits.
@@ -81,10 +98,23 @@ fn mark_exists(m: usize, n: usize, s: usize, w: usize, j: usize) -> bool
 }
 
 // Is j such a mark, and also the mark of the spot of mark j.
-pub fn mark_agrees(m: usize, n: usize, s: usize, w: usize, j: usize) -> bool {
+fn mark_agrees(m: usize, n: usize, s: usize, w: usize, j: usize) -> bool {
     if !mark_exists(m, n, s, w, j) {
         return false;
     }
     let p = window::spot_of_mark(m, n, w, j);
     window::mark_of_spot(m, n, p) == j
+}
+
+// The marks of window w whose rows exist and that their spots lead back to.
+pub fn marks_found(m: usize, n: usize, s: usize, w: usize) -> usize {
+    let mut total = 0;
+    let mut j = 0;
+    while j < 64 {
+        if mark_agrees(m, n, s, w, j) {
+            total += 1;
+        }
+        j += 1;
+    }
+    total
 }

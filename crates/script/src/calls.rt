@@ -1,0 +1,162 @@
+// The calls on a medium.
+use super::answers::answer_number;
+use super::answers::show_answer;
+use super::lines::byte_at;
+use super::states::Run;
+use super::states::with_state;
+use layout::Block;
+use printing::counted;
+use printing::labelled;
+use printing::next_number;
+use printing::text;
+use volume::Reply;
+use volume::Volume;
+
+// What a call hands back; where the drives have no write cache its store is down.
+fn stored(run: Run, v: Volume) -> Run {
+    if run.cached {
+        return with_state(run, v);
+    }
+    let reply = v.flushed();
+    let down = reply.state;
+    with_state(run, down)
+}
+
+// Shows an answer.
+fn told(run: Run, reply: Reply) -> Run {
+    let answer = reply.answer;
+    let state = reply.state;
+    show_answer(answer);
+    stored(run, state)
+}
+
+pub fn format(run: Run, medium: &mut [u8], size: usize, rows: usize, disks: usize) -> Run {
+    told(run, Volume::format(medium, size, rows, disks))
+}
+
+pub fn restart(run: Run, medium: &[u8]) -> Run {
+    told(run, Volume::restart(medium))
+}
+
+pub fn sector(run: Run, medium: &[u8]) -> Run {
+    told(run, Volume::from_sector(medium))
+}
+
+pub fn grow(run: Run, medium: &mut [u8], count: usize) -> Run {
+    let v = run.v;
+    told(run, v.grow(medium, count))
+}
+
+pub fn copy(run: Run, medium: &mut [u8], x: usize) -> Run {
+    let v = run.v;
+    told(run, v.copy(medium, Block(x)))
+}
+
+pub fn checkpoint(run: Run, medium: &mut [u8]) -> Run {
+    let v = run.v;
+    told(run, v.checkpoint(medium))
+}
+
+pub fn advance(run: Run, medium: &mut [u8]) -> Run {
+    let v = run.v;
+    told(run, v.advance(medium))
+}
+
+pub fn flushed(run: Run) -> Run {
+    let v = run.v;
+    told(run, v.flushed())
+}
+
+fn write_piece(run: Run, medium: &mut [u8], x: usize, piece: &[u8]) -> Run {
+    let v = run.v;
+    told(run, v.write(medium, Block(x), piece))
+}
+
+// Saves so many times one byte.
+pub fn write(run: Run, medium: &mut [u8], x: usize, size: usize, byte: usize) -> Run {
+    let block = [(byte % 256) as u8; 1_024];
+    let piece: &[u8] = &block;
+    if 1_024 < size {
+        text(b": a piece has at most 1,024 bytes");
+        return run;
+    }
+    write_piece(run, medium, x, &piece[0..size])
+}
+
+// Saves each block with a byte of its own.
+pub fn saves(run: Run, medium: &mut [u8], first: usize, end: usize) -> Run {
+    let mut now = run;
+    let mut x = first;
+    while x < end {
+        now = write(now, medium, x, 512, x % 100 + 1);
+        x += 1;
+    }
+    now
+}
+
+// How many bytes from the start on are as the first one.
+fn first_run(piece: &[u8]) -> usize {
+    let mut k = 0;
+    while k < piece.len() {
+        if piece[k] != piece[0] {
+            return k;
+        }
+        k += 1;
+    }
+    k
+}
+
+// How many bytes from the start on are as the first one, and that one.
+fn show_piece(piece: &[u8]) {
+    counted(b", ", first_run(piece), b" bytes of");
+    next_number(byte_at(piece, 0) as usize);
+}
+
+// Fills a piece with a block, and shows it.
+fn read_piece(v: Volume, medium: &[u8], x: usize, piece: &mut [u8]) {
+    let reply = v.read(medium, Block(x), piece);
+    let answer = reply.answer;
+    show_answer(answer);
+    show_piece(piece);
+}
+
+// A piece holds 170 in each byte before the call.
+pub fn read(v: Volume, medium: &[u8], x: usize, size: usize) {
+    let mut space = [170u8; 1_024];
+    let piece: &mut [u8] = &mut space;
+    if 1_024 < size {
+        text(b": a piece has at most 1,024 bytes");
+        return;
+    }
+    read_piece(v, medium, x, &mut piece[0..size]);
+}
+
+// The byte that a block's bytes all are.
+fn show_block(number: usize, piece: &[u8]) {
+    if number != 0 {
+        labelled(b" refused with", number);
+        return;
+    }
+    if first_run(piece) != piece.len() {
+        text(b" mixed");
+        return;
+    }
+    next_number(byte_at(piece, 0) as usize);
+}
+
+fn read_block(v: Volume, medium: &[u8], x: usize, piece: &mut [u8]) {
+    let reply = v.read(medium, Block(x), piece);
+    let answer = reply.answer;
+    show_block(answer_number(answer), piece);
+}
+
+// Reads blocks of 512 bytes.
+pub fn reads(v: Volume, medium: &[u8], first: usize, end: usize) {
+    let mut space = [170u8; 512];
+    text(b":");
+    let mut x = first;
+    while x < end {
+        read_block(v, medium, x, &mut space);
+        x += 1;
+    }
+}

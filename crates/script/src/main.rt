@@ -1,0 +1,29 @@
+// Makes the calls that it reads on standard input, a line each, on a medium in memory, and prints for each what it answers, the state if
+// it changed, and which bytes of the medium changed. An empty line, and one that starts with #, is printed as it is. README.md lists the
+// lines. The cases are in the file stdin, and what it must write in the file stdout.
+mod answers;
+mod calls;
+mod charts;
+mod given;
+mod lines;
+mod lookups;
+mod outside;
+mod play;
+mod states;
+
+use printing::number_bytes;
+use printing::text;
+
+fn main() {
+    let mut space = [0u8; 65_536];
+    let mut disks = [0u8; 18_432];
+    let mut before = [0u8; 18_432];
+    let mut kept = [0u8; 18_432];
+    let got = io::read_full(0, &mut space);
+    if 65_536 <= got {
+        text(b"at most 65,535 bytes are read\n");
+        return;
+    }
+    number_bytes(&mut disks);
+    play::play(&space[..got], &mut disks, &mut before, &mut kept);
+}

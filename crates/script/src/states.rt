@@ -1,0 +1,143 @@
+// States as sixteen numbers, in the order of the C header: Z, s, t, N[0] to N[7], growing, w, the recorded and the copied marks, each as a
+// word, and what is pending, 1 for a record and 2 for blocks.
+use printing::next_number;
+use printing::text;
+use volume::Pending;
+use volume::Volume;
+
+// The state, how many bytes of the medium are lent to a call, and whether the drives have a write cache: where they have none, flushed is
+// called after each call.
+pub struct Run {
+    pub v: Volume,
+    pub lent: usize,
+    pub cached: bool,
+}
+
+// The state of zeros, the whole medium, and a write cache.
+pub fn start() -> Run {
+    let v = Volume::zeros();
+    Run {
+        v,
+        lent: 18_432,
+        cached: true,
+    }
+}
+
+pub fn with_state(run: Run, v: Volume) -> Run {
+    Run {
+        v,
+        lent: run.lent,
+        cached: run.cached,
+    }
+}
+
+fn pending_of(word: usize) -> Pending {
+    Pending {
+        records: word % 2 == 1,
+        blocks: word / 2 % 2 == 1,
+    }
+}
+
+fn pending_word(pending: Pending) -> usize {
+    if pending.records {
+        return if pending.blocks { 3 } else { 1 };
+    }
+    if pending.blocks { 2 } else { 0 }
+}
+
+pub fn state_of(line: &[u8]) -> Volume {
+    let numbers = super::lines::numbers_of(line);
+    let list = numbers.list;
+    let counts = [
+        list[3],
+        list[4],
+        list[5],
+        list[6],
+        list[7],
+        list[8],
+        list[9],
+        list[10],
+    ];
+    let pending = pending_of(list[15]);
+    Volume {
+        size: list[0],
+        rows: list[1],
+        growths: list[2],
+        counts,
+        growing: list[11],
+        window: list[12],
+        recorded: list[13],
+        copied: list[14],
+        pending,
+    }
+}
+
+fn numbers_of(v: Volume) -> [usize; 16] {
+    let c = v.counts;
+    let pending = pending_word(v.pending);
+    [
+        v.size,
+        v.rows,
+        v.growths,
+        c[0],
+        c[1],
+        c[2],
+        c[3],
+        c[4],
+        c[5],
+        c[6],
+        c[7],
+        v.growing,
+        v.window,
+        v.recorded,
+        v.copied,
+        pending,
+    ]
+}
+
+fn same_numbers(a: [usize; 16], b: [usize; 16]) -> bool {
+    let mut k = 0;
+    while k < 16 {
+        if a[k] != b[k] {
+            return false;
+        }
+        k += 1;
+    }
+    true
+}
+
+fn show_name(k: usize) {
+    match k {
+        0 => text(b"; state Z"),
+        1 => text(b", s"),
+        2 => text(b", t"),
+        3 => text(b", N"),
+        11 => text(b", growing"),
+        12 => text(b", w"),
+        13 => text(b", recorded"),
+        14 => text(b", copied"),
+        15 => text(b", pending"),
+        _ => text(b""),
+    }
+}
+
+fn show_numbers(list: [usize; 16]) {
+    let mut k = 0;
+    while k < 16 {
+        show_name(k);
+        next_number(list[k]);
+        k += 1;
+    }
+}
+
+// The state after a call, if it is another one than before.
+pub fn show_change(before: Volume, after: Volume) {
+    let numbers = numbers_of(after);
+    if same_numbers(numbers_of(before), numbers) {
+        return;
+    }
+    show_numbers(numbers);
+    if !after.is_sound() {
+        text(b", not sound");
+    }
+}
