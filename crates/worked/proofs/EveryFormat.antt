@@ -1,14 +1,14 @@
 -- Lists that are not lawful, and lists that are, from every accepted format: `not-empty`. Assumes nothing.
 use Prim.Native.Nat.{ℕ, _*_, _<_}
-use mathlib.Core.Bool.{true, false}
+use mathlib.Core.Bool.{Bool, true, false, not, _&&_}
 use mathlib.Core.List.{List, [], _∷_}
 use mathlib.Core.Option.{Option, none, some}
 use mathlib.Core.Path.{_≡_, refl, sym, ap, _∙_, subst}
 use native.Mathlib.Nat.{mul-pos}
-use native.Mathlib.Omega.{arith}
 use lib.ListN.{length}
-use borrow.Author.Tests.{le-ltb, lt-leb, eq-eqb, eqb-true}
+use borrow.Author.Tests.{le-ltb, lt-leb, eq-eqb, eqb-true, not-true}
 use Rattle.base.specs.Refusals.{refusal}
+use Rattle.base.proofs.Booleans.{and-left, and-right}
 use Rattle.layout.specs.Limits.{mostDisks, mostRows}
 use Rattle.layout.specs.Tally.{waiting}
 use Rattle.medium.specs.declared.Geometry.{Geometry}
@@ -22,31 +22,39 @@ use Rattle.volume.specs.States.{nonePending, zeros}
 use Rattle.volume.proofs.Accepted.{format-accepted}
 use Rattle.volume.proofs.Judged.{judged-cases}
 use Rattle.volume.proofs.SoundLaws.{from-one}
-use Rattle.promise.specs.Calls.{Call, write, read, restart, flushed, settles}
-use Rattle.promise.specs.Lists.{runs, cut, Drives, mediumOf, memoryOf, drivesOf, outcome, callOutcome, drivesAfter, storesAt, after, Allowed, later, NoEarlyCut, Lawful}
+use Rattle.promise.specs.Calls.{Call, write, restart, flushed, settles}
+use Rattle.promise.specs.Lists.{Event, runs, cut, Drives, mediumOf, memoryOf, drivesOf, outcome, callOutcome, drivesAfter, storesAt, after, Allowed, later, NoEarlyCut, Lawful}
 use Rattle.promise.specs.Model.{Model, leaving, stepOf, withSave, stepped, startTally, startPlain, startModel, accepting, nothingPending, following, modelAfter}
 use Rattle.promise.specs.Promise.{Start, formatted, begin}
 use Rattle.promise.proofs.EventSteps.{flushed-pending, flushed-live, settling-accepted}
 use Rattle.promise.proofs.Steps.{Up}
 use Rattle.promise.proofs.Theorem.{startGeometry, start, block-open, piece-whole}
-use Rattle.worked.specs.Worked.{blockOf, workedStart, unlawful, earlyCut, NoneLawful, NotEmpty}
+use Rattle.worked.specs.Worked.{workedStart, unlawful, earlyCut, NoneLawful, NotEmpty}
+use Rattle.worked.proofs.Decisions.{failed}
+use Rattle.worked.proofs.FasterCalls.{is-restart, faster}
+use Rattle.worked.proofs.Computed.{computed, not-lawful}
 use Rattle.worked.proofs.Computing.{computing}
-use Rattle.worked.proofs.Worked.{other, worked}
+use Rattle.worked.proofs.Worked.{our-restart, hearNothing, worked}
 
 -- ---- lists that are not lawful
 
-one-left : (s : Placed) → _≡_ {A = List Placed} (s ∷ []) [] → ⊥
-one-left s e = let n : _≡_ {A = ℕ} 1 0 = ap length e in omega (arith, n)
+-- none of these lists passes
+unfoldable noneAllowed : (lists : List (List Event)) → Bool
+noneAllowed [] = true
+noneAllowed (es ∷ lists) = not (computed (faster callOutcome) hearNothing (begin workedStart) es tt .lawful) && noneAllowed lists
 
-not-lawful : NoneLawful unlawful
-unfolding computing
-not-lawful = (
-  (λ l. one-left _ (l .0 refl)),
-  (
-    (λ l. other (read 0 (blockOf 0)) refl (l .1 .1 .0)),
-    ((λ l. l .1 .0 .0), ((λ l. l .1 .0 .0), ((λ l. absurd (omega (arith, l .1 .0 .0))), ((λ l. l .1 .0 .0), ((λ l. l .1 .1 .0), tt))))),
-  ),
-)
+none-lawful : (lists : List (List Event)) → noneAllowed lists ≡ true → NoneLawful lists
+unfolding noneAllowed NoneLawful
+none-lawful [] t = tt
+none-lawful (es ∷ lists) t =
+    let passes = computed (faster callOutcome) hearNothing (begin workedStart) es tt .lawful in (
+      not-lawful callOutcome hearNothing (begin workedStart) es tt our-restart (not-true passes (and-left (not passes) (noneAllowed lists) t)),
+      none-lawful lists (and-right (not passes) (noneAllowed lists) t),
+    )
+
+unlawful-computed : noneAllowed unlawful ≡ true
+unfolding computing noneAllowed
+unlawful-computed = refl
 
 -- ---- from every accepted format
 
@@ -81,6 +89,10 @@ some-block z s n o =
     (λ e _. let f = format-accepted z s n (o .byteCount) e in mul-pos (from-one n mostDisks (f .disks-hold) .0) (from-one s mostRows (f .rows-hold) .0))
     (λ f ok. absurd (f (eqb-true _ 0 ok)))
 
+-- flushed is no restart
+no-restart : {P : Type 0} → flushed ≡ restart → P
+no-restart e = absurd (failed (is-restart flushed) refl e)
+
 module _ (a : Start) (ok : accepted (formatted a .reply .answer) ≡ true) where
   abbrev formattedState : Volume
   formattedState = formatted a .reply .state
@@ -110,13 +122,13 @@ module _ (a : Start) (ok : accepted (formatted a .reply .answer) ≡ true) where
 
   pub every-call : (c : Call) → Lawful callOutcome (begin a) (runs flushed ∷ runs c ∷ [])
   unfolding begin Lawful Allowed after
-  every-call c = (other flushed refl, ((λ e. settled), tt))
+  every-call c = (no-restart, ((λ e. settled), tt))
 
   pub a-cut : (piece torn : List ℕ) → length piece ≡ a .size → length torn ≡ a .size
       → Lawful callOutcome (begin a) (runs flushed ∷ cut (some (write 0 piece)) (tornBlock torn ∷ []) ∷ runs restart ∷ [])
   unfolding begin Lawful Allowed after storesAt EachMayLeave outcome callOutcome memoryOf drivesOf startModel startPlain startTally waiting formatted
   a-cut piece torn whole same = (
-    other flushed refl,
+    no-restart,
     (
       (
         write-torn flushed-up state-settled 0 piece torn (some-block (a .size) (a .rows) (a .disks) _ ok) refl whole same,
@@ -129,7 +141,7 @@ module _ (a : Start) (ok : accepted (formatted a .reply .answer) ≡ true) where
 -- ---- a list that is lawful and not covered
 
 early-lawful : Lawful callOutcome (begin workedStart) earlyCut
-unfolding computing earlyCut
+unfolding computing earlyCut Lawful Allowed storesAt EachMayLeave MayLeave
 early-lawful = ((tt, tt), tt)
 
 not-covered : NoEarlyCut earlyCut → ⊥
@@ -140,7 +152,7 @@ pub not-empty : NotEmpty
 not-empty =
     record {
       worked = worked;
-      not-lawful = not-lawful;
+      not-lawful = none-lawful unlawful unlawful-computed;
       early-lawful = early-lawful;
       not-covered = not-covered;
       every-call = every-call;

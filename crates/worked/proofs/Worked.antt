@@ -1,6 +1,6 @@
 -- The worked list, by computing. Assumes nothing.
 use Prim.Native.Nat.{ℕ, suc, _-_}
-use mathlib.Core.Bool.{Bool, true, false, cond, _&&_, true≢false}
+use mathlib.Core.Bool.{true, false, cond, _&&_}
 use mathlib.Core.List.{List, [], _∷_, _++_}
 use mathlib.Core.Logic.{inl}
 use mathlib.Core.Option.{none, some}
@@ -10,96 +10,32 @@ use lib.ListN.{length, take, drop, replicate, length-replicate}
 use Rattle.base.proofs.Booleans.{by-test}
 use Rattle.layout.specs.Tally.{isRunning, callsLeftOf}
 use Rattle.volume.specs.Answers.{accepted}
-use Rattle.promise.specs.Calls.{Call, grow, copy, checkpoint, advance, write, read, restart, flushed, isAdvance, sameRecord, recordOld, Fed, ended, cutIn}
+use Rattle.volume.specs.Calls.{Outcome}
+use Rattle.promise.specs.Calls.{grow, advance, write, read, restart, flushed, isAdvance, sameRecord, recordOld, Fed, ended, cutIn}
 use Rattle.promise.specs.Lists.{Event, System, IsUp, runs, cut, outcome, isAccepted, callOutcome, after, NoEarlyCut, Lawful, AllFurther, an-advance, a-flushed, afterAll, fed, fedAll, lastReported, tellings, finishedTold}
-use Rattle.promise.specs.Model.{Model, startModel, nothingPending, modelled}
+use Rattle.promise.specs.Model.{Model}
 use Rattle.promise.specs.Promise.{Kept, formatted, begin, systemAfter, modelOf}
 use Rattle.promise.proofs.Theorem.{lawful-before, promise}
 use Rattle.worked.specs.Worked.{blockOf, workedStart, firstEvents, lastEvents, finishedEvents, takenBack, beforeRead, workedEvents, WorkedFacts}
+use Rattle.worked.proofs.FasterCalls.{faster, OurRestart}
+use Rattle.worked.proofs.Computed.{computed, lawfulResult, Facts, faster-facts, fed-before, modelFed, model-fed}
 use Rattle.worked.proofs.Computing.{computing}
-
--- a call other than restart may come at any time
-abbrev pub isRestart : (c : Call) → Bool
-isRestart (grow count) = false
-isRestart (copy x) = false
-isRestart checkpoint = false
-isRestart advance = false
-isRestart (write x piece) = false
-isRestart (read x piece) = false
-isRestart restart = true
-isRestart flushed = false
-
-pub other : {P : Type 0} (c : Call) → isRestart c ≡ false → c ≡ restart → P
-other c h e = absurd (true≢false (sym (ap isRestart e) ∙ h))
 
 pub is-accepted : accepted (formatted workedStart .reply .answer) ≡ true
 unfolding computing
 is-accepted = refl
 
-is-lawful : Lawful callOutcome (begin workedStart) workedEvents
-unfolding computing
-is-lawful = (
-  other flushed refl,
-  (
-    other (write 0 (blockOf 1)) refl,
-    (
-      other (write 0 (blockOf 2)) refl,
-      (
-        (refl, (refl, tt)),
-        (
-          refl,
-          (
-            other (write 0 (blockOf 3)) refl,
-            (
-              other flushed refl,
-              (
-                other (grow 2) refl,
-                (
-                  other (write 0 (blockOf 4)) refl,
-                  (
-                    (tt, tt),
-                    (
-                      refl,
-                      (
-                        other (grow 2) refl,
-                        (
-                          other flushed refl,
-                          (
-                            other advance refl,
-                            (
-                              other advance refl,
-                              (
-                                other flushed refl,
-                                (
-                                  other advance refl,
-                                  (
-                                    (tt, tt),
-                                    (
-                                      refl,
-                                      (other (read 0 (blockOf 0)) refl, tt),
-                                    ),
-                                  ),
-                                ),
-                              ),
-                            ),
-                          ),
-                        ),
-                      ),
-                    ),
-                  ),
-                ),
-              ),
-            ),
-          ),
-        ),
-      ),
-    ),
-  ),
-)
-
 no-early-cut : NoEarlyCut workedEvents
 unfolding computing NoEarlyCut
 no-early-cut = inl refl
+
+pub our-restart : OurRestart callOutcome
+unfolding callOutcome
+our-restart v o = refl
+
+-- of these lists nothing is heard
+abbrev pub hearNothing : (out : Outcome) (before : Unit {0}) → Unit {0}
+hearNothing out before = tt
 
 -- ---- what plain volume and tally are fed
 
@@ -126,73 +62,71 @@ finishedFed = firstFed ++ (ended advance true ∷ ended advance false ∷ ended 
 abbrev allFed : List Fed
 allFed = finishedFed ++ (cutIn none recordOld ∷ ended restart true ∷ [])
 
-all-fed : fedAll callOutcome (begin workedStart) beforeRead ≡ allFed
-unfolding computing
-all-fed = refl
+abbrev workedFed : List Fed
+workedFed = allFed ++ (ended (read 0 (blockOf 0)) true ∷ [])
 
--- what is fed of the first events
-pub fed-before : (s : System) (es rest : List Event) → fedAll callOutcome s es ≡ take (length es) (fedAll callOutcome s (es ++ rest))
-unfolding fedAll
-fed-before s [] rest = refl
-fed-before s (e ∷ es) rest = ap (λ (fs : List Fed). fed callOutcome s e ∷ fs) (fed-before (after callOutcome s e) es rest)
+worked-computed : computed (faster callOutcome) hearNothing (begin workedStart) workedEvents tt ≡ lawfulResult workedFed tt
+unfolding computing
+worked-computed = refl
+
+worked-facts : Facts callOutcome hearNothing (begin workedStart) workedEvents tt workedFed tt
+worked-facts = faster-facts callOutcome hearNothing (begin workedStart) workedEvents tt workedFed tt our-restart worked-computed
+
+-- and of the first events
+all-fed : fedAll callOutcome (begin workedStart) beforeRead ≡ allFed
+unfolding workedEvents beforeRead finishedEvents firstEvents lastEvents takenBack
+all-fed = fed-before callOutcome (begin workedStart) beforeRead (runs (read 0 (blockOf 0)) ∷ []) ∙ ap (take 19) (worked-facts .all-fed)
 
 finished-fed : fedAll callOutcome (begin workedStart) finishedEvents ≡ finishedFed
 unfolding beforeRead finishedEvents firstEvents lastEvents
-finished-fed = fed-before (begin workedStart) finishedEvents takenBack ∙ ap (take 17) all-fed
+finished-fed = fed-before callOutcome (begin workedStart) finishedEvents takenBack ∙ ap (take 17) all-fed
 
 first-fed : fedAll callOutcome (begin workedStart) firstEvents ≡ firstFed
 unfolding finishedEvents firstEvents
-first-fed = fed-before (begin workedStart) firstEvents lastEvents ∙ ap (take 13) finished-fed
+first-fed = fed-before callOutcome (begin workedStart) firstEvents lastEvents ∙ ap (take 13) finished-fed
 
-abbrev pub modelFed : (fs : List Fed) → Model
-modelFed fs = modelled fs (nothingPending (startModel 1 1)) .current
-
-pub model-fed : (es : List Event) (fs : List Fed) → fedAll callOutcome (begin workedStart) es ≡ fs → modelOf callOutcome workedStart es ≡ modelFed fs
-unfolding modelOf workedStart
-model-fed es fs e = ap (λ (l : List Fed). modelled l (nothingPending (startModel 1 1)) .current) e
-
-first-open : modelFed firstFed .plain .blocks ≡ 1
+first-open : modelFed workedStart firstFed .plain .blocks ≡ 1
 unfolding computing
 first-open = refl
 
-first-left : callsLeftOf (modelFed firstFed .tally) ≡ 2
+first-left : callsLeftOf (modelFed workedStart firstFed .tally) ≡ 2
 unfolding computing
 first-left = refl
 
-first-runs : isRunning (modelFed firstFed .tally .mode) ≡ true
+first-runs : isRunning (modelFed workedStart firstFed .tally .mode) ≡ true
 unfolding computing
 first-runs = refl
 
-finished-open : modelFed finishedFed .plain .blocks ≡ 2
+finished-open : modelFed workedStart finishedFed .plain .blocks ≡ 2
 unfolding computing
 finished-open = refl
 
-finished-unset : modelFed finishedFed .plain .bytes 1 ≡ none
+finished-unset : modelFed workedStart finishedFed .plain .bytes 1 ≡ none
 unfolding computing
 finished-unset = refl
 
-last-open : modelFed allFed .plain .blocks ≡ 1
+last-open : modelFed workedStart allFed .plain .blocks ≡ 1
 unfolding computing
 last-open = refl
 
-last-runs : isRunning (modelFed allFed .tally .mode) ≡ true
+last-runs : isRunning (modelFed workedStart allFed .tally .mode) ≡ true
 unfolding computing
 last-runs = refl
 
-last-set : modelFed allFed .plain .bytes 0 ≡ some (blockOf 3)
+last-set : modelFed workedStart allFed .plain .bytes 0 ≡ some (blockOf 3)
 unfolding computing
 last-set = refl
 
 -- ---- what the promise says of it
 
-first-model : modelOf callOutcome workedStart firstEvents ≡ modelFed firstFed
-first-model = model-fed firstEvents firstFed first-fed
+first-model : modelOf callOutcome workedStart firstEvents ≡ modelFed workedStart firstFed
+first-model = model-fed callOutcome workedStart firstEvents firstFed first-fed
 
-finished-model : modelOf callOutcome workedStart finishedEvents ≡ modelFed finishedFed
-finished-model = model-fed finishedEvents finishedFed finished-fed
+finished-model : modelOf callOutcome workedStart finishedEvents ≡ modelFed workedStart finishedFed
+finished-model = model-fed callOutcome workedStart finishedEvents finishedFed finished-fed
 
-last-model : modelOf callOutcome workedStart beforeRead ≡ modelFed allFed
-last-model = model-fed beforeRead allFed all-fed
+last-model : modelOf callOutcome workedStart beforeRead ≡ modelFed workedStart allFed
+last-model = model-fed callOutcome workedStart beforeRead allFed all-fed
 
 calls-left : callsLeftOf (modelOf callOutcome workedStart firstEvents .tally) ≡ 2
 calls-left = ap (λ (k : Model). callsLeftOf (k .tally)) first-model ∙ first-left
@@ -210,7 +144,7 @@ unfolding workedEvents beforeRead finishedEvents
 first-lawful =
     lawful-before (begin workedStart) firstEvents lastEvents
     (lawful-before (begin workedStart) (firstEvents ++ lastEvents) takenBack
-    (lawful-before (begin workedStart) ((firstEvents ++ lastEvents) ++ takenBack) (runs (read 0 (blockOf 0)) ∷ []) is-lawful))
+    (lawful-before (begin workedStart) ((firstEvents ++ lastEvents) ++ takenBack) (runs (read 0 (blockOf 0)) ∷ []) (worked-facts .lawful)))
 
 first-early : NoEarlyCut firstEvents
 unfolding NoEarlyCut firstEvents
@@ -267,14 +201,14 @@ open-after = ap (λ (k : Model). k .plain .blocks) last-model ∙ last-open
 read-back : outcome callOutcome (read 0 (blockOf 0)) (systemAfter callOutcome workedStart beforeRead) .piece ≡ blockOf 3
 unfolding workedStart
 read-back =
-    promise workedStart is-accepted workedEvents is-lawful no-early-cut
+    promise workedStart is-accepted workedEvents (worked-facts .lawful) no-early-cut
     .reads beforeRead [] 0 (blockOf 0) read-follows (rw open-after (omega arith)) (length-replicate {A = ℕ} 512 0) .bytes-read (blockOf 3) block-set
 
 pub worked : WorkedFacts
 worked =
     record {
       is-accepted = is-accepted;
-      is-lawful = is-lawful;
+      is-lawful = worked-facts .lawful;
       no-early-cut = no-early-cut;
       open-before = ap (λ (k : Model). k .plain .blocks) first-model ∙ first-open;
       calls-left = calls-left;

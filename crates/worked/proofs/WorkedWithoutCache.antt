@@ -16,12 +16,10 @@ use Rattle.promise.proofs.Theorem.{lawful-before}
 use Rattle.promise.proofs.WithoutCache.{promise-without-cache}
 use Rattle.worked.specs.Worked.{blockOf, workedStart}
 use Rattle.worked.specs.WorkedWithoutCache.{firstDirect, lastDirect, directBeforeRead, directEvents, WithoutCacheFacts}
+use Rattle.worked.proofs.FasterCalls.{faster}
+use Rattle.worked.proofs.Computed.{computed, lawfulResult, Facts, faster-facts, fed-before, modelFed, model-fed}
 use Rattle.worked.proofs.Computing.{computing}
-use Rattle.worked.proofs.Worked.{other, is-accepted, fed-before, modelFed, model-fed}
-
-is-lawful : Lawful callOutcome (begin workedStart) (fromFormat directEvents)
-unfolding computing
-is-lawful = (other flushed refl, (other (write 0 (blockOf 1)) refl, (other flushed refl, ((refl, tt), (refl, (other flushed refl, (other (write 0 (blockOf 3)) refl, (other flushed refl, ((tt, tt), (refl, (other flushed refl, ((refl, tt), (refl, (other flushed refl, (other (copy 0) refl, (other flushed refl, (other (write 0 (blockOf 4)) refl, (other flushed refl, ((tt, tt), (refl, (other flushed refl, (other advance refl, (other flushed refl, ((tt, tt), (refl, (other flushed refl, (other (read 0 (blockOf 0)) refl, (other flushed refl, tt))))))))))))))))))))))))))))
+use Rattle.worked.proofs.Worked.{is-accepted, our-restart, hearNothing}
 
 -- ---- what plain volume and tally are fed
 
@@ -59,45 +57,58 @@ lastFed =
     ∷ ended flushed true
     ∷ []
 
-all-fed : fedAll callOutcome (begin workedStart) (fromFormat directBeforeRead) ≡ firstFed ++ lastFed
+abbrev directFed : List Fed
+directFed = firstFed ++ lastFed ++ (ended (read 0 (blockOf 0)) true ∷ ended flushed true ∷ [])
+
+direct-computed : computed (faster callOutcome) hearNothing (begin workedStart) (fromFormat directEvents) tt ≡ lawfulResult directFed tt
 unfolding computing
-all-fed = refl
+direct-computed = refl
+
+direct-facts : Facts callOutcome hearNothing (begin workedStart) (fromFormat directEvents) tt directFed tt
+direct-facts = faster-facts callOutcome hearNothing (begin workedStart) (fromFormat directEvents) tt directFed tt our-restart direct-computed
+
+-- and of the first events
+all-fed : fedAll callOutcome (begin workedStart) (fromFormat directBeforeRead) ≡ firstFed ++ lastFed
+unfolding fromFormat flushedAfter directEvents directBeforeRead firstDirect lastDirect
+all-fed =
+    fed-before callOutcome (begin workedStart) (fromFormat directBeforeRead) (flushedAfter (ends (read 0 (blockOf 0)) ∷ []))
+    ∙ ap (take 26) (direct-facts .all-fed)
 
 first-fed : fedAll callOutcome (begin workedStart) (fromFormat firstDirect) ≡ firstFed
 unfolding fromFormat flushedAfter directBeforeRead firstDirect lastDirect
-first-fed = fed-before (begin workedStart) (fromFormat firstDirect) (flushedAfter lastDirect) ∙ ap (take 11) all-fed
+first-fed = fed-before callOutcome (begin workedStart) (fromFormat firstDirect) (flushedAfter lastDirect) ∙ ap (take 11) all-fed
 
-first-open : modelFed firstFed .plain .blocks ≡ 1
+first-open : modelFed workedStart firstFed .plain .blocks ≡ 1
 unfolding computing
 first-open = refl
 
-first-left : callsLeftOf (modelFed firstFed .tally) ≡ 2
+first-left : callsLeftOf (modelFed workedStart firstFed .tally) ≡ 2
 unfolding computing
 first-left = refl
 
-first-runs : isRunning (modelFed firstFed .tally .mode) ≡ true
+first-runs : isRunning (modelFed workedStart firstFed .tally .mode) ≡ true
 unfolding computing
 first-runs = refl
 
-last-open : modelFed (firstFed ++ lastFed) .plain .blocks ≡ 2
+last-open : modelFed workedStart (firstFed ++ lastFed) .plain .blocks ≡ 2
 unfolding computing
 last-open = refl
 
-last-set : modelFed (firstFed ++ lastFed) .plain .bytes 0 ≡ some (blockOf 3)
+last-set : modelFed workedStart (firstFed ++ lastFed) .plain .bytes 0 ≡ some (blockOf 3)
 unfolding computing
 last-set = refl
 
-last-unset : modelFed (firstFed ++ lastFed) .plain .bytes 1 ≡ none
+last-unset : modelFed workedStart (firstFed ++ lastFed) .plain .bytes 1 ≡ none
 unfolding computing
 last-unset = refl
 
 -- ---- what the claim says of it
 
-first-model : modelWithout callOutcome workedStart firstDirect ≡ modelFed firstFed
-first-model = model-fed (fromFormat firstDirect) firstFed first-fed
+first-model : modelWithout callOutcome workedStart firstDirect ≡ modelFed workedStart firstFed
+first-model = model-fed callOutcome workedStart (fromFormat firstDirect) firstFed first-fed
 
-last-model : modelWithout callOutcome workedStart directBeforeRead ≡ modelFed (firstFed ++ lastFed)
-last-model = model-fed (fromFormat directBeforeRead) (firstFed ++ lastFed) all-fed
+last-model : modelWithout callOutcome workedStart directBeforeRead ≡ modelFed workedStart (firstFed ++ lastFed)
+last-model = model-fed callOutcome workedStart (fromFormat directBeforeRead) (firstFed ++ lastFed) all-fed
 
 calls-left : callsLeftOf (modelWithout callOutcome workedStart firstDirect .tally) ≡ 2
 calls-left = ap (λ (k : Model). callsLeftOf (k .tally)) first-model ∙ first-left
@@ -107,7 +118,7 @@ grows = ap (λ (k : Model). isRunning (k .tally .mode)) first-model ∙ first-ru
 
 first-lawful : Lawful callOutcome (begin workedStart) (fromFormat firstDirect)
 unfolding fromFormat flushedAfter directEvents directBeforeRead firstDirect lastDirect
-first-lawful = lawful-before (begin workedStart) (fromFormat firstDirect) (flushedAfter (lastDirect ++ (ends (read 0 (blockOf 0)) ∷ []))) is-lawful
+first-lawful = lawful-before (begin workedStart) (fromFormat firstDirect) (flushedAfter (lastDirect ++ (ends (read 0 (blockOf 0)) ∷ []))) (direct-facts .lawful)
 
 first-up : IsUp (systemWithout callOutcome workedStart firstDirect)
 unfolding systemAfter afterAll after IsUp fromFormat flushedAfter firstDirect
@@ -135,13 +146,13 @@ read-follows = refl
 read-back : outcome callOutcome (read 0 (blockOf 0)) (systemWithout callOutcome workedStart directBeforeRead) .piece ≡ blockOf 3
 unfolding workedStart
 read-back =
-    promise-without-cache workedStart is-accepted directEvents is-lawful
+    promise-without-cache workedStart is-accepted directEvents (direct-facts .lawful)
     .reads directBeforeRead [] 0 (blockOf 0) read-follows (rw open-after (omega arith)) (length-replicate {A = ℕ} 512 0) .bytes-read (blockOf 3) block-set
 
 pub worked-without-cache : WithoutCacheFacts
 worked-without-cache =
     record {
-      is-lawful = is-lawful;
+      is-lawful = direct-facts .lawful;
       open-before = ap (λ (k : Model). k .plain .blocks) first-model ∙ first-open;
       calls-left = calls-left;
       calls-told = kept-first .calls-left first-up grows ∙ ap some calls-left;

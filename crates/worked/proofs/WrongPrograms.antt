@@ -6,45 +6,63 @@ use mathlib.Core.List.{List, [], _∷_, _++_}
 use mathlib.Core.Logic.{inl}
 use mathlib.Core.Option.{Option, none, some}
 use native.Mathlib.Omega.{arith}
-use lib.ListN.{getD, replicate, length-replicate}
+use lib.ListN.{length, take, getD, replicate, length-replicate}
 use Rattle.layout.specs.Tally.{isRunning, callsLeftOf}
 use Rattle.medium.specs.Medium.{tornBlock, oldRecord, newRecord}
-use Rattle.volume.specs.Answers.{accepted}
+use Rattle.record.specs.Sector.{fieldsHold, marksHold, spacesHold, isRecord, readRecord}
+use Rattle.volume.specs.Answers.{number, accepted, reported}
+use Rattle.volume.specs.Calls.{Outcome, refused, restartTable}
+use Rattle.volume.specs.Records.{stateRead, isSoundRecord}
 use Rattle.promise.specs.Calls.{Call, grow, copy, checkpoint, advance, write, read, restart, flushed, recordOld, recordNew, Fed, ended, cutIn}
-use Rattle.promise.specs.Lists.{Event, runs, cut, outcome, isAccepted, after, Lawful, NoEarlyCut, fedAll, lastReported, IsUp}
-use Rattle.promise.specs.Model.{Model, startModel, nothingPending, modelled}
-use Rattle.promise.specs.Promise.{Start, formatted, begin, systemAfter, modelOf, PromiseOf}
+use Rattle.promise.specs.Lists.{Event, runs, cut, System, outcome, isAccepted, after, afterAll, later, heard, NoEarlyCut, lastReported, IsUp}
+use Rattle.promise.specs.Model.{Model}
+use Rattle.promise.specs.Promise.{Start, formatted, begin, systemAfter, PromiseOf}
 use Rattle.worked.specs.Worked.{blockOf, workedStart}
 use Rattle.worked.specs.WrongPrograms.{Act, program, writesNothing, writesWaiting, writesEarly, recordsEarly, neverAdvances, marksLater, madeUpCount, keepsCopies, ShutOut}
+use Rattle.worked.proofs.FasterCalls.{faster, OurRestart}
+use Rattle.worked.proofs.Computed.{heardAll, computed, lawfulResult, Facts, facts, faster-facts, fed-before, heard-last, modelFed, model-fed}
 use Rattle.worked.proofs.Computing.{computing}
-use Rattle.worked.proofs.Worked.{other, is-accepted}
+use Rattle.worked.proofs.Worked.{is-accepted, hearNothing}
+
+-- ---- what is heard of a list
+
+-- the first byte of the piece that the last call hands back
+abbrev firstByte : (out : Outcome) (before : ℕ) → ℕ
+firstByte out before = getD (out .piece) 0 0
+
+-- the number last reported
+abbrev numberTold : (out : Outcome) (before : Option ℕ) → Option ℕ
+numberTold out before = later before (reported (out .reply .answer))
+
+number-told : (calls : (c : Call) → Act) (s : System) (es : List Event) (before : Option ℕ) → heardAll calls numberTold s es before ≡ lastReported calls s es before
+unfolding heardAll lastReported heard
+number-told calls s [] before = refl
+number-told calls s (runs c ∷ es) before = number-told calls (after calls s (runs c)) es (heard calls s (runs c) before)
+number-told calls s (cut c left ∷ es) before = number-told calls (after calls s (cut c left)) es before
 
 -- ---- what a promise would say of two things computed
 
 module _ (calls : (c : Call) → Act) (kept : PromiseOf calls) (a : Start) (ok : accepted (formatted a .reply .answer) ≡ true) where
-  -- plain volume and tally, of what they are fed
-  model-fed : (es : List Event) (fs : List Fed) → fedAll calls (begin a) es ≡ fs → modelOf calls a es ≡ modelled fs (nothingPending (startModel (a .rows) (a .disks))) .current
-  unfolding modelOf
-  model-fed es fs e = ap (λ (l : List Fed). modelled l (nothingPending (startModel (a .rows) (a .disks))) .current) e
-
   -- the first byte that a block was set to, and the one that is read
-  same-byte : (before : List Event) (fs : List Fed) (x b c : ℕ) → a .size ≡ 512 → fedAll calls (begin a) before ≡ fs
-      → Lawful calls (begin a) (before ++ (runs (read x (blockOf 0)) ∷ [])) → NoEarlyCut (before ++ (runs (read x (blockOf 0)) ∷ [])) → x < modelled fs (nothingPending (startModel (a .rows) (a .disks))) .current .plain .blocks
-      → modelled fs (nothingPending (startModel (a .rows) (a .disks))) .current .plain .bytes x ≡ some (blockOf b)
-      → getD (outcome calls (read x (blockOf 0)) (systemAfter calls a before) .piece) 0 0 ≡ c → c ≡ b
-  same-byte before fs x b c whole e l early below set-to told =
-      let m = model-fed before fs e in
-      let right = kept a ok _ l early .reads before [] x (blockOf 0) refl (rw m below) (length-replicate {A = ℕ} 512 0 ∙ sym whole)
+  same-byte : (before : List Event) (fs : List Fed) (x b c : ℕ) → a .size ≡ 512 → OurRestart calls
+      → computed (faster calls) firstByte (begin a) (before ++ (runs (read x (blockOf 0)) ∷ [])) 0 ≡ lawfulResult fs c
+      → NoEarlyCut (before ++ (runs (read x (blockOf 0)) ∷ [])) → x < modelFed a (take (length before) fs) .plain .blocks
+      → modelFed a (take (length before) fs) .plain .bytes x ≡ some (blockOf b) → c ≡ b
+  unfolding systemAfter
+  same-byte before fs x b c whole ours e early below set-to =
+      let f = faster-facts calls firstByte (begin a) (before ++ (runs (read x (blockOf 0)) ∷ [])) 0 fs c ours e in
+      let m = model-fed calls a before (take (length before) fs) (fed-before calls (begin a) before _ ∙ ap (take (length before)) (f .all-fed)) in
+      let right = kept a ok _ (f .lawful) early .reads before [] x (blockOf 0) refl (rw m below) (length-replicate {A = ℕ} 512 0 ∙ sym whole)
       .bytes-read (blockOf b) (ap (λ (k : Model). k .plain .bytes x) m ∙ set-to) in
-      sym told ∙ ap (λ (bytes : List ℕ). getD bytes 0 0) right
+      sym (f .all-heard) ∙ heard-last calls firstByte (begin a) before (read x (blockOf 0)) 0 ∙ ap (λ (bytes : List ℕ). getD bytes 0 0) right
 
   -- the count reported, and the tally's
-  same-count : (es : List Event) (fs : List Fed) (n k : ℕ) → fedAll calls (begin a) es ≡ fs → Lawful calls (begin a) es → NoEarlyCut es → IsUp (systemAfter calls a es)
-      → isRunning (modelled fs (nothingPending (startModel (a .rows) (a .disks))) .current .tally .mode) ≡ true → lastReported calls (begin a) es none ≡ some n
-      → callsLeftOf (modelled fs (nothingPending (startModel (a .rows) (a .disks))) .current .tally) ≡ k → n ≡ k
-  same-count es fs n k e l early is-up grows told left =
-      let m = model-fed es fs e in
-      ap orZero (sym told ∙ kept a ok es l early .calls-left is-up (ap (λ (o : Model). isRunning (o .tally .mode)) m ∙ grows))
+  same-count : (es : List Event) (fs : List Fed) (n k : ℕ) → Facts calls numberTold (begin a) es none fs (some n) → NoEarlyCut es
+      → IsUp (systemAfter calls a es) → isRunning (modelFed a fs .tally .mode) ≡ true → callsLeftOf (modelFed a fs .tally) ≡ k → n ≡ k
+  same-count es fs n k f early is-up grows left =
+      let m = model-fed calls a es fs (f .all-fed) in
+      ap orZero (sym (f .all-heard) ∙ number-told calls (begin a) es none
+      ∙ kept a ok es (f .lawful) early .calls-left is-up (ap (λ (o : Model). isRunning (o .tally .mode)) m ∙ grows))
       ∙ ap (λ (o : Model). callsLeftOf (o .tally)) m ∙ left
     where
       orZero : Option ℕ → ℕ
@@ -61,36 +79,31 @@ abbrev oneSave : List Event
 oneSave = runs flushed ∷ runs (write 0 (blockOf 1)) ∷ []
 
 abbrev oneSaveFed : List Fed
-oneSaveFed = ended flushed true ∷ ended (write 0 (blockOf 1)) true ∷ []
+oneSaveFed = ended flushed true ∷ ended (write 0 (blockOf 1)) true ∷ ended (read 0 (blockOf 0)) true ∷ []
 
-nothing-fed : fedAll writesNothing (begin workedStart) oneSave ≡ oneSaveFed
+nothing-restart : OurRestart writesNothing
+unfolding writesNothing program
+nothing-restart v o = refl
+
+nothing-computed : computed (faster writesNothing) firstByte (begin workedStart) (oneSave ++ (runs (read 0 (blockOf 0)) ∷ [])) 0 ≡ lawfulResult oneSaveFed 0
 unfolding computing writesNothing program
-nothing-fed = refl
+nothing-computed = refl
 
-nothing-open : modelled oneSaveFed (nothingPending (startModel 1 1)) .current .plain .blocks ≡ 1
+nothing-open : modelFed workedStart (take 2 oneSaveFed) .plain .blocks ≡ 1
 unfolding computing
 nothing-open = refl
 
-nothing-set : modelled oneSaveFed (nothingPending (startModel 1 1)) .current .plain .bytes 0 ≡ some (blockOf 1)
+nothing-set : modelFed workedStart (take 2 oneSaveFed) .plain .bytes 0 ≡ some (blockOf 1)
 unfolding computing
 nothing-set = refl
-
-nothing-read : getD (outcome writesNothing (read 0 (blockOf 0)) (systemAfter writesNothing workedStart oneSave) .piece) 0 0 ≡ 0
-unfolding computing writesNothing program
-nothing-read = refl
-
-nothing-lawful : Lawful writesNothing (begin workedStart) (oneSave ++ (runs (read 0 (blockOf 0)) ∷ []))
-unfolding computing
-nothing-lawful = (other flushed refl, (other (write 0 (blockOf 1)) refl, (other (read 0 (blockOf 0)) refl, tt)))
 
 nothing-early : NoEarlyCut (oneSave ++ (runs (read 0 (blockOf 0)) ∷ []))
 unfolding NoEarlyCut
 nothing-early = inl refl
 
 writes-nothing : PromiseOf writesNothing → ⊥
-unfolding workedStart
 writes-nothing kept =
-    let e = same-byte writesNothing kept workedStart is-accepted oneSave oneSaveFed 0 1 0 worked-size nothing-fed nothing-lawful nothing-early (rw nothing-open (omega arith)) nothing-set nothing-read in
+    let e = same-byte writesNothing kept workedStart is-accepted oneSave oneSaveFed 0 1 0 worked-size nothing-restart nothing-computed nothing-early (rw nothing-open (omega arith)) nothing-set in
     absurd (omega (arith, e))
 
 -- ---- a write of a block that is copied and not recorded: the checkpoint brings back the bytes before it
@@ -99,36 +112,31 @@ abbrev savedBetween : List Event
 savedBetween = runs flushed ∷ runs (write 0 (blockOf 1)) ∷ runs flushed ∷ runs (grow 2) ∷ runs flushed ∷ runs (copy 0) ∷ runs (write 0 (blockOf 2)) ∷ runs flushed ∷ runs checkpoint ∷ []
 
 abbrev savedBetweenFed : List Fed
-savedBetweenFed = ended flushed true ∷ ended (write 0 (blockOf 1)) true ∷ ended flushed true ∷ ended (grow 2) true ∷ ended flushed true ∷ ended (copy 0) true ∷ ended (write 0 (blockOf 2)) true ∷ ended flushed true ∷ ended checkpoint true ∷ []
+savedBetweenFed = ended flushed true ∷ ended (write 0 (blockOf 1)) true ∷ ended flushed true ∷ ended (grow 2) true ∷ ended flushed true ∷ ended (copy 0) true ∷ ended (write 0 (blockOf 2)) true ∷ ended flushed true ∷ ended checkpoint true ∷ ended (read 0 (blockOf 0)) true ∷ []
 
-waiting-fed : fedAll writesWaiting (begin workedStart) savedBetween ≡ savedBetweenFed
+waiting-restart : OurRestart writesWaiting
+unfolding writesWaiting program
+waiting-restart v o = refl
+
+waiting-computed : computed (faster writesWaiting) firstByte (begin workedStart) (savedBetween ++ (runs (read 0 (blockOf 0)) ∷ [])) 0 ≡ lawfulResult savedBetweenFed 1
 unfolding computing writesWaiting program
-waiting-fed = refl
+waiting-computed = refl
 
-waiting-open : modelled savedBetweenFed (nothingPending (startModel 1 1)) .current .plain .blocks ≡ 2
+waiting-open : modelFed workedStart (take 9 savedBetweenFed) .plain .blocks ≡ 2
 unfolding computing
 waiting-open = refl
 
-waiting-set : modelled savedBetweenFed (nothingPending (startModel 1 1)) .current .plain .bytes 0 ≡ some (blockOf 2)
+waiting-set : modelFed workedStart (take 9 savedBetweenFed) .plain .bytes 0 ≡ some (blockOf 2)
 unfolding computing
 waiting-set = refl
-
-waiting-read : getD (outcome writesWaiting (read 0 (blockOf 0)) (systemAfter writesWaiting workedStart savedBetween) .piece) 0 0 ≡ 1
-unfolding computing writesWaiting program
-waiting-read = refl
-
-waiting-lawful : Lawful writesWaiting (begin workedStart) (savedBetween ++ (runs (read 0 (blockOf 0)) ∷ []))
-unfolding computing
-waiting-lawful = (other flushed refl, (other (write 0 (blockOf 1)) refl, (other flushed refl, (other (grow 2) refl, (other flushed refl, (other (copy 0) refl, (other (write 0 (blockOf 2)) refl, (other flushed refl, (other checkpoint refl, (other (read 0 (blockOf 0)) refl, tt))))))))))
 
 waiting-early : NoEarlyCut (savedBetween ++ (runs (read 0 (blockOf 0)) ∷ []))
 unfolding NoEarlyCut
 waiting-early = inl refl
 
 writes-waiting : PromiseOf writesWaiting → ⊥
-unfolding workedStart
 writes-waiting kept =
-    let e = same-byte writesWaiting kept workedStart is-accepted savedBetween savedBetweenFed 0 2 1 worked-size waiting-fed waiting-lawful waiting-early (rw waiting-open (omega arith)) waiting-set waiting-read in
+    let e = same-byte writesWaiting kept workedStart is-accepted savedBetween savedBetweenFed 0 2 1 worked-size waiting-restart waiting-computed waiting-early (rw waiting-open (omega arith)) waiting-set in
     absurd (omega (arith, e))
 
 -- ---- a write while the record that ends a growth is pending: the added block 1 is stored at block 0's old spot, and the cut leaves the old
@@ -138,36 +146,31 @@ abbrev savedEarly : List Event
 savedEarly = runs flushed ∷ runs (write 0 (blockOf 1)) ∷ runs flushed ∷ runs (grow 2) ∷ runs flushed ∷ runs advance ∷ runs flushed ∷ runs advance ∷ runs (write 1 (blockOf 2)) ∷ cut none (tornBlock (blockOf 9) ∷ oldRecord ∷ []) ∷ runs restart ∷ []
 
 abbrev savedEarlyFed : List Fed
-savedEarlyFed = ended flushed true ∷ ended (write 0 (blockOf 1)) true ∷ ended flushed true ∷ ended (grow 2) true ∷ ended flushed true ∷ ended advance true ∷ ended flushed true ∷ ended advance true ∷ ended (write 1 (blockOf 2)) true ∷ cutIn none recordOld ∷ ended restart true ∷ []
+savedEarlyFed = ended flushed true ∷ ended (write 0 (blockOf 1)) true ∷ ended flushed true ∷ ended (grow 2) true ∷ ended flushed true ∷ ended advance true ∷ ended flushed true ∷ ended advance true ∷ ended (write 1 (blockOf 2)) true ∷ cutIn none recordOld ∷ ended restart true ∷ ended (read 0 (blockOf 0)) true ∷ []
 
-early-fed : fedAll writesEarly (begin workedStart) savedEarly ≡ savedEarlyFed
+early-restart : OurRestart writesEarly
+unfolding writesEarly program
+early-restart v o = refl
+
+early-computed : computed (faster writesEarly) firstByte (begin workedStart) (savedEarly ++ (runs (read 0 (blockOf 0)) ∷ [])) 0 ≡ lawfulResult savedEarlyFed 9
 unfolding computing writesEarly program
-early-fed = refl
+early-computed = refl
 
-early-open : modelled savedEarlyFed (nothingPending (startModel 1 1)) .current .plain .blocks ≡ 1
+early-open : modelFed workedStart (take 11 savedEarlyFed) .plain .blocks ≡ 1
 unfolding computing
 early-open = refl
 
-early-set : modelled savedEarlyFed (nothingPending (startModel 1 1)) .current .plain .bytes 0 ≡ some (blockOf 1)
+early-set : modelFed workedStart (take 11 savedEarlyFed) .plain .bytes 0 ≡ some (blockOf 1)
 unfolding computing
 early-set = refl
-
-early-read : getD (outcome writesEarly (read 0 (blockOf 0)) (systemAfter writesEarly workedStart savedEarly) .piece) 0 0 ≡ 9
-unfolding computing writesEarly program
-early-read = refl
-
-early-lawful : Lawful writesEarly (begin workedStart) (savedEarly ++ (runs (read 0 (blockOf 0)) ∷ []))
-unfolding computing writesEarly program
-early-lawful = (other flushed refl, (other (write 0 (blockOf 1)) refl, (other flushed refl, (other (grow 2) refl, (other flushed refl, (other advance refl, (other flushed refl, (other advance refl, (other (write 1 (blockOf 2)) refl, ((refl, (tt, tt)), (refl, (other (read 0 (blockOf 0)) refl, tt))))))))))))
 
 early-early : NoEarlyCut (savedEarly ++ (runs (read 0 (blockOf 0)) ∷ []))
 unfolding NoEarlyCut
 early-early = inl refl
 
 writes-early : PromiseOf writesEarly → ⊥
-unfolding workedStart
 writes-early kept =
-    let e = same-byte writesEarly kept workedStart is-accepted savedEarly savedEarlyFed 0 1 9 worked-size early-fed early-lawful early-early (rw early-open (omega arith)) early-set early-read in
+    let e = same-byte writesEarly kept workedStart is-accepted savedEarly savedEarlyFed 0 1 9 worked-size early-restart early-computed early-early (rw early-open (omega arith)) early-set in
     absurd (omega (arith, e))
 
 -- ---- an advance that records a copy whose store is pending: the cut leaves the new record, and the copy torn
@@ -176,36 +179,31 @@ abbrev recordedEarly : List Event
 recordedEarly = runs flushed ∷ runs (write 0 (blockOf 1)) ∷ runs flushed ∷ runs (grow 2) ∷ runs flushed ∷ runs advance ∷ runs advance ∷ cut none (newRecord ∷ tornBlock (blockOf 9) ∷ []) ∷ runs restart ∷ []
 
 abbrev recordedEarlyFed : List Fed
-recordedEarlyFed = ended flushed true ∷ ended (write 0 (blockOf 1)) true ∷ ended flushed true ∷ ended (grow 2) true ∷ ended flushed true ∷ ended advance true ∷ ended advance true ∷ cutIn none recordNew ∷ ended restart true ∷ []
+recordedEarlyFed = ended flushed true ∷ ended (write 0 (blockOf 1)) true ∷ ended flushed true ∷ ended (grow 2) true ∷ ended flushed true ∷ ended advance true ∷ ended advance true ∷ cutIn none recordNew ∷ ended restart true ∷ ended (read 0 (blockOf 0)) true ∷ []
 
-record-fed : fedAll recordsEarly (begin workedStart) recordedEarly ≡ recordedEarlyFed
+record-restart : OurRestart recordsEarly
+unfolding recordsEarly program
+record-restart v o = refl
+
+record-computed : computed (faster recordsEarly) firstByte (begin workedStart) (recordedEarly ++ (runs (read 0 (blockOf 0)) ∷ [])) 0 ≡ lawfulResult recordedEarlyFed 9
 unfolding computing recordsEarly program
-record-fed = refl
+record-computed = refl
 
-record-open : modelled recordedEarlyFed (nothingPending (startModel 1 1)) .current .plain .blocks ≡ 2
+record-open : modelFed workedStart (take 9 recordedEarlyFed) .plain .blocks ≡ 2
 unfolding computing
 record-open = refl
 
-record-set : modelled recordedEarlyFed (nothingPending (startModel 1 1)) .current .plain .bytes 0 ≡ some (blockOf 1)
+record-set : modelFed workedStart (take 9 recordedEarlyFed) .plain .bytes 0 ≡ some (blockOf 1)
 unfolding computing
 record-set = refl
-
-record-read : getD (outcome recordsEarly (read 0 (blockOf 0)) (systemAfter recordsEarly workedStart recordedEarly) .piece) 0 0 ≡ 9
-unfolding computing recordsEarly program
-record-read = refl
-
-record-lawful : Lawful recordsEarly (begin workedStart) (recordedEarly ++ (runs (read 0 (blockOf 0)) ∷ []))
-unfolding computing recordsEarly program
-record-lawful = (other flushed refl, (other (write 0 (blockOf 1)) refl, (other flushed refl, (other (grow 2) refl, (other flushed refl, (other advance refl, (other advance refl, ((tt, (refl, tt)), (refl, (other (read 0 (blockOf 0)) refl, tt))))))))))
 
 record-early : NoEarlyCut (recordedEarly ++ (runs (read 0 (blockOf 0)) ∷ []))
 unfolding NoEarlyCut
 record-early = inl refl
 
 records-early : PromiseOf recordsEarly → ⊥
-unfolding workedStart
 records-early kept =
-    let e = same-byte recordsEarly kept workedStart is-accepted recordedEarly recordedEarlyFed 0 1 9 worked-size record-fed record-lawful record-early (rw record-open (omega arith)) record-set record-read in
+    let e = same-byte recordsEarly kept workedStart is-accepted recordedEarly recordedEarlyFed 0 1 9 worked-size record-restart record-computed record-early (rw record-open (omega arith)) record-set in
     absurd (omega (arith, e))
 
 -- ---- an advance that copies the first window and later only marks: with three rows block 2 moves in the second window
@@ -225,36 +223,31 @@ abbrev wholeGrowth : List Event
 wholeGrowth = runs flushed ∷ runs (write 2 (blockOf 1)) ∷ runs flushed ∷ runs (grow 2) ∷ runs flushed ∷ runs advance ∷ runs flushed ∷ runs advance ∷ runs flushed ∷ runs advance ∷ runs flushed ∷ runs advance ∷ []
 
 abbrev wholeGrowthFed : List Fed
-wholeGrowthFed = ended flushed true ∷ ended (write 2 (blockOf 1)) true ∷ ended flushed true ∷ ended (grow 2) true ∷ ended flushed true ∷ ended advance true ∷ ended flushed true ∷ ended advance true ∷ ended flushed true ∷ ended advance true ∷ ended flushed true ∷ ended advance true ∷ []
+wholeGrowthFed = ended flushed true ∷ ended (write 2 (blockOf 1)) true ∷ ended flushed true ∷ ended (grow 2) true ∷ ended flushed true ∷ ended advance true ∷ ended flushed true ∷ ended advance true ∷ ended flushed true ∷ ended advance true ∷ ended flushed true ∷ ended advance true ∷ ended (read 2 (blockOf 0)) true ∷ []
 
-later-fed : fedAll marksLater (begin threeRows) wholeGrowth ≡ wholeGrowthFed
+later-restart : OurRestart marksLater
+unfolding marksLater program
+later-restart v o = refl
+
+later-computed : computed (faster marksLater) firstByte (begin threeRows) (wholeGrowth ++ (runs (read 2 (blockOf 0)) ∷ [])) 0 ≡ lawfulResult wholeGrowthFed 0
 unfolding computing marksLater program threeRows
-later-fed = refl
+later-computed = refl
 
-later-open : modelled wholeGrowthFed (nothingPending (startModel 3 1)) .current .plain .blocks ≡ 6
-unfolding computing
+later-open : modelFed threeRows (take 12 wholeGrowthFed) .plain .blocks ≡ 6
+unfolding computing threeRows
 later-open = refl
 
-later-set : modelled wholeGrowthFed (nothingPending (startModel 3 1)) .current .plain .bytes 2 ≡ some (blockOf 1)
-unfolding computing
+later-set : modelFed threeRows (take 12 wholeGrowthFed) .plain .bytes 2 ≡ some (blockOf 1)
+unfolding computing threeRows
 later-set = refl
-
-later-read : getD (outcome marksLater (read 2 (blockOf 0)) (systemAfter marksLater threeRows wholeGrowth) .piece) 0 0 ≡ 0
-unfolding computing marksLater program threeRows
-later-read = refl
-
-later-lawful : Lawful marksLater (begin threeRows) (wholeGrowth ++ (runs (read 2 (blockOf 0)) ∷ []))
-unfolding computing
-later-lawful = (other flushed refl, (other (write 2 (blockOf 1)) refl, (other flushed refl, (other (grow 2) refl, (other flushed refl, (other advance refl, (other flushed refl, (other advance refl, (other flushed refl, (other advance refl, (other flushed refl, (other advance refl, (other (read 2 (blockOf 0)) refl, tt)))))))))))))
 
 later-early : NoEarlyCut (wholeGrowth ++ (runs (read 2 (blockOf 0)) ∷ []))
 unfolding NoEarlyCut
 later-early = inl refl
 
 marks-later : PromiseOf marksLater → ⊥
-unfolding threeRows
 marks-later kept =
-    let e = same-byte marksLater kept threeRows three-accepted wholeGrowth wholeGrowthFed 2 1 0 three-size later-fed later-lawful later-early (rw later-open (omega arith)) later-set later-read in
+    let e = same-byte marksLater kept threeRows three-accepted wholeGrowth wholeGrowthFed 2 1 0 three-size later-restart later-computed later-early (rw later-open (omega arith)) later-set in
     absurd (omega (arith, e))
 
 -- ---- a made-up count of calls left: grow reports 7, and 2 are left
@@ -265,38 +258,34 @@ oneGrowth = runs flushed ∷ runs (grow 2) ∷ []
 abbrev oneGrowthFed : List Fed
 oneGrowthFed = ended flushed true ∷ ended (grow 2) true ∷ []
 
-made-up-fed : fedAll madeUpCount (begin workedStart) oneGrowth ≡ oneGrowthFed
+made-up-restart : OurRestart madeUpCount
+unfolding madeUpCount program
+made-up-restart v o = refl
+
+made-up-computed : computed (faster madeUpCount) numberTold (begin workedStart) oneGrowth none ≡ lawfulResult oneGrowthFed (some 7)
 unfolding computing madeUpCount program
-made-up-fed = refl
+made-up-computed = refl
 
 made-up-up : IsUp (systemAfter madeUpCount workedStart oneGrowth)
-unfolding computing IsUp madeUpCount program
+unfolding systemAfter afterAll after IsUp
 made-up-up = tt
 
-made-up-runs : isRunning (modelled oneGrowthFed (nothingPending (startModel 1 1)) .current .tally .mode) ≡ true
+growth-runs : isRunning (modelFed workedStart oneGrowthFed .tally .mode) ≡ true
 unfolding computing
-made-up-runs = refl
+growth-runs = refl
 
-made-up-left : callsLeftOf (modelled oneGrowthFed (nothingPending (startModel 1 1)) .current .tally) ≡ 2
+growth-left : callsLeftOf (modelFed workedStart oneGrowthFed .tally) ≡ 2
 unfolding computing
-made-up-left = refl
+growth-left = refl
 
-made-up-lawful : Lawful madeUpCount (begin workedStart) oneGrowth
-unfolding computing madeUpCount program
-made-up-lawful = (other flushed refl, (other (grow 2) refl, tt))
-
-made-up-early : NoEarlyCut oneGrowth
+growth-early : NoEarlyCut oneGrowth
 unfolding NoEarlyCut
-made-up-early = inl refl
-
-made-up-told : lastReported madeUpCount (begin workedStart) oneGrowth none ≡ some 7
-unfolding computing madeUpCount program
-made-up-told = refl
+growth-early = inl refl
 
 made-up-count : PromiseOf madeUpCount → ⊥
-unfolding workedStart
 made-up-count kept =
-    let e = same-count madeUpCount kept workedStart is-accepted oneGrowth oneGrowthFed 7 2 made-up-fed made-up-lawful made-up-early made-up-up made-up-runs made-up-told made-up-left in
+    let f = faster-facts madeUpCount numberTold (begin workedStart) oneGrowth none oneGrowthFed (some 7) made-up-restart made-up-computed in
+    let e = same-count madeUpCount kept workedStart is-accepted oneGrowth oneGrowthFed 7 2 f growth-early made-up-up growth-runs growth-left in
     absurd (omega (arith, e))
 
 -- ---- a restart that keeps unrecorded copies: it reports one call less than the tally has left
@@ -307,64 +296,56 @@ oneCopy = runs flushed ∷ runs (grow 2) ∷ runs flushed ∷ runs (copy 0) ∷ 
 abbrev oneCopyFed : List Fed
 oneCopyFed = ended flushed true ∷ ended (grow 2) true ∷ ended flushed true ∷ ended (copy 0) true ∷ ended flushed true ∷ ended restart true ∷ []
 
-copies-fed : fedAll keepsCopies (begin workedStart) oneCopy ≡ oneCopyFed
-unfolding computing keepsCopies program
-copies-fed = refl
+copies-computed : computed keepsCopies numberTold (begin workedStart) oneCopy none ≡ lawfulResult oneCopyFed (some 1)
+unfolding computing keepsCopies program restartTable isSoundRecord stateRead readRecord isRecord fieldsHold marksHold spacesHold
+copies-computed = refl
 
 copies-up : IsUp (systemAfter keepsCopies workedStart oneCopy)
-unfolding computing IsUp keepsCopies program
+unfolding systemAfter afterAll after IsUp
 copies-up = tt
 
-copies-runs : isRunning (modelled oneCopyFed (nothingPending (startModel 1 1)) .current .tally .mode) ≡ true
+copies-runs : isRunning (modelFed workedStart oneCopyFed .tally .mode) ≡ true
 unfolding computing
 copies-runs = refl
 
-copies-left : callsLeftOf (modelled oneCopyFed (nothingPending (startModel 1 1)) .current .tally) ≡ 2
+copies-left : callsLeftOf (modelFed workedStart oneCopyFed .tally) ≡ 2
 unfolding computing
 copies-left = refl
-
-copies-lawful : Lawful keepsCopies (begin workedStart) oneCopy
-unfolding computing keepsCopies program
-copies-lawful = (other flushed refl, (other (grow 2) refl, (other flushed refl, (other (copy 0) refl, (other flushed refl, (λ _. refl, tt))))))
 
 copies-early : NoEarlyCut oneCopy
 unfolding NoEarlyCut
 copies-early = inl refl
 
-copies-told : lastReported keepsCopies (begin workedStart) oneCopy none ≡ some 1
-unfolding computing keepsCopies program
-copies-told = refl
-
 keeps-copies : PromiseOf keepsCopies → ⊥
-unfolding workedStart
 keeps-copies kept =
-    let e = same-count keepsCopies kept workedStart is-accepted oneCopy oneCopyFed 1 2 copies-fed copies-lawful copies-early copies-up copies-runs copies-told copies-left in
+    let f = facts keepsCopies numberTold (begin workedStart) oneCopy none oneCopyFed (some 1) copies-computed in
+    let e = same-count keepsCopies kept workedStart is-accepted oneCopy oneCopyFed 1 2 f copies-early copies-up copies-runs copies-left in
     absurd (omega (arith, e))
 
 -- ---- an advance that always refuses: directly after flushed too
 
-never-fed : fedAll neverAdvances (begin workedStart) oneGrowth ≡ oneGrowthFed
+never-restart : OurRestart neverAdvances
+unfolding neverAdvances program
+never-restart v o = refl
+
+never-computed : computed (faster neverAdvances) hearNothing (begin workedStart) oneGrowth tt ≡ lawfulResult oneGrowthFed tt
 unfolding computing neverAdvances program
-never-fed = refl
+never-computed = refl
 
 never-up : IsUp (systemAfter neverAdvances workedStart oneGrowth)
-unfolding computing IsUp neverAdvances program
+unfolding systemAfter afterAll after IsUp
 never-up = tt
 
-never-lawful : Lawful neverAdvances (begin workedStart) oneGrowth
-unfolding computing
-never-lawful = (other flushed refl, (other (grow 2) refl, tt))
-
-never-told : isAccepted neverAdvances advance (after neverAdvances (systemAfter neverAdvances workedStart oneGrowth) (runs flushed)) ≡ false
-unfolding computing neverAdvances program
-never-told = refl
+never-accepted : (s : System) → isAccepted neverAdvances advance s ≡ false
+unfolding outcome neverAdvances program refused accepted number
+never-accepted s = refl
 
 never-advances : PromiseOf neverAdvances → ⊥
-unfolding workedStart
 never-advances kept =
-    let m = model-fed neverAdvances kept workedStart is-accepted oneGrowth oneGrowthFed never-fed in
-    let right = kept workedStart is-accepted oneGrowth never-lawful made-up-early .advances never-up (ap (λ (o : Model). isRunning (o .tally .mode)) m ∙ made-up-runs) in
-    true≢false (sym right ∙ never-told)
+    let f = faster-facts neverAdvances hearNothing (begin workedStart) oneGrowth tt oneGrowthFed tt never-restart never-computed in
+    let m = model-fed neverAdvances workedStart oneGrowth oneGrowthFed (f .all-fed) in
+    let right = kept workedStart is-accepted oneGrowth (f .lawful) growth-early .advances never-up (ap (λ (o : Model). isRunning (o .tally .mode)) m ∙ growth-runs) in
+    true≢false (sym right ∙ never-accepted _)
 
 pub shut-out : ShutOut
 shut-out =
