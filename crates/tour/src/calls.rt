@@ -1,15 +1,13 @@
 // A line for each call: what is called, and its answer.
 use super::words::show_answer;
-use super::words::show_reason;
-use super::words::show_refusal;
+use super::words::show_held;
+use super::words::show_home;
 use layout::Block;
 use layout::Row;
 use layout::Spot;
 use printing::counted;
 use printing::labelled;
 use printing::text;
-use volume::AddressAnswer;
-use volume::HolderAnswer;
 use volume::Reply;
 use volume::Volume;
 
@@ -31,10 +29,14 @@ pub fn stored(reply: Reply) -> Reply {
     }
 }
 
-pub fn show_format(medium: &mut [u8], size: usize, rows: usize, disks: usize) -> Volume {
+fn name_format(size: usize, rows: usize, disks: usize) {
     counted(b"  format with ", disks, b" disks of ");
     counted(b"", rows, b" rows, blocks of ");
     counted(b"", size, b" bytes: ");
+}
+
+pub fn show_format(medium: &mut [u8], size: usize, rows: usize, disks: usize) -> Volume {
+    name_format(size, rows, disks);
     let reply = stored(Volume::format(medium, size, rows, disks));
     let answer = reply.answer;
     show_answer(answer);
@@ -54,6 +56,14 @@ pub fn show_grow(v: Volume, medium: &mut [u8], count: usize) -> Reply {
 pub fn show_restart(medium: &[u8]) -> Reply {
     text(b"  restart: ");
     let reply = Volume::restart(medium);
+    let answer = reply.answer;
+    show_answer(answer);
+    reply
+}
+
+pub fn show_advance(v: Volume, medium: &mut [u8]) -> Reply {
+    text(b"  advance: ");
+    let reply = stored(v.advance(medium));
     let answer = reply.answer;
     show_answer(answer);
     reply
@@ -82,18 +92,7 @@ pub fn show_address(v: Volume, x: usize) {
     labelled(b"  address: block", x);
     let reply = v.address(Block(x));
     let answer = reply.answer;
-    match answer {
-        AddressAnswer::Refused(k) => {
-            text(b" is ");
-            show_refusal(k);
-        }
-        AddressAnswer::At(p, reason) => {
-            let row = p.row;
-            labelled(b" lives at disk", p.disk);
-            counted(b", row ", row.0, b": ");
-            show_reason(reason);
-        }
-    }
+    show_home(answer);
     text(b"\n");
 }
 
@@ -106,12 +105,6 @@ pub fn show_holder(v: Volume, disk: usize, row: usize) {
         row: Row(row),
     });
     let answer = reply.answer;
-    match answer {
-        HolderAnswer::Refused(k) => {
-            text(b" is ");
-            show_refusal(k);
-        }
-        HolderAnswer::Has(x) => labelled(b" has block", x.0),
-    }
+    show_held(answer);
     text(b"\n");
 }

@@ -1,8 +1,6 @@
 // Advance calls, some or as many as were reported.
-use super::calls::stored;
-use super::words::show_answer;
+use super::calls::show_advance;
 use printing::counted;
-use printing::text;
 use volume::Advanced;
 use volume::Answer;
 use volume::Reply;
@@ -37,14 +35,27 @@ pub fn advance_times(reply: Reply, medium: &mut [u8], times: usize) -> Reply {
     let mut last = reply;
     let mut k = 0;
     while k < times {
-        text(b"  advance: ");
         let state = last.state;
-        last = stored(state.advance(medium));
-        let answer = last.answer;
-        show_answer(answer);
+        last = show_advance(state, medium);
         k += 1;
     }
     last
+}
+
+fn tell_end(finished: bool, calls: usize) {
+    if finished {
+        counted(
+            b"The last of the ",
+            calls,
+            b" calls that were reported finished the growth.\n",
+        );
+    } else {
+        counted(
+            b"The growth did NOT finish with the ",
+            calls,
+            b" calls that were reported.\n",
+        );
+    }
 }
 
 // As many advance calls as the reply reports. After the growth's end an advance is refused: if the last one tells finished, no other did.
@@ -53,19 +64,7 @@ pub fn advance_to_end(reply: Reply, medium: &mut [u8]) -> Volume {
     let left = calls_left(reported);
     let last = advance_times(reply, medium, left);
     let answer = last.answer;
-    if tells_end(answer) {
-        counted(
-            b"The last of the ",
-            left,
-            b" calls that were reported finished the growth.\n",
-        );
-    } else {
-        counted(
-            b"The growth did NOT finish with the ",
-            left,
-            b" calls that were reported.\n",
-        );
-    }
+    tell_end(tells_end(answer), left);
     let state = last.state;
     state
 }

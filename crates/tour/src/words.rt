@@ -4,8 +4,10 @@ use layout::Reason;
 use printing::counted;
 use printing::labelled;
 use printing::text;
+use volume::AddressAnswer;
 use volume::Advanced;
 use volume::Answer;
+use volume::HolderAnswer;
 
 fn show_part(part: Part) {
     match part {
@@ -16,7 +18,7 @@ fn show_part(part: Part) {
 }
 
 // Why a block lives at its spot.
-pub fn show_reason(reason: Reason) {
+fn show_reason(reason: Reason) {
     match reason {
         Reason::SetOut => text(b"set out there at format"),
         Reason::AddedBy(k) => labelled(b"added there by growth", k),
@@ -28,7 +30,7 @@ pub fn show_reason(reason: Reason) {
 }
 
 // A refusal; those that the rack meets have the documents' words.
-pub fn show_refusal(k: usize) {
+fn show_refusal(k: usize) {
     labelled(b"refused with", k);
     match k {
         3 => text(b": block not open"),
@@ -63,4 +65,31 @@ pub fn show_answer(answer: Answer) {
         }
     }
     text(b"\n");
+}
+
+// Where a block lives.
+pub fn show_home(answer: AddressAnswer) {
+    match answer {
+        AddressAnswer::Refused(k) => {
+            text(b" is ");
+            show_refusal(k);
+        }
+        AddressAnswer::At(p, reason) => {
+            let row = p.row;
+            labelled(b" lives at disk", p.disk);
+            counted(b", row ", row.0, b": ");
+            show_reason(reason);
+        }
+    }
+}
+
+// The block that lives at a spot.
+pub fn show_held(answer: HolderAnswer) {
+    match answer {
+        HolderAnswer::Refused(k) => {
+            text(b" is ");
+            show_refusal(k);
+        }
+        HolderAnswer::Has(x) => labelled(b" has block", x.0),
+    }
 }

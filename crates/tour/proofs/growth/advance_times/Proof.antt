@@ -7,28 +7,16 @@ use Rattle.tour.proofs.growth.advance_times.Statement.{statement}
 use Rattle.tour.proofs.growth.advance_times.Tie as tie
 
 abbrev Inv-loop : tie.InvT-loop
-Inv-loop medium₀ times last₀ k₀ t8 medium last k = (length medium ≡ length medium₀) × (k ≤ times)
+Inv-loop medium₀ times last₀ k₀ medium last k = (length medium ≡ length medium₀) × (k ≤ times)
 
 abbrev μ-loop : tie.MeasureT-loop
-μ-loop medium₀ times last₀ k₀ t8 medium last k = times - k
+μ-loop medium₀ times last₀ k₀ medium last k = times - k
 
 loop-holds : tie.Need-loop-holds Inv-loop μ-loop
 loop-holds c = search needs
 
-slice-aggregate-text : tie.Need-slice-aggregate-text Inv-loop μ-loop
-slice-aggregate-text c = search needs
-
-text-requires : tie.Need-text-requires Inv-loop μ-loop
-text-requires c κs = search needs
-
-advance-requires : tie.Need-advance-requires Inv-loop μ-loop
-advance-requires c κs = search needs
-
-stored-requires : tie.Need-stored-requires Inv-loop μ-loop
-stored-requires c κs = search needs
-
-show-answer-requires : tie.Need-show-answer-requires Inv-loop μ-loop
-show-answer-requires c κs = search needs
+show-advance-requires : tie.Need-show-advance-requires Inv-loop μ-loop
+show-advance-requires c κs = search needs
 
 add-k : tie.Need-add-k Inv-loop μ-loop
 add-k c = search needs
@@ -52,11 +40,7 @@ advance-times-spec =
     Inv-loop
     μ-loop
     loop-holds
-    slice-aggregate-text
-    text-requires
-    advance-requires
-    stored-requires
-    show-answer-requires
+    show-advance-requires
     add-k
     loop-less
     loop-again

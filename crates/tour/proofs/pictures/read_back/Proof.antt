@@ -1,29 +1,25 @@
 -- `read_back` meets its contract. The loop's invariant: each count is at most the blocks passed. Assumes nothing.
 use Prim.Native.Nat.{_-_, _≤_}
 use mathlib.Core.Logic.{⊎-elim}
-use lib.ListN.{length}
 use native.Mathlib.Omega.{arith}
 use borrow.Author.Needs.{needs}
 use Rattle.tour.proofs.pictures.read_back.Statement.{statement}
 use Rattle.tour.proofs.pictures.read_back.Tie as tie
 
 abbrev Inv-loop : tie.InvT-loop
-Inv-loop v medium versions saved₀ same₀ x₀ t7 t8 t9 t10 saved same x = (x ≤ length versions) × (saved ≤ x) × (same ≤ x)
+Inv-loop medium v versions saved₀ same₀ x₀ saved same x = (x ≤ 30) × (saved ≤ x) × (same ≤ x)
 
 abbrev μ-loop : tie.MeasureT-loop
-μ-loop v medium versions saved₀ same₀ x₀ t7 t8 t9 t10 saved same x = length versions - x
+μ-loop medium v versions saved₀ same₀ x₀ saved same x = 30 - x
 
 loop-holds : tie.Need-loop-holds Inv-loop μ-loop
 loop-holds c = search needs
 
-shared-slice-read-if1 : tie.Need-shared-slice-read-if1 Inv-loop μ-loop
-shared-slice-read-if1 c = search needs
+array-read-version : tie.Need-array-read-version Inv-loop μ-loop
+array-read-version c = search needs
 
 add-saved : tie.Need-add-saved Inv-loop μ-loop
 add-saved c = search needs
-
-shared-slice-read-is-as-saved : tie.Need-shared-slice-read-is-as-saved Inv-loop μ-loop
-shared-slice-read-is-as-saved c = search needs
 
 is-as-saved-requires : tie.Need-is-as-saved-requires Inv-loop μ-loop
 is-as-saved-requires c κs = search needs
@@ -40,23 +36,8 @@ loop-less c = search needs
 loop-again : tie.Need-loop-again Inv-loop μ-loop
 loop-again c = ⊎-elim (λ w. omega arith) (⊎-elim (λ w. omega arith) (λ w. omega arith)) (c .if1 .came)
 
-slice-aggregate-counted : tie.Need-slice-aggregate-counted Inv-loop μ-loop
-slice-aggregate-counted c = search needs
-
-slice-aggregate-counted-2 : tie.Need-slice-aggregate-counted-2 Inv-loop μ-loop
-slice-aggregate-counted-2 c = search needs
-
-counted-requires : tie.Need-counted-requires Inv-loop μ-loop
-counted-requires c κs = search needs
-
-slice-aggregate-counted-3 : tie.Need-slice-aggregate-counted-3 Inv-loop μ-loop
-slice-aggregate-counted-3 c = search needs
-
-slice-aggregate-counted-4 : tie.Need-slice-aggregate-counted-4 Inv-loop μ-loop
-slice-aggregate-counted-4 c = search needs
-
-counted-requires-2 : tie.Need-counted-requires-2 Inv-loop μ-loop
-counted-requires-2 c κs = search needs
+tell-same-requires : tie.Need-tell-same-requires Inv-loop μ-loop
+tell-same-requires c κs = search needs
 
 returns : tie.Need-returns Inv-loop μ-loop
 returns c = search needs
@@ -68,18 +49,12 @@ read-back-spec =
     Inv-loop
     μ-loop
     loop-holds
-    shared-slice-read-if1
+    array-read-version
     add-saved
-    shared-slice-read-is-as-saved
     is-as-saved-requires
     add-same
     add-x
     loop-less
     loop-again
-    slice-aggregate-counted
-    slice-aggregate-counted-2
-    counted-requires
-    slice-aggregate-counted-3
-    slice-aggregate-counted-4
-    counted-requires-2
+    tell-same-requires
     returns)
