@@ -1,6 +1,14 @@
 // The calls on a medium.
 use super::answers::answer_number;
 use super::answers::show_answer;
+use super::given::ADVANCE;
+use super::given::CHECKPOINT;
+use super::given::COPY;
+use super::given::FORMAT;
+use super::given::GROW;
+use super::given::Given;
+use super::given::RESTART;
+use super::given::SECTOR;
 use super::lines::byte_at;
 use super::states::Run;
 use super::states::with_state;
@@ -30,41 +38,23 @@ fn told(run: Run, reply: Reply) -> Run {
     stored(run, state)
 }
 
-pub fn format(run: Run, medium: &mut [u8], size: usize, rows: usize, disks: usize) -> Run {
-    told(run, Volume::format(medium, size, rows, disks))
+// The calls that need no piece.
+fn reply_of(v: Volume, medium: &mut [u8], given: Given) -> Reply {
+    let call = given.call;
+    match call {
+        FORMAT => Volume::format(medium, given.a, given.b, given.c),
+        RESTART => Volume::restart(medium),
+        SECTOR => Volume::from_sector(medium),
+        GROW => v.grow(medium, given.a),
+        COPY => v.copy(medium, Block(given.a)),
+        CHECKPOINT => v.checkpoint(medium),
+        ADVANCE => v.advance(medium),
+        _ => v.flushed(),
+    }
 }
 
-pub fn restart(run: Run, medium: &[u8]) -> Run {
-    told(run, Volume::restart(medium))
-}
-
-pub fn sector(run: Run, medium: &[u8]) -> Run {
-    told(run, Volume::from_sector(medium))
-}
-
-pub fn grow(run: Run, medium: &mut [u8], count: usize) -> Run {
-    let v = run.v;
-    told(run, v.grow(medium, count))
-}
-
-pub fn copy(run: Run, medium: &mut [u8], x: usize) -> Run {
-    let v = run.v;
-    told(run, v.copy(medium, Block(x)))
-}
-
-pub fn checkpoint(run: Run, medium: &mut [u8]) -> Run {
-    let v = run.v;
-    told(run, v.checkpoint(medium))
-}
-
-pub fn advance(run: Run, medium: &mut [u8]) -> Run {
-    let v = run.v;
-    told(run, v.advance(medium))
-}
-
-pub fn flushed(run: Run) -> Run {
-    let v = run.v;
-    told(run, v.flushed())
+pub fn make(run: Run, medium: &mut [u8], given: Given) -> Run {
+    told(run, reply_of(run.v, medium, given))
 }
 
 fn write_piece(run: Run, medium: &mut [u8], x: usize, piece: &[u8]) -> Run {

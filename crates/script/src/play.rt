@@ -1,31 +1,19 @@
 // A script, line by line.
-use super::calls::advance;
-use super::calls::checkpoint;
-use super::calls::copy;
-use super::calls::flushed;
-use super::calls::format;
-use super::calls::grow;
+use super::calls::make;
 use super::calls::read;
 use super::calls::reads;
-use super::calls::restart;
 use super::calls::saves;
-use super::calls::sector;
 use super::calls::write;
 use super::charts::chart;
 use super::charts::chart_of_record;
 use super::given::ADDRESS;
 use super::given::ADDRESSES;
-use super::given::ADVANCE;
 use super::given::BACK;
 use super::given::BYTES;
 use super::given::CACHE;
 use super::given::CHART;
 use super::given::CHART_OF_RECORD;
-use super::given::CHECKPOINT;
-use super::given::COPY;
 use super::given::FLUSHED;
-use super::given::FORMAT;
-use super::given::GROW;
 use super::given::Given;
 use super::given::HOLDER;
 use super::given::KEEP;
@@ -34,9 +22,7 @@ use super::given::PUT;
 use super::given::READ;
 use super::given::READS;
 use super::given::RECORD;
-use super::given::RESTART;
 use super::given::SAVES;
-use super::given::SECTOR;
 use super::given::STATE;
 use super::given::WRITE;
 use super::given::given_by;
@@ -88,13 +74,11 @@ fn fetch(v: Volume, medium: &[u8], given: Given) {
     }
 }
 
-// What leaves the medium as it is.
-fn take(run: Run, medium: &[u8], given: Given) -> Run {
+// What changes the state from outside, or what is lent.
+fn set(run: Run, line: &[u8], medium: &[u8], given: Given) -> Run {
     let call = given.call;
     match call {
-        RESTART => restart(run, medium),
-        SECTOR => sector(run, medium),
-        FLUSHED => flushed(run),
+        STATE => with_state(run, state_of(line)),
         MEDIUM => with_lent(run, given.a),
         CACHE => with_cache(run, given.a),
         _ => {
@@ -104,47 +88,36 @@ fn take(run: Run, medium: &[u8], given: Given) -> Run {
     }
 }
 
-// The calls that move blocks.
-fn move_blocks(run: Run, medium: &mut [u8], given: Given) -> Run {
+// What changes the medium from outside.
+fn damage(run: Run, line: &[u8], medium: &mut [u8], given: Given) -> Run {
     let call = given.call;
     match call {
-        GROW => grow(run, medium, given.a),
-        COPY => copy(run, medium, given.a),
-        CHECKPOINT => checkpoint(run, medium),
-        ADVANCE => advance(run, medium),
-        _ => take(run, medium, given),
-    }
-}
-
-fn store(run: Run, medium: &mut [u8], given: Given) -> Run {
-    let call = given.call;
-    match call {
-        FORMAT => format(run, medium, given.a, given.b, given.c),
-        WRITE => write(run, medium, given.a, given.b, given.c),
-        SAVES => saves(run, medium, given.a, given.b),
-        _ => move_blocks(run, medium, given),
-    }
-}
-
-// What changes the state or the medium from outside.
-fn set(run: Run, line: &[u8], medium: &mut [u8], given: Given) -> Run {
-    let call = given.call;
-    match call {
-        STATE => with_state(run, state_of(line)),
         RECORD => put_record(run, medium),
         PUT => put(run, medium, given.a, given.b, given.c),
         BYTES => put_text(run, medium, line, given.a),
-        _ => store(run, medium, given),
+        _ => set(run, line, medium, given),
     }
 }
 
-fn make(run: Run, line: &[u8], medium: &mut [u8], kept: &mut [u8]) -> Run {
+fn store(run: Run, line: &[u8], medium: &mut [u8], given: Given) -> Run {
+    let call = given.call;
+    if call <= FLUSHED {
+        return make(run, medium, given);
+    }
+    match call {
+        WRITE => write(run, medium, given.a, given.b, given.c),
+        SAVES => saves(run, medium, given.a, given.b),
+        _ => damage(run, line, medium, given),
+    }
+}
+
+fn play_given(run: Run, line: &[u8], medium: &mut [u8], kept: &mut [u8]) -> Run {
     let given = given_by(line);
     let call = given.call;
     match call {
         KEEP => keep(run, medium, kept),
         BACK => put_back(run, medium, kept, given.a, given.b),
-        _ => set(run, line, medium, given),
+        _ => store(run, line, medium, given),
     }
 }
 
@@ -179,7 +152,7 @@ fn is_shown_alone(line: &[u8]) -> bool {
 
 fn play_call(run: Run, line: &[u8], medium: &mut [u8], before: &mut [u8], kept: &mut [u8]) -> Run {
     put_bytes(before, 0, medium);
-    let next = make(run, line, medium, kept);
+    let next = play_given(run, line, medium, kept);
     show_change(run.v, next.v);
     show_changed(before, medium);
     next

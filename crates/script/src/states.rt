@@ -1,6 +1,6 @@
 // States as sixteen numbers, in the order of the C header: Z, s, t, N[0] to N[7], growing, w, the recorded and the copied marks, each as a
 // word, and what is pending, 1 for a record and 2 for blocks.
-use printing::next_number;
+use printing::number;
 use printing::text;
 use volume::Pending;
 use volume::Volume;
@@ -106,27 +106,26 @@ fn same_numbers(a: [usize; 16], b: [usize; 16]) -> bool {
     true
 }
 
-fn show_name(k: usize) {
-    match k {
-        0 => text(b"; state Z"),
-        1 => text(b", s"),
-        2 => text(b", t"),
-        3 => text(b", N"),
-        11 => text(b", growing"),
-        12 => text(b", w"),
-        13 => text(b", recorded"),
-        14 => text(b", copied"),
-        15 => text(b", pending"),
-        _ => text(b""),
+// Shows a byte or, where it is #, number k; gives the place of the next number.
+fn show_at(b: u8, k: usize, list: [usize; 16]) -> usize {
+    if b != b'#' {
+        text(&[b; 1]);
+        return k;
     }
+    if 16 <= k {
+        return k;
+    }
+    number(list[k]);
+    k + 1
 }
 
-fn show_numbers(list: [usize; 16]) {
+// Each # stands for the next number.
+fn show_numbers(words: &[u8], list: [usize; 16]) {
     let mut k = 0;
-    while k < 16 {
-        show_name(k);
-        next_number(list[k]);
-        k += 1;
+    let mut i = 0;
+    while i < words.len() {
+        k = show_at(words[i], k, list);
+        i += 1;
     }
 }
 
@@ -136,7 +135,10 @@ pub fn show_change(before: Volume, after: Volume) {
     if same_numbers(numbers_of(before), numbers) {
         return;
     }
-    show_numbers(numbers);
+    show_numbers(
+        b"; state Z #, s #, t #, N # # # # # # # #, growing #, w #, recorded #, copied #, pending #",
+        numbers,
+    );
     if !after.is_sound() {
         text(b", not sound");
     }

@@ -1,34 +1,28 @@
 -- `show_numbers` meets its contract. Assumes nothing.
 use Prim.Native.Nat.{_-_, _≤_}
+use lib.ListN.{length}
 use borrow.Author.Needs.{needs}
 use Rattle.script.proofs.states.show_numbers.Statement.{statement}
 use Rattle.script.proofs.states.show_numbers.Tie as tie
-use Rattle.printing.proofs.next_number.Reads as next-number-reads
-use Rattle.script.proofs.states.show_name.Reads as show-name-reads
+use Rattle.script.proofs.states.show_at.Reads as show-at-reads
 
 abbrev Inv-loop : tie.InvT-loop
-Inv-loop list k₀ k = k ≤ 16
+Inv-loop words list k₀ i₀ k i = i ≤ length words
 
 abbrev μ-loop : tie.MeasureT-loop
-μ-loop list k₀ k = 16 - k
+μ-loop words list k₀ i₀ k i = length words - i
 
 loop-holds : tie.Need-loop-holds Inv-loop μ-loop
 loop-holds c = search needs
 
-show-name-requires : tie.Need-show-name-requires Inv-loop μ-loop
-show-name-requires c κs = search needs
+shared-slice-read-show-at : tie.Need-shared-slice-read-show-at Inv-loop μ-loop
+shared-slice-read-show-at c = search needs
 
-mul-next-number : tie.Need-mul-next-number Inv-loop μ-loop
-mul-next-number c = search needs
+show-at-requires : tie.Need-show-at-requires Inv-loop μ-loop
+show-at-requires c κs = search needs
 
-array-read-next-number : tie.Need-array-read-next-number Inv-loop μ-loop
-array-read-next-number c = search needs
-
-next-number-requires : tie.Need-next-number-requires Inv-loop μ-loop
-next-number-requires c κs = search needs
-
-add-k : tie.Need-add-k Inv-loop μ-loop
-add-k c = search needs
+add-i : tie.Need-add-i Inv-loop μ-loop
+add-i c = search needs
 
 loop-less : tie.Need-loop-less Inv-loop μ-loop
 loop-less c = search needs
@@ -46,11 +40,9 @@ show-numbers-spec =
     Inv-loop
     μ-loop
     loop-holds
-    show-name-requires
-    mul-next-number
-    array-read-next-number
-    next-number-requires
-    add-k
+    shared-slice-read-show-at
+    show-at-requires
+    add-i
     loop-less
     loop-again
     returns)
