@@ -81,9 +81,9 @@ impl Volume {
         if k != 0 {
             return Volume::zeros().refuse(k);
         }
-        let v = Volume::new_state(size, rows, disks);
-        v.store_record(medium);
-        let formatted = v.after_record();
+        let fresh = Volume::new_state(size, rows, disks);
+        fresh.store_record(medium);
+        let formatted = fresh.after_record();
         Reply {
             state: formatted,
             answer: Answer::Done,

@@ -181,11 +181,18 @@ impl Volume {
         if k != 0 {
             return self.refuse(k);
         }
-        let v = self.checkpointed();
-        v.store_record(medium);
-        let counts = v.counts;
-        let left = marks::calls_left(&counts, v.growths, v.rows, v.growing, v.window, v.copied);
-        let after = v.after_record();
+        let next = self.checkpointed();
+        next.store_record(medium);
+        let counts = next.counts;
+        let left = marks::calls_left(
+            &counts,
+            next.growths,
+            next.rows,
+            next.growing,
+            next.window,
+            next.copied,
+        );
+        let after = next.after_record();
         after.report(left)
     }
 
