@@ -83,8 +83,8 @@ pub extern "C" fn streterva_checkpoint(
         return WRONG_LENGTH;
     }
     let v = state_of(state);
-    let reply = v.checkpoint(medium);
-    hand_back(reply, state, figures)
+    let recorded = v.checkpoint(medium);
+    hand_back(recorded, state, figures)
 }
 
 // Copies the next block or, when none is left in the window, records the copies.
