@@ -1,0 +1,221 @@
+#!/usr/bin/env python3
+"""The test of every_line_fails, on logs that rt leaves of a small crate with three edits."""
+import os
+import subprocess
+import sys
+import tempfile
+import unittest
+
+PROGRAM = os.path.join(os.path.dirname(os.path.abspath(__file__)), 'every_line_fails')
+
+CODE = '''ghost use mathlib.Core.Path.{_≡_};
+ghost use Rattle.small.specs.Numbers.{told};
+
+const MOST: usize = 9;
+
+pub fn most() -> usize
+    ensures { λ r. ⌜ r ≡ 9 ⌝ }
+{
+    MOST
+}
+
+pub fn seven() -> usize
+    ensures { λ r. ⌜ r ≡ 7 ⌝ }
+{
+    7
+}
+
+pub fn first(a: usize, b: usize) -> usize
+    ensures { λ r. ⌜ r ≡ a ⌝ }
+{
+    let _other = b;
+    a
+}
+
+pub fn tell(flag: bool) -> usize
+    ensures { λ r. ⌜ r ≡ told flag ⌝ }
+{
+    if flag {
+        return 1;
+    }
+    2
+}
+'''
+
+SPECS = '''use mathlib.Core.Bool.{Bool, cond}
+use Prim.Native.Nat.{ℕ}
+
+unfoldable pub told : Bool → ℕ
+told flag = cond flag 1 2
+'''
+
+PROOF = '''use mathlib.Core.Path.{refl}
+use Rattle.small.specs.Numbers.{told}
+use Rattle.small.proofs.tell.Statement.{statement}
+use Rattle.small.proofs.tell.Tie as tie
+
+returns : tie.Need-returns
+unfolding told
+returns c = rw (c .if1 .taken) refl
+
+returns-2 : tie.Need-returns-2
+unfolding told
+returns-2 c = rw (c .if1 .left) refl
+
+pub tell-spec : {M : Type 1} → statement M
+tell-spec = tie.close (tie.spec returns returns-2)
+'''
+
+# A constant, a number, an argument, and two numbers that change places: all are wrong.
+ALL_WRONG = '''file: src/lib.rt
+old: const MOST: usize = 9;
+new: const MOST: usize = 8;
+fails: most
+old:     7
+new:     8
+old:     a
+new:     b
+old: return 1;
+new: return 90;
+old:     2
+new:     1
+old: return 90;
+new: return 2;
+'''
+
+# The first pair is harmless, the others are wrong, the last two in one function.
+ONE_HARMLESS = '''file: src/lib.rt
+old: let _other = b;
+new: let _other = a;
+old:     7
+new:     8
+old: return 1;
+new: return 3;
+fails: tell:returns
+old:     2
+new:     4
+fails: tell:returns-2
+'''
+
+DEFINITION = '''file: specs/Numbers.antt
+old: told flag = cond flag 1 2
+new: told flag = cond flag 2 1
+fails: tell
+'''
+
+FILES = {
+    'crates.txt': 'small:\n',
+    'crates/small/src/lib.rt': CODE,
+    'crates/small/specs/Lib.antt': 'pub mod Numbers\n',
+    'crates/small/specs/Numbers.antt': SPECS,
+    'crates/small/proofs/tell/Proof.antt': PROOF,
+}
+
+
+def without_fails(edit):
+    return ''.join(line for line in edit.splitlines(True) if not line.startswith('fails:'))
+
+
+class EveryLineFails(unittest.TestCase):
+    @classmethod
+    def setUpClass(cls):
+        cls.folder = tempfile.TemporaryDirectory()
+        cls.root = cls.folder.name
+        for path, text in FILES.items():
+            cls.write(path, text)
+        cls.put_edits(all_wrong=ALL_WRONG, one_harmless=ONE_HARMLESS, definition=DEFINITION)
+        cls.rt = subprocess.run(['rt', 'must-fail'], cwd=cls.root, capture_output=True, text=True)
+
+    @classmethod
+    def tearDownClass(cls):
+        cls.folder.cleanup()
+
+    @classmethod
+    def write(cls, path, text):
+        full = os.path.join(cls.root, path)
+        os.makedirs(os.path.dirname(full), exist_ok=True)
+        with open(full, 'w', encoding='utf-8') as f:
+            f.write(text)
+
+    @classmethod
+    def put_edits(cls, **edits):
+        folder = os.path.join(cls.root, 'crates/small/must-fail')
+        for name in os.listdir(folder) if os.path.isdir(folder) else []:
+            os.remove(os.path.join(folder, name))
+        for name, text in edits.items():
+            cls.write(f'crates/small/must-fail/{name}.edit', text)
+
+    def judge(self, **edits):
+        """The exit status and the printed lines, over these edits and the logs that rt left."""
+        self.put_edits(**edits)
+        ran = subprocess.run([sys.executable, PROGRAM, self.root], capture_output=True, text=True)
+        self.assertEqual(ran.stderr, '')
+        return ran.returncode, ran.stdout.splitlines()
+
+    def assert_told(self, expected, **edits):
+        """Each expected text stands in a line of details of its own, and there are no other ones."""
+        status, lines = self.judge(**edits)
+        details = [line for line in lines if line.startswith('  ')]
+        self.assertEqual(status, 1)
+        self.assertEqual(len(details), len(expected), lines)
+        for text, line in zip(expected, details):
+            self.assertIn(text, line)
+
+    def test_rt_is_content(self):
+        self.assertEqual(self.rt.returncode, 0, self.rt.stdout)
+        self.assertIn('3 must-fail edits refused', self.rt.stdout)
+
+    def test_all_wrong(self):
+        self.assertEqual(self.judge(all_wrong=ALL_WRONG, definition=DEFINITION), (0, [
+            'small: 2 edits, 5 wrong lines seen to fail',
+            '2 edits, 5 wrong lines seen to fail, 0 not',
+        ]))
+
+    def test_a_harmless_line(self):
+        self.assertEqual(self.judge(one_harmless=ONE_HARMLESS), (1, [
+            'small: 1 edits, 3 wrong lines seen to fail, 1 not',
+            '  one_harmless: line 3: first is proved all the same: let _other = a;',
+            '1 edits, 3 wrong lines seen to fail, 1 not',
+        ]))
+
+    def test_a_definition_or_a_constant_without_its_fact(self):
+        told = 'it stands in no function and has no `fails:` line'
+        self.assert_told([told], definition=without_fails(DEFINITION))
+        self.assert_told([told], all_wrong=without_fails(ALL_WRONG))
+
+    def test_a_fact_that_does_not_fail(self):
+        self.assert_told(['most does not fail by returns-2'], all_wrong=ALL_WRONG.replace(': most', ': most:returns-2'))
+        self.assert_told(['first is proved all the same'], definition=DEFINITION.replace(': tell', ': first'))
+
+    def test_a_fact_of_another_line(self):
+        told = ['rests on the same fact of seven', 'rests on the same fact of seven']
+        self.assert_told(told, all_wrong=ALL_WRONG.replace(': most', ': seven:returns'))
+
+    def test_two_wrong_lines_in_a_function(self):
+        told = ['first is proved', 'tell is reached by', 'tell is reached by']
+        self.assert_told(told, one_harmless=without_fails(ONE_HARMLESS))
+
+    def test_an_exchange_of_other_words(self):
+        other = ALL_WRONG.replace('new: return 2;', 'new: return 5;')
+        self.assert_told(['its log is of other files'], all_wrong=other)
+        self.write('target/must-fail/small/all_wrong/src/lib.rt', self.edited(other))
+        self.assert_told(['a text is replaced twice in tell'], all_wrong=other)
+        self.write('target/must-fail/small/all_wrong/src/lib.rt', self.edited(ALL_WRONG))
+
+    def edited(self, edit):
+        text, lines = CODE, edit.splitlines()
+        for old, new in zip((l[5:] for l in lines if l[:5] == 'old: '), (l[5:] for l in lines if l[:5] == 'new: ')):
+            text = text.replace(old, new)
+        return text
+
+    def test_an_edit_that_cannot_be_judged(self):
+        self.assert_told(['it has no log'], never_run=ALL_WRONG)
+        self.assert_told(['it changes code and definitions'], all_wrong=ALL_WRONG + DEFINITION)
+        self.assert_told(['a `fails:` line stands behind no pair'], all_wrong='fails: most\n' + ALL_WRONG)
+        self.assert_told(['it has no pair'], all_wrong='# nothing\n')
+        told = ['its old text stands 0 times', 'another pair', 'another pair', 'another pair']
+        self.assert_told(told, one_harmless=ONE_HARMLESS.replace('_other = b', '_other = c'))
+
+
+if __name__ == '__main__':
+    unittest.main()
