@@ -28,7 +28,7 @@ fn show_written(n: usize) {
 
 pub fn written_columns() {
     text(
-        b"4. Columns: written and read back; then a blank one, damaged ones and ones of another length\n",
+        b"5. Columns: written and read back; then a blank one, damaged ones and ones of another length\n",
     );
     show_written(0);
     show_written(9);
@@ -38,7 +38,7 @@ pub fn written_columns() {
     show_column(b"          ");
 }
 
-// 4, continued. The byte before '0' is '/', the one after '9' is ':'.
+// 5, continued. The byte before '0' is '/', the one after '9' is ':'.
 pub fn damaged_columns() {
     show_column(b"0000000512");
     show_column(b"        07");

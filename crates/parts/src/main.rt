@@ -1,10 +1,12 @@
-// Runs what no call reaches on cases, the windows of a growth, columns and records of every length and with every byte changed, and writes a
+// Runs what no call reaches on cases, the blocks and windows of one growth, columns and records of every length and with every byte changed, and writes a
 // line for each. What it must write is in the file stdout. The cases of calls are in the crate `script`.
+mod changes;
 mod columns;
 mod records;
 mod show;
 mod windows;
 
+use changes::show_changes;
 use printing::text;
 use show::show_marks;
 use show::show_windows;
@@ -24,9 +26,22 @@ fn grown_marks(m: usize, k: usize, s: usize, w: usize) {
     show_marks(two(m, k), 1, s, w);
 }
 
+fn one_growth() {
+    text(b"1. One growth: each block a head, body or tail that moves, one that stays, or added\n");
+    show_changes(3, 2, 5, 25);
+    show_changes(4, 2, 6, 36);
+    show_changes(2, 2, 4, 16);
+    show_changes(1, 3, 3, 12);
+    show_changes(1, 15, 16, 256);
+    show_changes(15, 1, 16, 256);
+    show_changes(3, 2, 7, 35);
+    show_changes(3, 2, 13, 65);
+    show_changes(3, 2, 1, 5);
+}
+
 fn whole_windows() {
     text(
-        b"1. The windows of a growth: document 01's, from 1 disk to 16, from 15 to 16, and none\n",
+        b"2. The windows of a growth: document 01's, from 1 disk to 16, from 15 to 16, and none\n",
     );
     grown_windows(3, 5, 5);
     grown_windows(3, 5, 6);
@@ -38,7 +53,7 @@ fn whole_windows() {
 }
 
 fn cut_windows() {
-    text(b"2. A last window that is cut off to 2 rows, to 3, and to the only row\n");
+    text(b"3. A last window that is cut off to 2 rows, to 3, and to the only row\n");
     grown_windows(3, 5, 7);
     grown_marks(3, 5, 7, 0);
     grown_marks(3, 5, 7, 1);
@@ -49,7 +64,7 @@ fn cut_windows() {
 }
 
 fn many_growths() {
-    text(b"3. Seven growths, the largest volume, and the most marks in a window\n");
+    text(b"4. Seven growths, the largest volume, and the most marks in a window\n");
     let counts = [1, 2, 3, 4, 5, 6, 7, 8];
     let largest = [1, 2, 4, 8, 12, 14, 15, 16];
     show_windows(counts, 7, 8);
@@ -62,6 +77,7 @@ fn many_growths() {
 }
 
 fn main() {
+    one_growth();
     whole_windows();
     cut_windows();
     many_growths();

@@ -43,7 +43,7 @@ fn show_read(page: &[u8]) {
 
 pub fn worked_record() {
     text(
-        b"5. The worked record of document 01: from 3 disks to 5, 512-byte blocks, 5 rows, blocks 0 and 3 recorded\n",
+        b"6. The worked record of document 01: from 3 disks to 5, 512-byte blocks, 5 rows, blocks 0 and 3 recorded\n",
     );
     let mut space = [b'.'; 520];
     let page: &mut [u8] = &mut space;
@@ -101,7 +101,7 @@ fn show_changes(name: &[u8], page: &mut [u8], from: usize, end: usize) {
     text(b"\n");
 }
 
-// 5, continued.
+// 6, continued.
 pub fn changed_records() {
     let mut space = [b'.'; 512];
     let page: &mut [u8] = &mut space;

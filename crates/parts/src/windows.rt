@@ -66,7 +66,7 @@ pub fn window_moves(counts: [usize; 8], t: usize, s: usize, w: usize) -> usize {
 }
 
 // Is the growth from m disks by n within the limits.
-fn grows(m: usize, n: usize) -> bool
+pub fn grows(m: usize, n: usize) -> bool
     ensures { λ r. ⌜ (r ≡ true → Grows m n) ⌝ }
 {
     if m < 1 {
