@@ -2,86 +2,66 @@
 use super::calls::show_flushed;
 use super::calls::show_grow;
 use super::calls::show_restart;
-use super::pictures::Rack;
+use super::pictures::drawn;
 use super::pictures::read_back;
-use super::pictures::save_pending;
-use layout::Block;
-use printing::put_bytes;
+use super::pictures::save;
+use super::pictures::torn;
+use super::rack::Rack;
+use super::rack::with_bytes;
+use super::rack::with_cache;
+use super::rack::without_state;
 use printing::text;
-use volume::Volume;
 
-// The rack after a flushed with a line of its own.
-fn flushed(rack: Rack) -> Rack {
-    let v = rack.state;
-    let versions = rack.versions;
-    let state = show_flushed(v);
-    Rack { state, versions }
-}
-
-fn flushed_saves(rack: Rack, medium: &mut [u8]) -> Rack {
+fn flushed_saves(rack: Rack) -> Rack {
     text(
         b"\n6. DRIVES WITH A WRITE CACHE\n\
         New drives may keep stores in a cache and land them in any order. A flush lands them all.\n",
     );
-    let one = save_pending(rack, medium, 0, 2);
-    let two = save_pending(one, medium, 1, 2);
-    flushed(two)
+    let one = save(with_cache(rack), 0, 2);
+    let two = save(one, 1, 2);
+    show_flushed(two)
 }
 
-// The versions saved; the state is lost.
-fn pending_saves(rack: Rack, medium: &mut [u8]) -> [u8; 30] {
-    let one = save_pending(rack, medium, 12, 2);
-    let two = save_pending(one, medium, 13, 2);
-    let v = two.state;
-    show_grow(v, medium, 7);
+// The medium has room for a seventh disk: a grow with no room is refused with 2, before 18.
+fn pending_saves(rack: Rack) -> Rack {
+    let one = save(rack, 12, 2);
+    let two = save(one, 13, 2);
+    show_grow(two, 7)
+}
+
+// The spot of block 12, disk 0 and row 4, begins at byte 512 + 4 * 512 = 2,560, that of block 13, disk 1 and row 4, at byte
+// 512 + (5 + 4) * 512 = 5,120. Block 12 has its old picture again.
+fn cut_between_calls(rack: Rack) -> Rack {
     text(
         b"The growth has to wait for flushed. Before the drives are flushed, the power fails between\n\
         two calls: block 12 has its old bytes, and half of block 13 has other bytes.\n",
     );
-    two.versions
+    let old = with_bytes(rack, 2_560, drawn(12, 1));
+    let half = with_bytes(old, 5_120, torn(13, 2));
+    without_state(half)
 }
 
-// The spot of block 12, disk 0 and row 4, begins at byte 512 + 4 * 512 = 2,560, that of block 13, disk 1 and row 4, at byte
-// 512 + (5 + 4) * 512 = 5,120.
-fn take_back(medium: &mut [u8], old: [u8; 512]) {
-    let torn = [0xFFu8; 256];
-    put_bytes(medium, 2_560, &old);
-    put_bytes(medium, 5_376, &torn);
-}
-
-// The state is not handed on.
-fn cut_between_calls(rack: Rack, medium: &mut [u8]) -> [u8; 30] {
-    let mut old = [0u8; 512];
-    let v = rack.state;
-    v.read(medium, Block(12), &mut old);
-    let versions = pending_saves(rack, medium);
-    take_back(medium, old);
-    versions
-}
-
-fn after_cut(medium: &mut [u8], versions: [u8; 30]) -> Rack {
-    let reply = show_restart(medium);
-    let state = reply.state;
-    let rack = Rack { state, versions };
-    read_back(rack, medium);
+fn after_cut(rack: Rack) -> Rack {
+    let restarted = show_restart(rack);
+    read_back(restarted);
     text(
         b"All other pictures are there, also those of blocks 0 and 1, which were flushed. Blocks 12 and\n\
         13 were not: what they have counts as lost, the old picture too. They are saved again.\n",
     );
-    rack
+    restarted
 }
 
-fn saves_again(rack: Rack, medium: &mut [u8]) {
-    let one = save_pending(rack, medium, 12, 3);
-    let two = save_pending(one, medium, 13, 3);
-    let down = flushed(two);
-    read_back(down, medium);
+fn saves_again(rack: Rack) {
+    let one = save(rack, 12, 3);
+    let two = save(one, 13, 3);
+    let down = show_flushed(two);
+    read_back(down);
 }
 
-// The medium has room for a seventh disk: a grow with no room is refused with 2, before 18.
-pub fn write_cache(rack: Rack, medium: &mut [u8]) {
-    let saved = flushed_saves(rack, medium);
-    let versions = cut_between_calls(saved, medium);
-    let left = after_cut(medium, versions);
-    saves_again(left, medium);
+pub fn write_cache(rack: Rack) {
+    let saved = flushed_saves(rack);
+    let pending = pending_saves(saved);
+    let cut = cut_between_calls(pending);
+    let restarted = after_cut(cut);
+    saves_again(restarted);
 }

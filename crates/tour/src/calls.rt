@@ -1,5 +1,7 @@
 // A line for each call: what is called, and its answer.
-use super::words::show_answer;
+use super::rack::Call;
+use super::rack::Rack;
+use super::rack::told;
 use super::words::show_held;
 use super::words::show_home;
 use layout::Block;
@@ -8,26 +10,7 @@ use layout::Spot;
 use printing::counted;
 use printing::labelled;
 use printing::text;
-use volume::Reply;
 use volume::Volume;
-
-// The volume after a flushed, which has no line.
-pub fn flush(v: Volume) -> Volume {
-    let reply = v.flushed();
-    let state = reply.state;
-    state
-}
-
-// The reply of a call that a flushed follows.
-pub fn stored(reply: Reply) -> Reply {
-    let state = reply.state;
-    let answer = reply.answer;
-    let after = flush(state);
-    Reply {
-        state: after,
-        answer,
-    }
-}
 
 fn name_format(size: usize, rows: usize, disks: usize) {
     counted(b"  format with ", disks, b" disks of ");
@@ -35,56 +18,34 @@ fn name_format(size: usize, rows: usize, disks: usize) {
     counted(b"", size, b" bytes: ");
 }
 
-pub fn show_format(medium: &mut [u8], size: usize, rows: usize, disks: usize) -> Volume {
+pub fn show_format(rack: Rack, size: usize, rows: usize, disks: usize) -> Rack {
     name_format(size, rows, disks);
-    let reply = stored(Volume::format(medium, size, rows, disks));
-    let answer = reply.answer;
-    show_answer(answer);
-    let state = reply.state;
-    state
+    told(rack, Call::Format(size, rows, disks))
 }
 
-// No flushed follows.
-pub fn show_grow(v: Volume, medium: &mut [u8], count: usize) -> Reply {
+pub fn show_grow(rack: Rack, count: usize) -> Rack {
     counted(b"  grow to ", count, b" disks: ");
-    let reply = v.grow(medium, count);
-    let answer = reply.answer;
-    show_answer(answer);
-    reply
+    told(rack, Call::Grow(count))
 }
 
-pub fn show_restart(medium: &[u8]) -> Reply {
+pub fn show_restart(rack: Rack) -> Rack {
     text(b"  restart: ");
-    let reply = Volume::restart(medium);
-    let answer = reply.answer;
-    show_answer(answer);
-    reply
+    told(rack, Call::Restart)
 }
 
-pub fn show_advance(v: Volume, medium: &mut [u8]) -> Reply {
+pub fn show_advance(rack: Rack) -> Rack {
     text(b"  advance: ");
-    let reply = stored(v.advance(medium));
-    let answer = reply.answer;
-    show_answer(answer);
-    reply
+    told(rack, Call::Advance)
 }
 
-pub fn show_checkpoint(v: Volume, medium: &mut [u8]) -> Volume {
+pub fn show_checkpoint(rack: Rack) -> Rack {
     text(b"  checkpoint: ");
-    let reply = stored(v.checkpoint(medium));
-    let answer = reply.answer;
-    show_answer(answer);
-    let state = reply.state;
-    state
+    told(rack, Call::Checkpoint)
 }
 
-pub fn show_flushed(v: Volume) -> Volume {
+pub fn show_flushed(rack: Rack) -> Rack {
     text(b"  flushed: ");
-    let reply = v.flushed();
-    let answer = reply.answer;
-    show_answer(answer);
-    let state = reply.state;
-    state
+    told(rack, Call::Flushed)
 }
 
 // Where block x lives, and why.

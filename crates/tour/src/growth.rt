@@ -1,10 +1,9 @@
 // Advance calls, some or as many as were reported.
 use super::calls::show_advance;
+use super::rack::Rack;
 use printing::counted;
 use volume::Advanced;
 use volume::Answer;
-use volume::Reply;
-use volume::Volume;
 
 // The advance calls left that an answer reports.
 fn calls_left(answer: Answer) -> usize {
@@ -30,13 +29,12 @@ fn tells_end(answer: Answer) -> bool {
     }
 }
 
-// So many advance calls, with a line for each. The last reply.
-pub fn advance_times(reply: Reply, medium: &mut [u8], times: usize) -> Reply {
-    let mut last = reply;
+// So many advance calls.
+pub fn advance_times(rack: Rack, times: usize) -> Rack {
+    let mut last = rack;
     let mut k = 0;
     while k < times {
-        let state = last.state;
-        last = show_advance(state, medium);
+        last = show_advance(last);
         k += 1;
     }
     last
@@ -58,13 +56,12 @@ fn tell_end(finished: bool, calls: usize) {
     }
 }
 
-// As many advance calls as the reply reports. After the growth's end an advance is refused: if the last one tells finished, no other did.
-pub fn advance_to_end(reply: Reply, medium: &mut [u8]) -> Volume {
-    let reported = reply.answer;
+// As many advance calls as were reported. After the growth's end an advance is refused: if the last one tells finished, no other did.
+pub fn advance_to_end(rack: Rack) -> Rack {
+    let reported = rack.answer;
     let left = calls_left(reported);
-    let last = advance_times(reply, medium, left);
+    let last = advance_times(rack, left);
     let answer = last.answer;
     tell_end(tells_end(answer), left);
-    let state = last.state;
-    state
+    last
 }

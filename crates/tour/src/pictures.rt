@@ -1,5 +1,7 @@
 // Pictures of 512 bytes, saved and read back. Bytes 0 and 1 of a picture are its block and its version.
-use super::calls::flush;
+use super::rack::Call;
+use super::rack::Rack;
+use super::rack::after;
 use super::words::show_answer;
 use layout::Block;
 use printing::counted;
@@ -7,21 +9,22 @@ use printing::number_bytes;
 use printing::put_bytes;
 use printing::same_bytes;
 use volume::Answer;
-use volume::Reply;
 use volume::Volume;
 
-// The state of the rack's volume, and the version last saved of each block; 0 is none.
-pub struct Rack {
-    pub state: Volume,
-    pub versions: [u8; 30],
-}
-
 // A picture of block x.
-fn drawn(x: usize, version: u8) -> [u8; 512] {
+pub fn drawn(x: usize, version: u8) -> [u8; 512] {
     let mut picture = [0u8; 512];
     let first = [(x % 256) as u8, version];
     number_bytes(&mut picture);
     put_bytes(&mut picture, 0, &first);
+    picture
+}
+
+// A picture of which only the first half was stored.
+pub fn torn(x: usize, version: u8) -> [u8; 512] {
+    let mut picture = drawn(x, version);
+    let other = [0xFFu8; 256];
+    put_bytes(&mut picture, 256, &other);
     picture
 }
 
@@ -32,32 +35,27 @@ fn is_done(answer: Answer) -> bool {
     false
 }
 
-// The rack after a write, with the version if the write was done.
-fn after_write(reply: Reply, before: [u8; 30], x: usize, version: u8) -> Rack {
-    let state = reply.state;
-    let answer = reply.answer;
-    let mut versions = before;
+// With the version of block x, if its write was done.
+fn with_version(rack: Rack, x: usize, version: u8) -> Rack {
+    let state = rack.state;
+    let answer = rack.answer;
+    let medium = rack.medium;
+    let mut versions = rack.versions;
     if is_done(answer) && x < 30 {
         versions[x] = version;
     }
-    Rack { state, versions }
+    Rack {
+        state,
+        answer,
+        cached: rack.cached,
+        versions,
+        medium,
+    }
 }
 
-// A rack after a write, and the write's answer.
-struct Written {
-    rack: Rack,
-    answer: Answer,
-}
-
-// Writes a picture as block x.
-fn write_picture(before: Rack, medium: &mut [u8], x: usize, version: u8) -> Written {
-    let v = before.state;
-    let versions = before.versions;
-    let picture = drawn(x, version);
-    let reply = v.write(medium, Block(x), &picture);
-    let answer = reply.answer;
-    let rack = after_write(reply, versions, x, version);
-    Written { rack, answer }
+// Writes a picture as block x, with no line.
+fn written(rack: Rack, x: usize, version: u8) -> Rack {
+    with_version(after(rack, Call::Write(x, version)), x, version)
 }
 
 fn name_write(x: usize, version: u8) {
@@ -65,28 +63,13 @@ fn name_write(x: usize, version: u8) {
     counted(b"", x, b": ");
 }
 
-// Saves a picture as block x, in a line of its own. No flushed follows.
-pub fn save_pending(rack: Rack, medium: &mut [u8], x: usize, version: u8) -> Rack {
+// Saves a picture as block x, in a line of its own.
+pub fn save(rack: Rack, x: usize, version: u8) -> Rack {
     name_write(x, version);
-    let written = write_picture(rack, medium, x, version);
-    let answer = written.answer;
+    let saved = written(rack, x, version);
+    let answer = saved.answer;
     show_answer(answer);
-    let saved = written.rack;
     saved
-}
-
-// The rack after a flushed, which has no line.
-pub fn settled(rack: Rack) -> Rack {
-    let v = rack.state;
-    let versions = rack.versions;
-    let state = flush(v);
-    Rack { state, versions }
-}
-
-// The same with a flushed.
-pub fn save(rack: Rack, medium: &mut [u8], x: usize, version: u8) -> Rack {
-    let saved = save_pending(rack, medium, x, version);
-    settled(saved)
 }
 
 // How often picture 1 was saved.
@@ -100,15 +83,13 @@ fn tell_saves(from: usize, total: usize) {
 }
 
 // Saves picture 1 of the blocks from `from` up to, not including, `end`, and tells how often that was done.
-pub fn save_first(rack: Rack, medium: &mut [u8], from: usize, end: usize) -> Rack {
+pub fn save_first(rack: Rack, from: usize, end: usize) -> Rack {
     let mut last = rack;
     let mut total = 0;
     let mut x = from;
     while x < end {
-        let written = write_picture(last, medium, x, 1);
-        let saved = written.rack;
-        last = settled(saved);
-        let answer = written.answer;
+        last = written(last, x, 1);
+        let answer = last.answer;
         if is_done(answer) {
             total += 1;
         }
@@ -138,9 +119,11 @@ fn tell_same(same: usize, saved: usize) {
 }
 
 // Reads every saved picture back, and tells how many are as saved, and which are not.
-pub fn read_back(rack: Rack, medium: &[u8]) {
+pub fn read_back(rack: Rack) {
     let v = rack.state;
     let versions = rack.versions;
+    let space = rack.medium;
+    let medium: &[u8] = &space;
     let mut saved = 0;
     let mut same = 0;
     let mut x = 0;

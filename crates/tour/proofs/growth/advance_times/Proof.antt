@@ -1,16 +1,14 @@
--- `advance_times` meets its contract. The loop's invariant: the medium keeps its length. Assumes nothing.
+-- `advance_times` meets its contract. The loop's invariant: the count is at most the calls asked for. Assumes nothing.
 use Prim.Native.Nat.{_-_, _≤_}
-use mathlib.Core.Path.{_≡_}
-use lib.ListN.{length}
 use borrow.Author.Needs.{needs}
 use Rattle.tour.proofs.growth.advance_times.Statement.{statement}
 use Rattle.tour.proofs.growth.advance_times.Tie as tie
 
 abbrev Inv-loop : tie.InvT-loop
-Inv-loop medium₀ times last₀ k₀ medium last k = (length medium ≡ length medium₀) × (k ≤ times)
+Inv-loop times last₀ k₀ last k = k ≤ times
 
 abbrev μ-loop : tie.MeasureT-loop
-μ-loop medium₀ times last₀ k₀ medium last k = times - k
+μ-loop times last₀ k₀ last k = times - k
 
 loop-holds : tie.Need-loop-holds Inv-loop μ-loop
 loop-holds c = search needs
@@ -27,9 +25,6 @@ loop-less c = search needs
 loop-again : tie.Need-loop-again Inv-loop μ-loop
 loop-again c = search needs
 
-same-length : tie.Need-same-length Inv-loop μ-loop
-same-length c = search needs
-
 returns : tie.Need-returns Inv-loop μ-loop
 returns c = search needs
 
@@ -44,5 +39,4 @@ advance-times-spec =
     add-k
     loop-less
     loop-again
-    same-length
     returns)

@@ -12,6 +12,9 @@ Inv-loop medium v versions saved₀ same₀ x₀ saved same x = (x ≤ 30) × (s
 abbrev μ-loop : tie.MeasureT-loop
 μ-loop medium v versions saved₀ same₀ x₀ saved same x = 30 - x
 
+slice-aggregate-medium : tie.Need-slice-aggregate-medium Inv-loop μ-loop
+slice-aggregate-medium c = search needs
+
 loop-holds : tie.Need-loop-holds Inv-loop μ-loop
 loop-holds c = search needs
 
@@ -48,6 +51,7 @@ read-back-spec =
     (tie.spec
     Inv-loop
     μ-loop
+    slice-aggregate-medium
     loop-holds
     array-read-version
     add-saved

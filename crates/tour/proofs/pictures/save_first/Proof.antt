@@ -1,26 +1,21 @@
--- `save_first` meets its contract. The loop's invariant: the medium keeps its length, the count is at most the blocks passed. Assumes nothing.
+-- `save_first` meets its contract. The loop's invariant: the count is at most the blocks passed. Assumes nothing.
 use Prim.Native.Nat.{_-_, _≤_}
-use mathlib.Core.Path.{_≡_}
 use mathlib.Core.Logic.{⊎-elim}
-use lib.ListN.{length}
 use borrow.Author.Needs.{needs}
 use Rattle.tour.proofs.pictures.save_first.Statement.{statement}
 use Rattle.tour.proofs.pictures.save_first.Tie as tie
 
 abbrev Inv-loop : tie.InvT-loop
-Inv-loop medium₀ from end saved₀ total₀ x₀ medium saved total x = (length medium ≡ length medium₀) × (total ≤ x)
+Inv-loop from end last₀ total₀ x₀ last total x = total ≤ x
 
 abbrev μ-loop : tie.MeasureT-loop
-μ-loop medium₀ from end saved₀ total₀ x₀ medium saved total x = end - x
+μ-loop from end last₀ total₀ x₀ last total x = end - x
 
 loop-holds : tie.Need-loop-holds Inv-loop μ-loop
 loop-holds c = search needs
 
-write-picture-requires : tie.Need-write-picture-requires Inv-loop μ-loop
-write-picture-requires c κs = search needs
-
-settled-requires : tie.Need-settled-requires Inv-loop μ-loop
-settled-requires c κs = search needs
+written-requires : tie.Need-written-requires Inv-loop μ-loop
+written-requires c κs = search needs
 
 is-done-requires : tie.Need-is-done-requires Inv-loop μ-loop
 is-done-requires c κs = search needs
@@ -40,9 +35,6 @@ loop-again c = ⊎-elim (λ w. search needs) (λ w. search needs) (c .if1 .came)
 tell-saves-requires : tie.Need-tell-saves-requires Inv-loop μ-loop
 tell-saves-requires c κs = search needs
 
-same-length : tie.Need-same-length Inv-loop μ-loop
-same-length c = search needs
-
 returns : tie.Need-returns Inv-loop μ-loop
 returns c = search needs
 
@@ -53,13 +45,11 @@ save-first-spec =
     Inv-loop
     μ-loop
     loop-holds
-    write-picture-requires
-    settled-requires
+    written-requires
     is-done-requires
     add-total
     add-x
     loop-less
     loop-again
     tell-saves-requires
-    same-length
     returns)
