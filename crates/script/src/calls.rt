@@ -9,8 +9,10 @@ use super::given::GROW;
 use super::given::Given;
 use super::given::RESTART;
 use super::given::SECTOR;
+use super::given::WRITE;
 use super::lines::byte_at;
 use super::states::Run;
+use super::states::with_medium;
 use super::states::with_state;
 use layout::Block;
 use printing::counted;
@@ -38,7 +40,16 @@ fn told(run: Run, reply: Reply) -> Run {
     stored(run, state)
 }
 
-// The calls that need no piece.
+// Saves so many times one byte, at most 1,024 times.
+fn write_bytes(v: Volume, medium: &mut [u8], given: Given) -> Reply {
+    let piece = [(given.c % 256) as u8; 1_024];
+    let size = given.b;
+    if 1_024 < size {
+        return v.write(medium, Block(given.a), &piece);
+    }
+    v.write(medium, Block(given.a), &piece[0..size])
+}
+
 fn reply_of(v: Volume, medium: &mut [u8], given: Given) -> Reply {
     let call = given.call;
     match call {
@@ -49,36 +60,45 @@ fn reply_of(v: Volume, medium: &mut [u8], given: Given) -> Reply {
         COPY => v.copy(medium, Block(given.a)),
         CHECKPOINT => v.checkpoint(medium),
         ADVANCE => v.advance(medium),
+        WRITE => write_bytes(v, medium, given),
         _ => v.flushed(),
     }
 }
 
-pub fn make(run: Run, medium: &mut [u8], given: Given) -> Run {
-    told(run, reply_of(run.v, medium, given))
+// Makes a call on the bytes that are lent.
+fn call(v: Volume, medium: &mut [u8], lent: usize, given: Given) -> Reply {
+    if medium.len() < lent {
+        return reply_of(v, medium, given);
+    }
+    reply_of(v, &mut medium[0..lent], given)
 }
 
-fn write_piece(run: Run, medium: &mut [u8], x: usize, piece: &[u8]) -> Run {
-    let v = run.v;
-    told(run, v.write(medium, Block(x), piece))
+pub fn make(run: Run, given: Given) -> Run {
+    let mut medium = run.medium;
+    let reply = call(run.v, &mut medium, run.lent, given);
+    told(with_medium(run, medium), reply)
 }
 
-// Saves so many times one byte.
-pub fn write(run: Run, medium: &mut [u8], x: usize, size: usize, byte: usize) -> Run {
-    let block = [(byte % 256) as u8; 1_024];
-    let piece: &[u8] = &block;
-    if 1_024 < size {
+pub fn write(run: Run, given: Given) -> Run {
+    if 1_024 < given.b {
         text(b": a piece has at most 1,024 bytes");
         return run;
     }
-    write_piece(run, medium, x, &piece[0..size])
+    make(run, given)
 }
 
 // Saves each block with a byte of its own.
-pub fn saves(run: Run, medium: &mut [u8], first: usize, end: usize) -> Run {
+pub fn saves(run: Run, first: usize, end: usize) -> Run {
     let mut now = run;
     let mut x = first;
     while x < end {
-        now = write(now, medium, x, 512, x % 100 + 1);
+        let given = Given {
+            call: WRITE,
+            a: x,
+            b: 512,
+            c: x % 100 + 1,
+        };
+        now = make(now, given);
         x += 1;
     }
     now

@@ -2,7 +2,7 @@
 use super::lines::numbers_of;
 use super::lines::word_number;
 
-// The words, by their places in the list of `call_of`. The first eight are calls that need no piece.
+// The words, by their places in the list of `call_of`. The first nine are calls that answer with a reply.
 pub const FORMAT: usize = 0;
 
 pub const RESTART: usize = 1;

@@ -11,19 +11,14 @@ mod outside;
 mod play;
 mod states;
 
-use printing::number_bytes;
 use printing::text;
 
 fn main() {
     let mut space = [0u8; 65_536];
-    let mut disks = [0u8; 18_432];
-    let mut before = [0u8; 18_432];
-    let mut kept = [0u8; 18_432];
     let got = io::read_full(0, &mut space);
     if 65_536 <= got {
         text(b"at most 65,535 bytes are read\n");
         return;
     }
-    number_bytes(&mut disks);
-    play::play(&space[..got], &mut disks, &mut before, &mut kept);
+    play::play(&space[..got]);
 }

@@ -1,30 +1,40 @@
 // What changes the run from outside: other bytes on the medium, as a power cut or a damage leaves them, and what is lent.
+use super::given::Given;
 use super::lines::text_start;
 use super::states::Run;
+use super::states::with_medium;
 use printing::put_bytes;
 use printing::text;
 
 // Puts so many times one byte on the medium; nothing if they do not fit.
-pub fn put(run: Run, medium: &mut [u8], at: usize, count: usize, byte: usize) -> Run {
-    let space = [(byte % 256) as u8; 18_432];
-    let bytes: &[u8] = &space;
+pub fn put(run: Run, given: Given) -> Run {
+    let mut medium = run.medium;
+    let space = [(given.c % 256) as u8; 18_432];
+    let count = given.b;
     if count <= 18_432 {
-        put_bytes(medium, at, &bytes[0..count]);
+        put_bytes(&mut medium, given.a, &space[0..count]);
     }
-    run
+    with_medium(run, medium)
 }
 
 // Puts the line's text on the medium; nothing if it does not fit.
-pub fn put_text(run: Run, medium: &mut [u8], line: &[u8], at: usize) -> Run {
+pub fn put_text(run: Run, line: &[u8], at: usize) -> Run {
+    let mut medium = run.medium;
     let start = text_start(line);
     if start <= line.len() {
-        put_bytes(medium, at, &line[start..]);
+        put_bytes(&mut medium, at, &line[start..]);
     }
-    run
+    with_medium(run, medium)
 }
 
-// Puts the record of the state, sound or not, on the medium; nothing if it is too short.
-pub fn put_record(run: Run, medium: &mut [u8]) -> Run {
+fn write_record(medium: &mut [u8], numbers: [usize; 13], recorded: [bool; 64]) {
+    if 512 <= medium.len() {
+        record::write_record(medium, numbers, recorded);
+    }
+}
+
+// Puts the record of the state, sound or not, on the medium.
+pub fn put_record(run: Run) -> Run {
     let v = run.v;
     let c = v.counts;
     let numbers = [
@@ -42,30 +52,42 @@ pub fn put_record(run: Run, medium: &mut [u8]) -> Run {
         v.growing,
         v.window,
     ];
+    let mut medium = run.medium;
     let recorded = marks::marks_of(v.recorded);
-    if 512 <= medium.len() {
-        record::write_record(medium, numbers, recorded);
+    write_record(&mut medium, numbers, recorded);
+    with_medium(run, medium)
+}
+
+// Keeps the medium as it is.
+pub fn keep(run: Run) -> Run {
+    let v = run.v;
+    let medium = run.medium;
+    Run {
+        v,
+        lent: run.lent,
+        cached: run.cached,
+        medium,
+        kept: medium,
     }
-    run
 }
 
-// Keeps the bytes that are lent.
-pub fn keep(run: Run, medium: &[u8], kept: &mut [u8]) -> Run {
-    put_bytes(kept, 0, medium);
-    run
-}
-
-// Puts bytes back that were kept: they did not land. Nothing if they do not fit.
-pub fn put_back(run: Run, medium: &mut [u8], kept: &[u8], at: usize, count: usize) -> Run {
+fn copy_back(medium: &mut [u8], kept: &[u8], at: usize, count: usize) {
     if kept.len() < count {
-        return run;
+        return;
     }
     if kept.len() - count < at {
-        return run;
+        return;
     }
     let end = at + count;
     put_bytes(medium, at, &kept[at..end]);
-    run
+}
+
+// Puts bytes back that were kept: they did not land. Nothing if there are not so many.
+pub fn put_back(run: Run, at: usize, count: usize) -> Run {
+    let kept = run.kept;
+    let mut medium = run.medium;
+    copy_back(&mut medium, &kept, at, count);
+    with_medium(run, medium)
 }
 
 // Lends so many bytes of the medium from now on.
@@ -75,19 +97,27 @@ pub fn with_lent(run: Run, lent: usize) -> Run {
         return run;
     }
     let v = run.v;
+    let medium = run.medium;
+    let kept = run.kept;
     Run {
         v,
         lent,
         cached: run.cached,
+        medium,
+        kept,
     }
 }
 
 // Drives with a write cache from now on, or, for 0, without.
 pub fn with_cache(run: Run, cache: usize) -> Run {
     let v = run.v;
+    let medium = run.medium;
+    let kept = run.kept;
     Run {
         v,
         lent: run.lent,
         cached: cache != 0,
+        medium,
+        kept,
     }
 }

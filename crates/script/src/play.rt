@@ -13,7 +13,6 @@ use super::given::BYTES;
 use super::given::CACHE;
 use super::given::CHART;
 use super::given::CHART_OF_RECORD;
-use super::given::FLUSHED;
 use super::given::Given;
 use super::given::HOLDER;
 use super::given::KEEP;
@@ -47,7 +46,6 @@ use super::states::with_state;
 use printing::first_changed;
 use printing::labelled;
 use printing::last_changed;
-use printing::put_bytes;
 use printing::text;
 use volume::Volume;
 
@@ -63,7 +61,7 @@ fn look(v: Volume, given: Given) {
     }
 }
 
-// What leaves the state as it is.
+// What reads the medium.
 fn fetch(v: Volume, medium: &[u8], given: Given) {
     let call = given.call;
     match call {
@@ -74,59 +72,62 @@ fn fetch(v: Volume, medium: &[u8], given: Given) {
     }
 }
 
-// What changes the state from outside, or what is lent.
-fn set(run: Run, line: &[u8], medium: &[u8], given: Given) -> Run {
+// The same, on the bytes that are lent.
+fn fetch_lent(v: Volume, medium: &[u8], lent: usize, given: Given) {
+    if lent <= medium.len() {
+        fetch(v, &medium[0..lent], given);
+    }
+}
+
+// What leaves state and medium as they are.
+fn leave(run: Run, given: Given) -> Run {
+    let medium = run.medium;
+    fetch_lent(run.v, &medium, run.lent, given);
+    run
+}
+
+// What changes the medium from outside.
+fn damage(run: Run, line: &[u8], given: Given) -> Run {
+    let call = given.call;
+    match call {
+        RECORD => put_record(run),
+        PUT => put(run, given),
+        BYTES => put_text(run, line, given.a),
+        BACK => put_back(run, given.a, given.b),
+        _ => leave(run, given),
+    }
+}
+
+// What changes the rest of the run from outside.
+fn set(run: Run, line: &[u8], given: Given) -> Run {
     let call = given.call;
     match call {
         STATE => with_state(run, state_of(line)),
         MEDIUM => with_lent(run, given.a),
         CACHE => with_cache(run, given.a),
-        _ => {
-            fetch(run.v, medium, given);
-            run
-        }
+        KEEP => keep(run),
+        _ => damage(run, line, given),
     }
 }
 
-// What changes the medium from outside.
-fn damage(run: Run, line: &[u8], medium: &mut [u8], given: Given) -> Run {
+fn play_given(run: Run, line: &[u8], given: Given) -> Run {
     let call = given.call;
-    match call {
-        RECORD => put_record(run, medium),
-        PUT => put(run, medium, given.a, given.b, given.c),
-        BYTES => put_text(run, medium, line, given.a),
-        _ => set(run, line, medium, given),
-    }
-}
-
-fn store(run: Run, line: &[u8], medium: &mut [u8], given: Given) -> Run {
-    let call = given.call;
-    if call <= FLUSHED {
-        return make(run, medium, given);
+    if call < WRITE {
+        return make(run, given);
     }
     match call {
-        WRITE => write(run, medium, given.a, given.b, given.c),
-        SAVES => saves(run, medium, given.a, given.b),
-        _ => damage(run, line, medium, given),
-    }
-}
-
-fn play_given(run: Run, line: &[u8], medium: &mut [u8], kept: &mut [u8]) -> Run {
-    let given = given_by(line);
-    let call = given.call;
-    match call {
-        KEEP => keep(run, medium, kept),
-        BACK => put_back(run, medium, kept, given.a, given.b),
-        _ => store(run, line, medium, given),
+        WRITE => write(run, given),
+        SAVES => saves(run, given.a, given.b),
+        _ => set(run, line, given),
     }
 }
 
 // Which bytes changed.
-fn show_changed(before: &[u8], medium: &[u8]) {
-    let first = first_changed(before, medium);
-    if first < medium.len() {
+fn show_changed(before: [u8; 18_432], after: [u8; 18_432]) {
+    let first = first_changed(&before, &after);
+    if first < 18_432 {
         labelled(b"; medium changed from byte", first);
-        labelled(b" to", last_changed(before, medium));
+        labelled(b" to", last_changed(&before, &after));
     }
     text(b"\n");
 }
@@ -150,29 +151,21 @@ fn is_shown_alone(line: &[u8]) -> bool {
     byte_at(line, 0) == b'#'
 }
 
-fn play_call(run: Run, line: &[u8], medium: &mut [u8], before: &mut [u8], kept: &mut [u8]) -> Run {
-    put_bytes(before, 0, medium);
-    let next = play_given(run, line, medium, kept);
-    show_change(run.v, next.v);
-    show_changed(before, medium);
-    next
-}
-
-// A line, with the bytes of the medium that are lent.
-fn play_line(run: Run, line: &[u8], medium: &mut [u8], before: &mut [u8], kept: &mut [u8]) -> Run {
-    let lent = run.lent;
+fn play_line(run: Run, line: &[u8]) -> Run {
     text(line);
     if is_shown_alone(line) {
         text(b"\n");
         return run;
     }
-    if medium.len() < lent {
-        return run;
-    }
-    play_call(run, line, &mut medium[0..lent], before, kept)
+    let next = play_given(run, line, given_by(line));
+    show_change(run.v, next.v);
+    let before = run.medium;
+    let after = next.medium;
+    show_changed(before, after);
+    next
 }
 
-pub fn play(script: &[u8], medium: &mut [u8], before: &mut [u8], kept: &mut [u8]) {
+pub fn play(script: &[u8]) {
     let mut run = start();
     let mut at = 0;
     while at < script.len() {
@@ -181,7 +174,7 @@ pub fn play(script: &[u8], medium: &mut [u8], before: &mut [u8], kept: &mut [u8]
         if next <= at {
             return;
         }
-        run = play_line(run, line_of(script, at, end), medium, before, kept);
+        run = play_line(run, line_of(script, at, end));
         at = next;
     }
 }

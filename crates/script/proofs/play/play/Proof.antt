@@ -1,6 +1,5 @@
 -- `play` meets its contract. Assumes nothing.
 use Prim.Native.Nat.{_-_, _≤_}
-use mathlib.Core.Path.{_≡_}
 use lib.ListN.{length}
 use borrow.Author.Needs.{needs}
 use Rattle.script.proofs.play.play.Statement.{statement}
@@ -12,10 +11,10 @@ use Rattle.script.proofs.play.play_line.Reads as play-line-reads
 use Rattle.script.proofs.states.start.Reads as start-reads
 
 abbrev Inv-loop : tie.InvT-loop
-Inv-loop script medium₀ before₀ kept₀ run₀ at₀ medium before kept run at = (length medium ≡ length medium₀) × ((length before ≡ length before₀) × (length kept ≡ length kept₀))
+Inv-loop script run₀ at₀ run at = at₀ ≤ at
 
 abbrev μ-loop : tie.MeasureT-loop
-μ-loop script medium₀ before₀ kept₀ run₀ at₀ medium before kept run at = length script - at
+μ-loop script run₀ at₀ run at = length script - at
 
 start-requires : tie.Need-start-requires Inv-loop μ-loop
 start-requires c κs = search needs
@@ -28,15 +27,6 @@ line-end-requires c κs = search needs
 
 next-line-requires : tie.Need-next-line-requires Inv-loop μ-loop
 next-line-requires c κs = search needs
-
-same-length : tie.Need-same-length Inv-loop μ-loop
-same-length c = search needs
-
-same-length-2 : tie.Need-same-length-2 Inv-loop μ-loop
-same-length-2 c = search needs
-
-same-length-3 : tie.Need-same-length-3 Inv-loop μ-loop
-same-length-3 c = search needs
 
 returns : tie.Need-returns Inv-loop μ-loop
 returns c = search needs
@@ -53,15 +43,6 @@ loop-less c = search needs
 loop-again : tie.Need-loop-again Inv-loop μ-loop
 loop-again c = search needs
 
-same-length-4 : tie.Need-same-length-4 Inv-loop μ-loop
-same-length-4 c = search needs
-
-same-length-5 : tie.Need-same-length-5 Inv-loop μ-loop
-same-length-5 c = search needs
-
-same-length-6 : tie.Need-same-length-6 Inv-loop μ-loop
-same-length-6 c = search needs
-
 returns-2 : tie.Need-returns-2 Inv-loop μ-loop
 returns-2 c = search needs
 
@@ -75,15 +56,9 @@ play-spec =
     loop-holds
     line-end-requires
     next-line-requires
-    same-length
-    same-length-2
-    same-length-3
     returns
     line-of-requires
     play-line-requires
     loop-less
     loop-again
-    same-length-4
-    same-length-5
-    same-length-6
     returns-2)
