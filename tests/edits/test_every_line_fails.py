@@ -13,26 +13,26 @@ ghost use Rattle.small.specs.Numbers.{told};
 
 const MOST: usize = 9;
 
-pub fn most() -> usize
+pub(crate) fn most() -> usize
     ensures { λ r. ⌜ r ≡ 9 ⌝ }
 {
     MOST
 }
 
-pub fn seven() -> usize
+pub(crate) fn seven() -> usize
     ensures { λ r. ⌜ r ≡ 7 ⌝ }
 {
     7
 }
 
-pub fn first(a: usize, b: usize) -> usize
+pub(crate) fn first(a: usize, b: usize) -> usize
     ensures { λ r. ⌜ r ≡ a ⌝ }
 {
     let _other = b;
     a
 }
 
-pub fn tell(flag: bool) -> usize
+pub(crate) fn tell(flag: bool) -> usize
     ensures { λ r. ⌜ r ≡ told flag ⌝ }
 {
     if flag {
@@ -207,6 +207,14 @@ class EveryLineFails(unittest.TestCase):
         for old, new in zip((l[5:] for l in lines if l[:5] == 'old: '), (l[5:] for l in lines if l[:5] == 'new: ')):
             text = text.replace(old, new)
         return text
+
+    def test_a_function_offered_with_one_wrong_line(self):
+        paths = ['crates/small/src/lib.rt', 'target/must-fail/small/all_wrong/src/lib.rt']
+        for path, text in zip(paths, [CODE, self.edited(ALL_WRONG)]):
+            self.write(path, text.replace('pub(crate) fn tell', 'pub fn tell'))
+        self.assert_told(['tell: 1 wrong lines, and two are asked for'], all_wrong=ALL_WRONG)
+        for path, text in zip(paths, [CODE, self.edited(ALL_WRONG)]):
+            self.write(path, text)
 
     def test_an_edit_that_cannot_be_judged(self):
         self.assert_told(['it has no log'], never_run=ALL_WRONG)
