@@ -40,16 +40,6 @@ pub fn show_answer(answer: Answer) {
     }
 }
 
-// The number of an answer: 0 where the call is accepted.
-pub fn answer_number(answer: Answer) -> usize {
-    match answer {
-        Answer::Refused(k) => k,
-        Answer::Done => 0,
-        Answer::CallsLeft(_) => 0,
-        Answer::Told(_, _) => 0,
-    }
-}
-
 // Why a block is where it is.
 fn show_reason(reason: Reason) {
     match reason {

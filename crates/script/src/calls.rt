@@ -1,5 +1,4 @@
 // The calls on a medium.
-use super::answers::answer_number;
 use super::answers::show_answer;
 use super::given::ADVANCE;
 use super::given::CHECKPOINT;
@@ -19,6 +18,7 @@ use printing::counted;
 use printing::labelled;
 use printing::next_number;
 use printing::text;
+use volume::Answer;
 use volume::Reply;
 use volume::Volume;
 
@@ -43,10 +43,7 @@ fn told(run: Run, reply: Reply) -> Run {
 // Saves so many times one byte, at most 1,024 times.
 fn write_bytes(v: Volume, medium: &mut [u8], given: Given) -> Reply {
     let piece = [(given.c % 256) as u8; 1_024];
-    let size = given.b;
-    if 1_024 < size {
-        return v.write(medium, Block(given.a), &piece);
-    }
+    let size = given.b % 1_025;
     v.write(medium, Block(given.a), &piece[0..size])
 }
 
@@ -142,11 +139,7 @@ pub fn read(v: Volume, medium: &[u8], x: usize, size: usize) {
 }
 
 // The byte that a block's bytes all are.
-fn show_block(number: usize, piece: &[u8]) {
-    if number != 0 {
-        labelled(b" refused with", number);
-        return;
-    }
+fn show_block(piece: &[u8]) {
     if first_run(piece) != piece.len() {
         text(b" mixed");
         return;
@@ -157,7 +150,11 @@ fn show_block(number: usize, piece: &[u8]) {
 fn read_block(v: Volume, medium: &[u8], x: usize, piece: &mut [u8]) {
     let reply = v.read(medium, Block(x), piece);
     let answer = reply.answer;
-    show_block(answer_number(answer), piece);
+    if let Answer::Refused(k) = answer {
+        labelled(b" refused with", k);
+        return;
+    }
+    show_block(piece);
 }
 
 // Reads blocks of 512 bytes.

@@ -36,38 +36,26 @@ fn show_filled(page: &[u8], answer: ChartAnswer) {
     }
 }
 
-fn fill(v: Volume, page: &mut [u8]) {
-    let answer = wall_chart::put_chart(page, v);
+// The chart of a state or, with a record, of the state in it.
+fn put_chart(page: &mut [u8], v: Volume, medium: &[u8], of_record: bool) -> ChartAnswer {
+    if of_record {
+        return wall_chart::put_chart_of_record(page, medium);
+    }
+    wall_chart::put_chart(page, v)
+}
+
+fn fill(page: &mut [u8], v: Volume, medium: &[u8], of_record: bool) {
+    let answer = put_chart(page, v, medium, of_record);
     show_filled(page, answer);
 }
 
-fn fill_from_record(sector: &[u8], page: &mut [u8]) {
-    let answer = wall_chart::put_chart_of_record(page, sector);
-    show_filled(page, answer);
-}
-
-fn too_long() {
-    text(b": a page has at most 4,096 bytes");
-}
-
-// The chart of a state, in a page of so many bytes.
-pub fn chart(v: Volume, len: usize) {
+// In a page of so many bytes.
+pub fn chart(v: Volume, medium: &[u8], len: usize, of_record: bool) {
     let mut space = [170u8; 4_096];
     let page: &mut [u8] = &mut space;
     if 4_096 < len {
-        too_long();
+        text(b": a page has at most 4,096 bytes");
         return;
     }
-    fill(v, &mut page[0..len]);
-}
-
-// The chart of the record on the medium.
-pub fn chart_of_record(medium: &[u8], len: usize) {
-    let mut space = [170u8; 4_096];
-    let page: &mut [u8] = &mut space;
-    if 4_096 < len {
-        too_long();
-        return;
-    }
-    fill_from_record(medium, &mut page[0..len]);
+    fill(&mut page[0..len], v, medium, of_record);
 }

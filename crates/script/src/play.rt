@@ -5,7 +5,6 @@ use super::calls::reads;
 use super::calls::saves;
 use super::calls::write;
 use super::charts::chart;
-use super::charts::chart_of_record;
 use super::given::ADDRESS;
 use super::given::ADDRESSES;
 use super::given::BACK;
@@ -56,7 +55,6 @@ fn look(v: Volume, given: Given) {
         ADDRESS => address(v, given.a),
         HOLDER => holder(v, given.a, given.b),
         ADDRESSES => addresses(v, given.a),
-        CHART => chart(v, given.a),
         _ => text(b": no such line, or not so many numbers"),
     }
 }
@@ -67,7 +65,8 @@ fn fetch(v: Volume, medium: &[u8], given: Given) {
     match call {
         READ => read(v, medium, given.a, given.b),
         READS => reads(v, medium, given.a, given.b),
-        CHART_OF_RECORD => chart_of_record(medium, given.a),
+        CHART => chart(v, medium, given.a, false),
+        CHART_OF_RECORD => chart(v, medium, given.a, true),
         _ => look(v, given),
     }
 }
