@@ -10,7 +10,7 @@ use Rattle.layout.specs.declared.Spot.{Spot}
 use Rattle.layout.specs.Growth.{addedSpot, addedIndex, spotBefore}
 use Rattle.layout.specs.History.{Within, diskCount, earlier, oldCount, addedCount, rising, spotOf, blockAt}
 use Rattle.layout.specs.Tally.{Mode, notGrowing, growing, isRunning, Tally, liveSpotOf, liveBlockOf}
-use Rattle.layout.specs.Laws.{RemainderOf, AddedAt}
+use Rattle.layout.specs.Laws.{RemainderOf, AddedThere, AddedBlocks, AddedAt}
 use Rattle.layout.proofs.Remainder.{remainder, minus-minus}
 use Rattle.layout.proofs.OneRow.{added-there}
 use Rattle.layout.proofs.OneGrowth.{spot-after-added, block-after-added, block-after-old}
@@ -20,6 +20,22 @@ use Rattle.layout.proofs.NewestGrowth.{up, old-some, new-bijection}
 index-remainder : (m n d b : ℕ) → 0 < n → RemainderOf (d + (n - 1)) b (m + n) (addedIndex m n d b)
 unfolding addedIndex
 index-remainder m n d b h = rw (minus-minus (m + n) d b (n - 1) (omega arith)) (remainder (m + n) (d + (n - 1)) b (omega arith))
+
+-- what is claimed of a spot, from its parts, for any q
+module _ (t : Tally) (p : Spot) (m n q : ℕ) where
+  abbrev added : ℕ
+  added = m * t .rows + p .row .0 * n + q
+
+  claimed : RemainderOf (p .disk + (n - 1)) (p .row .0) (m + n) q → (q < n → AddedThere t p m n added)
+      → ((x : ℕ) → AddedThere t p m n x → (q < n) × (x ≡ added)) → (q < n → liveBlockOf t p ≡ some added)
+      → (n ≤ q → liveBlockOf t p ≡ some (blockAt (t .rows) (earlier (t .counts)) (spotBefore m n p))) → AddedBlocks t p m n q
+  claimed i a o l e = record { remainder = i; has-added = a; added-only = o; added-told = l; older-told = e }
+
+-- its q is the index of the added block
+claimed-at : (t : Tally) (p : Spot)
+    → (let m = oldCount (t .counts) in let n = addedCount (t .counts) in AddedBlocks t p m n (addedIndex m n (p .disk) (p .row .0)))
+    → AddedAt t p
+claimed-at t p b = b
 
 module _ (s c m : ℕ) (h : List ℕ) (r : rising (c ∷ m ∷ h) ≡ true) where
   abbrev n : ℕ
@@ -65,20 +81,18 @@ module _ (s c m : ℕ) (h : List ℕ) (r : rising (c ∷ m ∷ h) ≡ true) wher
     unfolding liveSpotOf liveBlockOf oldCount addedCount earlier diskCount
     at-rest p l =
         let B = new-bijection s c m h r in
+        claimed-at (tally notGrowing) p
+        (claimed (tally notGrowing) p m n (index p) (index-remainder m n (p .disk) (p .row .0) some-added)
+        (λ k.
         record {
-          remainder = index-remainder m n (p .disk) (p .row .0) some-added;
-          has-added = λ k.
-              record {
-                not-old = omega arith;
-                is-open = rw whole (subst (λ (x : ℕ). x < c * s) (block-added p k) (B .block-within p l));
-                lives = subst (λ (x : ℕ). spotOf s (c ∷ m ∷ h) x ≡ p) (block-added p k) (B .spot-of-block p l);
-              };
-          added-only = λ x a.
-              let i = added-at (x - m * s) p (sym (spot-added x (a .not-old)) ∙ a .lives) in
-              (i .0, omega (arith, i .1, a .not-old));
-          added-told = λ k. ap some (block-added p k);
-          older-told = λ k. ap some (block-older p k);
-        }
+          not-old = omega arith;
+          is-open = rw whole (subst (λ (x : ℕ). x < c * s) (block-added p k) (B .block-within p l));
+          lives = subst (λ (x : ℕ). spotOf s (c ∷ m ∷ h) x ≡ p) (block-added p k) (B .spot-of-block p l);
+        })
+        (λ x a.
+        let i = added-at (x - m * s) p (sym (spot-added x (a .not-old)) ∙ a .lives) in
+        (i .0, omega (arith, i .1, a .not-old)))
+        (λ k. ap some (block-added p k)) (λ k. ap some (block-older p k)))
 
     pub added-law : (mode : Mode) → isRunning mode ≡ false → (p : Spot) → Within s (c ∷ m ∷ h) p → AddedAt (tally mode) p
     added-law notGrowing e p l = at-rest p l

@@ -1,10 +1,10 @@
 -- The laws of the layout: `layout-laws` proves all of `LayoutLaws` in `specs/Laws.antt`. Assumes nothing.
 use Prim.Native.Nat.{ℕ, _+_, _-_, _<_}
-use mathlib.Core.Path.{_≡_, refl}
+use mathlib.Core.Path.{_≡_, refl, _∙_, ap}
 use mathlib.Core.Bool.{Bool, true, false}
-use mathlib.Core.List.{List, [], _∷_}
+use mathlib.Core.List.{List, [], _∷_, _++_, map}
 use native.Mathlib.Omega.{arith}
-use lib.ListN.{length}
+use lib.ListN.{length, take, drop}
 use Rattle.base.specs.Below.{count}
 use Rattle.layout.specs.Growth.{minusMod, moves, partOf, newDisk, diskAfter, movesFrom, oldBlockSpot, addedDisk, addedSpot, spotAfter, changeOf, addedIndex, oldDisk, diskBefore, spotBefore, blockAfter}
 use Rattle.layout.specs.declared.Spot.{Spot}
@@ -14,7 +14,7 @@ use Rattle.layout.specs.Limits.{Limits}
 use Rattle.layout.specs.Reasons.{reasonAfter, reasonOf}
 use Rattle.layout.specs.Tally.{Tally, isRunning, movedBlocks}
 use Rattle.layout.specs.Laws.{RemainderOf, Bijection, Moving, LiveSpots, Marks, MarksFit, Counts, LookUps, AddedAt, ReasonTrue, LayoutLaws}
-use Rattle.layout.specs.Cases.{TableHolds, worked}
+use Rattle.layout.specs.Cases.{TableHolds, table, worked}
 use Rattle.layout.proofs.Histories.{rising-up}
 use Rattle.layout.proofs.Remainder.{remainder}
 use Rattle.layout.proofs.Bijection.{bijection}
@@ -99,10 +99,19 @@ added-blocks t r g e =
 pub reason-true : (s : ℕ) (h : List ℕ) (x : ℕ) → rising h ≡ true → ReasonTrue s h x
 reason-true = reasons-law
 
+-- L1 to L4, the blocks that one growth moved
+moved-cases : map worked (take 4 table) ≡ take 4 table
+unfolding worked spotOf blockAt changeOf oldSpot oldCount addedCount earlier diskCount spotAfter spotBefore blockAfter oldBlockSpot diskAfter newDisk moves movesFrom partOf minusMod diskBefore oldDisk addedIndex
+moved-cases = refl
+
+-- L5 to L12
+other-cases : map worked (drop 4 table) ≡ drop 4 table
+unfolding worked spotOf blockAt changeOf callsLeft uncopied count moving movingIn windowOf windowOfRow windows oldSpot oldCount addedCount earlier diskCount spotAfter spotBefore blockAfter oldBlockSpot addedSpot diskAfter newDisk moves movesFrom partOf addedDisk minusMod diskBefore oldDisk addedIndex
+other-cases = refl
+
 -- L1 to L12
 pub layout-cases : TableHolds
-unfolding worked spotOf blockAt changeOf callsLeft uncopied count moving movingIn windowOf windowOfRow windows oldSpot oldCount addedCount earlier diskCount spotAfter spotBefore blockAfter oldBlockSpot addedSpot diskAfter newDisk moves movesFrom partOf addedDisk minusMod diskBefore oldDisk addedIndex
-layout-cases = refl
+layout-cases = ap (λ a. a ++ map worked (drop 4 table)) moved-cases ∙ ap (λ a. take 4 table ++ a) other-cases
 
 pub layout-laws : LayoutLaws
 layout-laws =
