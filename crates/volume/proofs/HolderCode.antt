@@ -1,18 +1,18 @@
 -- What holder answers, return by return. Assumes nothing.
 use Prim.Native.Nat.{ℕ}
 use mathlib.Core.Path.{_≡_, refl}
-use mathlib.Core.Bool.{true, false}
+use mathlib.Core.Bool.{true, false, _||_}
 use mathlib.Core.Option.{Option, none, some}
 use Rattle.base.specs.Refusals.{refusal}
-use Rattle.base.proofs.Booleans.{cond-cases}
+use Rattle.base.proofs.Booleans.{cond-cases, neither, by-test}
 use Rattle.layout.specs.declared.Block.{Block}
 use Rattle.layout.specs.declared.Spot.{Spot}
 use Rattle.layout.specs.History.{Within}
 use Rattle.layout.specs.Tally.{liveBlockOf}
 use Rattle.marks.specs.declared.LiveBlock.the-variants.{Lives, Nothing}
 use Rattle.marks.specs.Marks.{asLiveBlock}
-use lib.Dec.{eqb}
-use borrow.Author.Tests.{lt-leb}
+use lib.Dec.{eqb, leb}
+use borrow.Author.Tests.{leb-false, lt-leb}
 use Rattle.volume.specs.declared.Volume.{Volume}
 use Rattle.volume.specs.declared.HolderAnswer.{HolderAnswer}
 use Rattle.volume.specs.declared.HolderAnswer.the-variants as holder
@@ -35,6 +35,19 @@ block-lives (some y) x e = (refl, cc)
 pub holder-reply : (v : Volume) (p : Spot) (a : HolderAnswer) → a ≡ holderReply v p .answer → record { state = v; answer = a } ≡ holderReply v p
 unfolding holderReply
 holder-reply v p a e = rw e (cond-cases (λ r. record { state = v; answer = r .answer } ≡ r) (eqb (refusal (holderTable v p)) 0) (λ t. refl) (λ t. refl))
+
+-- what the test of disk and row knows
+pub holder-outside : (v : Volume) (p : Spot) → sound v ≡ true → (leb (disks v) (p .disk) || leb (v .rows) (p .row .0)) ≡ true
+    → holder.Refused 14 ≡ holderReply v p .answer
+unfolding holderReply holderTable refusal
+holder-outside v p s e = by-test (leb (disks v) (p .disk)) (λ d. simp (s, d)) (λ d. simp (s, d, rw d at e))
+
+pub spot-within : (v : Volume) (p : Spot) → (leb (disks v) (p .disk) || leb (v .rows) (p .row .0)) ≡ false
+    → Within (v .rows) (historyOf v) p
+unfolding disks
+spot-within v p e =
+    let n = neither _ _ e in
+    record { disk = leb-false _ _ (n .0); row = leb-false _ _ (n .1) }
 
 module _ (v : Volume) (p : Spot) (s : sound v ≡ true) (w : Within (v .rows) (historyOf v) p) where
   pub holder-nothing : asLiveBlock (liveBlockOf (tallyOf v) p) ≡ Nothing → holder.Refused 15 ≡ holderReply v p .answer

@@ -1,7 +1,10 @@
 // Looking up spots.
 ghost use mathlib.Core.Path.{_≡_};
+ghost use mathlib.Core.Bool.{_||_};
+ghost use lib.Dec.{leb};
 ghost use Rattle.base.specs.Refusals.{refusal};
 ghost use Rattle.volume.specs.Calls.{addressTable, addressReply, holderReply};
+ghost use Rattle.volume.specs.States.{disks};
 use super::AddressAnswer;
 use super::AddressReply;
 use super::HolderAnswer;
@@ -46,6 +49,18 @@ impl Volume {
         }
     }
 
+    // Is spot p after the last disk, or after the last row?
+    fn is_outside(self, counts: &[usize; 8], p: Spot) -> bool
+        requires { ⌜ now counts ≡ self .counts ⌝ }
+        ensures { λ r. ⌜ r ≡ (leb (disks self) (p .disk) || leb (self .rows) (p .row .0)) ⌝ }
+    {
+        if self.disk_count_by(counts) <= p.disk {
+            return true;
+        }
+        let row = p.row;
+        self.rows <= row.0
+    }
+
     // What holder answers at p.
     pub(crate) fn holder_answer(self, p: Spot) -> HolderAnswer
         ensures { λ r. ⌜ r ≡ holderReply self p .answer ⌝ }
@@ -54,11 +69,7 @@ impl Volume {
         if !self.is_sound_by(&counts) {
             return HolderAnswer::Refused(1);
         }
-        if self.disk_count_by(&counts) <= p.disk {
-            return HolderAnswer::Refused(14);
-        }
-        let row = p.row;
-        if self.rows <= row.0 {
+        if self.is_outside(&counts, p) {
             return HolderAnswer::Refused(14);
         }
         let LiveBlock::Lives(x) = self.live_block(&counts, p) else {
