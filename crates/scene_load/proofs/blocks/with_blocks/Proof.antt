@@ -31,7 +31,7 @@ live-spot-requires c κs = let s = c .before .before in (s .pre .0, s .pre .1 .0
 small : (c : tie.After-live-spot Inv-loop μ-loop) → c .live-spot .result .disk < mostDisks
 small c =
     let s = c .before .before .before in
-    disk-small _ (s .pre .0) _ _ (s .pre .1 .0 _ (c .before .loop-test .taken)) (c .live-spot .ensures)
+    disk-small _ (s .pre .0) _ _ (s .pre .1 .0 _ (omega (arith, c .before .loop-test .taken))) (c .live-spot .ensures)
 
 mul-sum : tie.Need-mul-sum Inv-loop μ-loop
 mul-sum c = omega (arith, small c)
