@@ -4,55 +4,38 @@ use layout::Change;
 use layout::Part;
 use layout::Row;
 use layout::Spot;
-use printing::labelled;
 use printing::text;
 use volume::Volume;
 
-fn part_letter(part: Part) -> u8 {
-    match part {
-        Part::Head => b'H',
-        Part::Body => b'B',
-        Part::Tail => b'T',
-    }
-}
-
+// H, B or T for a head, body or tail that moves, S for a block that stays, A for one that is added.
 fn letter(change: Change) -> u8 {
     match change {
-        Change::Moved(part) => part_letter(part),
+        Change::Moved(part) => match part {
+            Part::Head => b'H',
+            Part::Body => b'B',
+            Part::Tail => b'T',
+        },
         Change::Added => b'A',
         Change::Stays => b'S',
     }
 }
 
-// Of block x, from m disks by n.
-fn letter_of(m: usize, n: usize, s: usize, x: usize) -> u8 {
+// A letter for each block, from m disks by n, of s rows.
+pub fn show_letters(m: usize, n: usize, s: usize) {
     if !grows(m, n) {
-        return b'?';
+        return;
     }
     if Volume::MOST_ROWS < s {
-        return b'?';
+        return;
     }
-    let p = Spot {
-        disk: x % m,
-        row: Row(x / m),
-    };
-    letter(layout::change_of(m, n, s, x, p))
-}
-
-fn show_letters(m: usize, n: usize, s: usize, blocks: usize) {
+    let blocks = (m + n) * s;
     let mut x = 0;
     while x < blocks {
-        text(&[letter_of(m, n, s, x); 1]);
+        let p = Spot {
+            disk: x % m,
+            row: Row(x / m),
+        };
+        text(&[letter(layout::change_of(m, n, s, x, p)); 1]);
         x += 1;
     }
-}
-
-// A letter for each block: H, B or T for a head, body or tail that moves, S for one that stays, A for one that is added.
-pub fn show_changes(m: usize, n: usize, s: usize, blocks: usize) {
-    labelled(b"m", m);
-    labelled(b", n", n);
-    labelled(b", s", s);
-    text(b": ");
-    show_letters(m, n, s, blocks);
-    text(b"\n");
 }

@@ -1,89 +1,87 @@
-// Runs what no call reaches on cases, the blocks and windows of one growth, columns and records of every length and with every byte changed, and writes a
-// line for each. What it must write is in the file stdout. The cases of calls are in the crate `script`.
+// Runs what no call reaches on cases, the blocks and windows of one growth, columns and records of every length and with every byte
+// changed, and writes a line for each. What it must write is in the file stdout. The cases of calls are in the crate `script`.
+// The lines are printed as they stand, but for a letter after `@`: that is a question, as listed in the file play.rt. It is asked
+// with the numbers before it in its line, and the answer is printed.
 mod changes;
 mod columns;
+mod play;
 mod records;
-mod show;
 mod windows;
 
-use changes::show_changes;
-use printing::text;
-use show::show_marks;
-use show::show_windows;
+use play::play;
 
-// The counts of one growth, from m disks to k.
-fn two(m: usize, k: usize) -> [usize; 8] {
-    [m, k, 0, 0, 0, 0, 0, 0]
-}
-
-// The windows of one growth.
-fn grown_windows(m: usize, k: usize, s: usize) {
-    show_windows(two(m, k), 1, s);
-}
-
-// The marks of window w of one growth.
-fn grown_marks(m: usize, k: usize, s: usize, w: usize) {
-    show_marks(two(m, k), 1, s, w);
-}
-
-fn one_growth() {
-    text(b"1. One growth: each block a head, body or tail that moves, one that stays, or added\n");
-    show_changes(3, 2, 5, 25);
-    show_changes(4, 2, 6, 36);
-    show_changes(2, 2, 4, 16);
-    show_changes(1, 3, 3, 12);
-    show_changes(1, 15, 16, 256);
-    show_changes(15, 1, 16, 256);
-    show_changes(3, 2, 7, 35);
-    show_changes(3, 2, 13, 65);
-    show_changes(3, 2, 1, 5);
-}
-
-fn whole_windows() {
-    text(
-        b"2. The windows of a growth: document 01's, from 1 disk to 16, from 15 to 16, and none\n",
+fn growths() {
+    play(
+        b"1. One growth: each block a head, body or tail that moves, one that stays, or added
+m 3, n 2, s 5: @L
+m 4, n 2, s 6: @L
+m 2, n 2, s 4: @L
+m 1, n 3, s 3: @L
+m 1, n 15, s 16: @L
+m 15, n 1, s 16: @L
+m 3, n 2, s 7: @L
+m 3, n 2, s 13: @L
+m 3, n 2, s 1: @L
+2. The windows of a growth: document 01's, from 1 disk to 16, from 15 to 16, and none
+3 to 5 disks, 5 rows: @W
+3 to 5 disks, 6 rows: @W
+1 to 16 disks, 16 rows: @W
+1 to 16 disks, 16 rows, window 0: @M
+15 to 16 disks, 16 rows: @W
+15 to 16 disks, 16 rows, window 0: @M
+3 disks, 5 rows: @W
+3. A last window that is cut off to 2 rows, to 3, and to the only row
+3 to 5 disks, 7 rows: @W
+3 to 5 disks, 7 rows, window 0: @M
+3 to 5 disks, 7 rows, window 1: @M
+3 to 5 disks, 13 rows: @W
+3 to 5 disks, 13 rows, window 2: @M
+3 to 5 disks, 1 row: @W
+3 to 5 disks, 1 row, window 0: @M
+4. Seven growths, the largest volume, and the most marks in a window
+1 to 2 to 3 to 4 to 5 to 6 to 7 to 8 disks, 8 rows: @W
+1 to 2 to 3 to 4 to 5 to 6 to 7 to 8 disks, 8 rows, window 0: @M
+1 to 2 to 4 to 8 to 12 to 14 to 15 to 16 disks, 1000000 rows: @W
+1 to 2 to 4 to 8 to 12 to 14 to 15 to 16 disks, 1000000 rows, window 62499: @M
+8 to 16 disks, 1000000 rows: @W
+8 to 16 disks, 1000000 rows, window 62499: @M
+8 to 16 disks, 1000000 rows, window 62500: @M
+",
     );
-    grown_windows(3, 5, 5);
-    grown_windows(3, 5, 6);
-    grown_windows(1, 16, 16);
-    grown_marks(1, 16, 16, 0);
-    grown_windows(15, 16, 16);
-    grown_marks(15, 16, 16, 0);
-    show_windows(two(3, 0), 0, 5);
-}
-
-fn cut_windows() {
-    text(b"3. A last window that is cut off to 2 rows, to 3, and to the only row\n");
-    grown_windows(3, 5, 7);
-    grown_marks(3, 5, 7, 0);
-    grown_marks(3, 5, 7, 1);
-    grown_windows(3, 5, 13);
-    grown_marks(3, 5, 13, 2);
-    grown_windows(3, 5, 1);
-    grown_marks(3, 5, 1, 0);
-}
-
-fn many_growths() {
-    text(b"4. Seven growths, the largest volume, and the most marks in a window\n");
-    let counts = [1, 2, 3, 4, 5, 6, 7, 8];
-    let largest = [1, 2, 4, 8, 12, 14, 15, 16];
-    show_windows(counts, 7, 8);
-    show_marks(counts, 7, 8, 0);
-    show_windows(largest, 7, 1_000_000);
-    show_marks(largest, 7, 1_000_000, 62_499);
-    grown_windows(8, 16, 1_000_000);
-    grown_marks(8, 16, 1_000_000, 62_499);
-    grown_marks(8, 16, 1_000_000, 62_500);
 }
 
 fn main() {
-    one_growth();
-    whole_windows();
-    cut_windows();
-    many_growths();
-    columns::written_columns();
-    columns::damaged_columns();
-    records::worked_record();
-    records::changed_records();
-    records::other_lengths();
+    growths();
+    play(
+        b"5. Columns: written and read back; then a blank one, damaged ones and ones of another length
+column of 0: [@C
+column of 9: [@C
+column of 10: [@C
+column of 512: [@C
+column of 9999999999: [@C
+[          @T
+[0000000512@T
+[        07@T
+[        00@T
+[       +12@T
+[        -1@T
+[      5 12@T
+[512       @T
+[       5/2@T
+[       5:2@T
+[       0x9@T
+[      512@N
+[        512@E
+6. The worked record of document 01: from 3 disks to 5, 512-byte blocks, 5 rows, blocks 0 and 3 recorded
+@P
+read back: refusal @B
+one byte changed: accepted @Y, refused @Z
+one of bytes 50 to 109 changed: accepted @Y, refused @Z
+one of bytes 194 to 510 changed: accepted @Y, refused @Z
+byte 511 changed: accepted @Y, refused @Z
+all undone; read back: refusal @B
+511 bytes, refusal @Q
+513 bytes, refusal @Q
+",
+    );
 }

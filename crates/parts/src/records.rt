@@ -1,20 +1,25 @@
-// The worked record of document 01: written, read back, changed in every byte, and damaged.
-ghost use Prim.Native.Nat.{_<_};
+// The worked record of document 01: written, read back, and changed in every byte.
+use printing::Line;
 use printing::labelled;
 use printing::next_number;
-use printing::show_set;
+use printing::number;
 use printing::text;
-use printing::write_worked;
+
+// A page that begins with the record. Its numbers are Z, s, t, N[0] to N[7], growing and w; blocks 0 and 3 have marks 0 and 1.
+pub fn worked() -> [u8; 520] {
+    let mut page = [b'.'; 520];
+    let mut marks = [false; 64];
+    marks[0] = true;
+    marks[1] = true;
+    record::write_record(&mut page, [512, 5, 1, 3, 5, 0, 0, 0, 0, 0, 0, 1, 0], marks);
+    page
+}
 
 // The record's bytes and those after it.
-fn show_page(page: &[u8]) {
-    if page.len() < 512 {
-        return;
-    }
+pub fn show_page(page: [u8; 520]) {
     text(&page[0..512]);
     text(b"after it: ");
-    text(&page[512..]);
-    text(b"\n");
+    text(&page[512..520]);
 }
 
 fn show_numbers(numbers: [usize; 13]) {
@@ -25,53 +30,53 @@ fn show_numbers(numbers: [usize; 13]) {
     }
 }
 
-// What the first 512 bytes are read as.
-fn show_read(page: &[u8]) {
-    if page.len() < 512 {
-        return;
+// The marks that are set.
+fn show_set(marks: [bool; 64]) {
+    let mut i = 0;
+    while i < 64 {
+        if marks[i] {
+            next_number(i);
+        }
+        i += 1;
     }
+}
+
+// What the first 512 bytes are read as.
+pub fn show_read(page: [u8; 520]) {
     let found = record::read_record(&page[0..512]);
     let numbers = found.numbers;
     let marks = found.marks;
-    labelled(b"read back: refusal", found.refusal);
+    number(found.refusal);
     text(b", numbers");
     show_numbers(numbers);
     text(b", marks");
     show_set(marks);
-    text(b"\n");
 }
 
-pub fn worked_record() {
-    text(
-        b"6. The worked record of document 01: from 3 disks to 5, 512-byte blocks, 5 rows, blocks 0 and 3 recorded\n",
-    );
-    let mut space = [b'.'; 520];
-    let page: &mut [u8] = &mut space;
-    write_worked(page);
-    show_page(page);
-    show_read(page);
-}
-
-// The refusal with k added to byte `at`, 256 being 0; 2 if the page is too short. Undoes the change.
-fn refusal_with(page: &mut [u8], at: usize, k: u8) -> usize {
-    if page.len() <= at {
+// The refusal with k added to byte `at` of the record, 256 being 0.
+fn refusal_with(page: [u8; 520], at: usize, k: u8) -> usize {
+    let mut changed = page;
+    if 512 <= at {
         return 2;
     }
-    let kept = page[at];
-    page[at] = std::num::wrapping_add_u8(kept, k);
-    let found = record::read_record(page);
-    page[at] = kept;
+    changed[at] = std::num::wrapping_add_u8(changed[at], k);
+    let found = record::read_record(&changed[0..512]);
     found.refusal
 }
 
-// How many of the 255 changes of byte `at` get this refusal.
-fn changes_at(page: &mut [u8], at: usize, refusal: usize) -> usize
-    ensures { λ r. ⌜ r < 256 ⌝ }
-{
+// How many of the 255 changes of each byte from `from` to `last` get this refusal; 0 past byte 511.
+fn changes(page: [u8; 520], from: usize, last: usize, refusal: usize) -> usize {
+    if 511 < from {
+        return 0;
+    }
+    if 511 < last {
+        return 0;
+    }
+    let end = last * 255 + 255;
     let mut total = 0;
-    let mut k: usize = 1;
-    while k < 256 {
-        if refusal_with(page, at, k as u8) == refusal {
+    let mut k = from * 255;
+    while k < end {
+        if refusal_with(page, k / 255, (k % 255 + 1) as u8) == refusal {
             total += 1;
         }
         k += 1;
@@ -79,55 +84,22 @@ fn changes_at(page: &mut [u8], at: usize, refusal: usize) -> usize
     total
 }
 
-// How many changes of one byte get this refusal, from byte `from` up to, not including, byte `end`; 0 past byte 511.
-fn changes(page: &mut [u8], from: usize, end: usize, refusal: usize) -> usize {
-    if 512 < end {
-        return 0;
+// The changes of bytes a to b, of byte a alone, or of each of the 512, by how many numbers the line has.
+pub fn show_changes(page: [u8; 520], line: Line, refusal: usize) {
+    let given = line.numbers;
+    let count = line.count;
+    match count {
+        0 => number(changes(page, 0, 511, refusal)),
+        1 => number(changes(page, given[0], given[0], refusal)),
+        _ => number(changes(page, given[0], given[1], refusal)),
     }
-    let mut total = 0;
-    let mut at = from;
-    while at < end {
-        total += changes_at(page, at, refusal);
-        at += 1;
-    }
-    total
 }
 
-// How many of these changes are accepted, and how many refused.
-fn show_changes(name: &[u8], page: &mut [u8], from: usize, end: usize) {
-    text(name);
-    labelled(b" changed: accepted", changes(page, from, end, 0));
-    labelled(b", refused", changes(page, from, end, 13));
-    text(b"\n");
-}
-
-// 6, continued.
-pub fn changed_records() {
-    let mut space = [b'.'; 512];
-    let page: &mut [u8] = &mut space;
-    write_worked(page);
-    show_changes(b"one byte", page, 0, 512);
-    show_changes(b"one of bytes 50 to 109", page, 50, 110);
-    show_changes(b"one of bytes 194 to 510", page, 194, 511);
-    show_changes(b"byte 511", page, 511, 512);
-    text(b"all undone; ");
-    show_read(page);
-}
-
-// The refusal of the first `length` bytes of a page; 2 if it is too short.
-fn refusal_of(page: &[u8], length: usize) -> usize {
-    if page.len() < length {
-        return 2;
+// The refusal of the first `length` bytes.
+pub fn show_refusal(page: [u8; 520], length: usize) {
+    if 520 < length {
+        return;
     }
     let found = record::read_record(&page[0..length]);
-    found.refusal
-}
-
-pub fn other_lengths() {
-    let mut space = [b'.'; 520];
-    let page: &mut [u8] = &mut space;
-    write_worked(page);
-    labelled(b"511 bytes, refusal", refusal_of(page, 511));
-    labelled(b"\n513 bytes, refusal", refusal_of(page, 513));
-    text(b"\n");
+    number(found.refusal);
 }

@@ -1,64 +1,44 @@
 // Windows and marks of the newest growth, asked of the layout behind run-time tests, so that no caller needs a `requires`.
 ghost use mathlib.Core.Path.{_≡_};
 ghost use mathlib.Core.Bool.{true};
-ghost use Prim.Native.Nat.{_*_, _<_, _≤_};
+ghost use Prim.Native.Nat.{_<_, _≤_};
 ghost use Rattle.layout.specs.History.{history, oldCount, addedCount};
-ghost use Rattle.layout.specs.Limits.{Limits, Grows, mostRows};
+ghost use Rattle.layout.specs.Limits.{Limits, Grows};
 ghost use Rattle.layout.specs.Windows.{windows};
-use layout::GrowthDisks;
+use printing::Line;
+use printing::labelled;
+use printing::text;
 use volume::Volume;
 
-// Are rows, growths and disk counts within the limits.
-pub fn within(counts: [usize; 8], t: usize, s: usize) -> bool
-    ensures { λ r. ⌜ (r ≡ true → Limits s (history t counts)) ⌝ }
-{
-    if s < Volume::LEAST_ROWS {
-        return false;
-    }
-    if Volume::MOST_ROWS < s {
-        return false;
-    }
-    if Volume::MOST_GROWTHS < t {
-        return false;
-    }
-    if counts[0] < 1 {
-        return false;
-    }
-    let mut k = 0;
-    while k < t {
-        if counts[k + 1] <= counts[k] {
-            return false;
-        }
-        k += 1;
-    }
-    counts[t] <= Volume::MOST_DISKS
-}
-
 // The windows of the newest growth; 0 outside the limits and where there was no growth.
-pub fn growth_windows(counts: [usize; 8], t: usize, s: usize) -> usize
+fn growth_windows(counts: [usize; 8], t: usize, s: usize) -> usize
     ensures { λ r. ⌜ (0 < r → (0 < t) × Limits s (history t counts)) ⌝ }
     ensures { λ r. ⌜ r ≤ windows (oldCount (history t counts)) (addedCount (history t counts)) s ⌝ }
 {
     if t == 0 {
         return 0;
     }
-    if !within(counts, t, s) {
+    if Volume::MOST_GROWTHS < t {
+        return 0;
+    }
+    if s < Volume::LEAST_ROWS {
+        return 0;
+    }
+    if Volume::MOST_ROWS < s {
+        return 0;
+    }
+    if Volume::MOST_DISKS < counts[t] {
+        return 0;
+    }
+    if !marks::counts_rise(&counts, t) {
         return 0;
     }
     let g = layout::newest_growth(&counts, t);
     window::window_count(g.old, g.added, s)
 }
 
-// Its old and its added disks; 0 and 0 if it has no window.
-pub fn growth_disks(counts: [usize; 8], t: usize, s: usize) -> GrowthDisks {
-    if growth_windows(counts, t, s) == 0 {
-        return GrowthDisks { old: 0, added: 0 };
-    }
-    layout::newest_growth(&counts, t)
-}
-
 // The moves of its window w; 0 if there is no such window.
-pub fn window_moves(counts: [usize; 8], t: usize, s: usize, w: usize) -> usize {
+fn window_moves(counts: [usize; 8], t: usize, s: usize, w: usize) -> usize {
     if growth_windows(counts, t, s) <= w {
         return 0;
     }
@@ -81,10 +61,8 @@ pub fn grows(m: usize, n: usize) -> bool
     n <= Volume::MOST_DISKS - m
 }
 
-// Is j a mark of window w whose row exists.
-fn mark_exists(m: usize, n: usize, s: usize, w: usize, j: usize) -> bool
-    ensures { λ r. ⌜ (r ≡ true → Grows m n × (w ≤ mostRows) × (j < m * n)) ⌝ }
-{
+// Is j a mark of window w whose row exists, and also the mark of the spot of mark j.
+fn mark_agrees(m: usize, n: usize, s: usize, w: usize, j: usize) -> bool {
     if !grows(m, n) {
         return false;
     }
@@ -94,12 +72,7 @@ fn mark_exists(m: usize, n: usize, s: usize, w: usize, j: usize) -> bool
     if m * n <= j {
         return false;
     }
-    window::row_exists(m, n, s, w, j)
-}
-
-// Is j such a mark, and also the mark of the spot of mark j.
-fn mark_agrees(m: usize, n: usize, s: usize, w: usize, j: usize) -> bool {
-    if !mark_exists(m, n, s, w, j) {
+    if !window::row_exists(m, n, s, w, j) {
         return false;
     }
     let p = window::spot_of_mark(m, n, w, j);
@@ -107,7 +80,7 @@ fn mark_agrees(m: usize, n: usize, s: usize, w: usize, j: usize) -> bool {
 }
 
 // The marks of window w whose rows exist and that their spots lead back to.
-pub fn marks_found(m: usize, n: usize, s: usize, w: usize) -> usize {
+fn marks_found(m: usize, n: usize, s: usize, w: usize) -> usize {
     let mut total = 0;
     let mut j = 0;
     while j < 64 {
@@ -117,4 +90,45 @@ pub fn marks_found(m: usize, n: usize, s: usize, w: usize) -> usize {
         j += 1;
     }
     total
+}
+
+// The windows of the newest growth, and the moves of the first and of the last. The line has the disk counts and the rows s.
+pub fn show_windows(line: Line) {
+    let counts = line.numbers;
+    let s = line.last;
+    let count = line.count;
+    if count < 2 {
+        return;
+    }
+    let t = count - 2;
+    let windows = growth_windows(counts, t, s);
+    if windows == 0 {
+        text(b"no growth");
+        return;
+    }
+    labelled(b"windows", windows);
+    labelled(b", moves of the first", window_moves(counts, t, s, 0));
+    labelled(b", of the last", window_moves(counts, t, s, windows - 1));
+}
+
+// The moves of window w of the newest growth, and its marks that their spots lead back to. The line has the disk counts, s and w.
+pub fn show_marks(line: Line) {
+    let counts = line.numbers;
+    let s = line.before;
+    let w = line.last;
+    let count = line.count;
+    if count < 3 {
+        return;
+    }
+    let t = count - 3;
+    if growth_windows(counts, t, s) <= w {
+        text(b"no such window");
+        return;
+    }
+    let g = layout::newest_growth(&counts, t);
+    labelled(b"moves", window_moves(counts, t, s, w));
+    labelled(
+        b", marks found from their spots",
+        marks_found(g.old, g.added, s, w),
+    );
 }

@@ -32,19 +32,6 @@ fn is_same(before: &[u8], after: &[u8], k: usize) -> bool {
     before[k] == after[k]
 }
 
-// The bytes that are the same, from byte `from` up to, not including, byte `end`.
-pub fn same_bytes(before: &[u8], after: &[u8], from: usize, end: usize) -> usize {
-    let mut total = 0;
-    let mut k = from;
-    while k < end {
-        if is_same(before, after, k) {
-            total += 1;
-        }
-        k += 1;
-    }
-    total
-}
-
 // The first byte that changed; the length if none did.
 pub fn first_changed(before: &[u8], after: &[u8]) -> usize {
     let mut k = 0;

@@ -1,6 +1,5 @@
 // A rack: its disks, its volume, and what is kept beside it.
 use super::pictures::drawn;
-use super::words::show_answer;
 use layout::Block;
 use printing::put_bytes;
 use volume::Answer;
@@ -31,11 +30,19 @@ pub fn empty() -> Rack {
     }
 }
 
-// After a power cut: the state in memory is lost.
-pub fn without_state(rack: Rack) -> Rack {
+// With drives that have a write cache.
+pub fn with_cache(rack: Rack) -> Rack {
+    let mut next = rack;
+    next.cached = true;
+    next
+}
+
+// After a power cut: other bytes from byte `at` of the medium on, and the state in memory is lost.
+pub fn power_cut(rack: Rack, at: usize, bytes: [u8; 512]) -> Rack {
     let state = Volume::zeros();
     let versions = rack.versions;
-    let medium = rack.medium;
+    let mut medium = rack.medium;
+    put_bytes(&mut medium, at, &bytes);
     Rack {
         state,
         answer: Answer::Done,
@@ -45,34 +52,34 @@ pub fn without_state(rack: Rack) -> Rack {
     }
 }
 
-// With drives that have a write cache.
-pub fn with_cache(rack: Rack) -> Rack {
-    let state = rack.state;
-    let answer = rack.answer;
-    let versions = rack.versions;
-    let medium = rack.medium;
-    Rack {
-        state,
-        answer,
-        cached: true,
-        versions,
-        medium,
-    }
+// The calls on the medium, with the numbers a, b and c: format with a disks of b rows, blocks of c bytes; restart; grow to a disks; advance;
+// checkpoint; write picture a of block b; and flushed, which is any other letter.
+const FORMAT: u8 = b'F';
+
+const RESTART: u8 = b'R';
+
+const GROW: u8 = b'G';
+
+pub const ADVANCE: u8 = b'V';
+
+const CHECKPOINT: u8 = b'C';
+
+pub const WRITE: u8 = b'W';
+
+fn write_picture(v: Volume, medium: &mut [u8], x: usize, version: u8) -> Reply {
+    let picture = drawn(x, version);
+    v.write(medium, Block(x), &picture)
 }
 
-// With other bytes from byte `at` of the medium on.
-pub fn with_bytes(rack: Rack, at: usize, bytes: [u8; 512]) -> Rack {
-    let state = rack.state;
-    let answer = rack.answer;
-    let versions = rack.versions;
-    let mut medium = rack.medium;
-    put_bytes(&mut medium, at, &bytes);
-    Rack {
-        state,
-        answer,
-        cached: rack.cached,
-        versions,
-        medium,
+fn reply_of(v: Volume, medium: &mut [u8], call: u8, given: [usize; 8]) -> Reply {
+    match call {
+        FORMAT => Volume::format(medium, given[2], given[1], given[0]),
+        RESTART => Volume::restart(medium),
+        GROW => v.grow(medium, given[0]),
+        ADVANCE => v.advance(medium),
+        CHECKPOINT => v.checkpoint(medium),
+        WRITE => write_picture(v, medium, given[1], (given[0] % 256) as u8),
+        _ => v.flushed(),
     }
 }
 
@@ -86,44 +93,29 @@ fn settled(v: Volume, cached: bool) -> Volume {
     state
 }
 
-// The calls that are made on the medium, and flushed; of a write the block and the version of its picture.
-pub enum Call {
-    Format(usize, usize, usize),
-    Restart,
-    Grow(usize),
-    Advance,
-    Checkpoint,
-    Flushed,
-    Write(usize, u8),
-}
-
-fn write_picture(v: Volume, medium: &mut [u8], x: usize, version: u8) -> Reply {
-    let picture = drawn(x, version);
-    v.write(medium, Block(x), &picture)
-}
-
-fn called(v: Volume, medium: &mut [u8], call: Call) -> Reply {
-    match call {
-        Call::Format(size, rows, disks) => Volume::format(medium, size, rows, disks),
-        Call::Restart => Volume::restart(medium),
-        Call::Grow(count) => v.grow(medium, count),
-        Call::Advance => v.advance(medium),
-        Call::Checkpoint => v.checkpoint(medium),
-        Call::Flushed => v.flushed(),
-        Call::Write(x, version) => write_picture(v, medium, x, version),
+// The versions after a call: that of block b changes if its write was done.
+fn versions_after(versions: [u8; 30], call: u8, given: [usize; 8], answer: Answer) -> [u8; 30] {
+    let mut next = versions;
+    let x = given[1];
+    if call == WRITE && x < 30 {
+        if let Answer::Done = answer {
+            next[x] = (given[0] % 256) as u8;
+        }
     }
+    next
 }
 
 // The rack after a call.
-pub fn after(rack: Rack, call: Call) -> Rack {
+pub fn after(rack: Rack, call: u8, given: [usize; 8]) -> Rack {
     let v = rack.state;
     let cached = rack.cached;
-    let versions = rack.versions;
     let mut medium = rack.medium;
-    let reply = called(v, &mut medium, call);
+    let reply = reply_of(v, &mut medium, call, given);
     let answer = reply.answer;
     let handed = reply.state;
     let state = settled(handed, cached);
+    let saved = rack.versions;
+    let versions = versions_after(saved, call, given, answer);
     Rack {
         state,
         answer,
@@ -131,12 +123,4 @@ pub fn after(rack: Rack, call: Call) -> Rack {
         versions,
         medium,
     }
-}
-
-// The same, with the answer as the end of its line.
-pub fn told(rack: Rack, call: Call) -> Rack {
-    let next = after(rack, call);
-    let answer = next.answer;
-    show_answer(answer);
-    next
 }

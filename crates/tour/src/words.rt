@@ -1,6 +1,9 @@
-// Answers in words.
+// Answers in words. The documents' words for a refusal are in the story.
+use layout::Block;
 use layout::Part;
 use layout::Reason;
+use layout::Row;
+use layout::Spot;
 use printing::counted;
 use printing::labelled;
 use printing::text;
@@ -8,6 +11,7 @@ use volume::AddressAnswer;
 use volume::Advanced;
 use volume::Answer;
 use volume::HolderAnswer;
+use volume::Volume;
 
 fn show_part(part: Part) {
     match part {
@@ -20,24 +24,12 @@ fn show_part(part: Part) {
 // Why a block lives at its spot.
 fn show_reason(reason: Reason) {
     match reason {
-        Reason::SetOut => text(b"set out there at format"),
-        Reason::AddedBy(k) => labelled(b"added there by growth", k),
+        Reason::SetOut => text(b": set out there at format"),
+        Reason::AddedBy(k) => labelled(b": added there by growth", k),
         Reason::MovedBy(k, part) => {
-            counted(b"moved there by growth ", k, b", as ");
+            counted(b": moved there by growth ", k, b", as ");
             show_part(part);
         }
-    }
-}
-
-// A refusal; those that the rack meets have the documents' words.
-fn show_refusal(k: usize) {
-    labelled(b"refused with", k);
-    match k {
-        3 => text(b": block not open"),
-        7 => text(b": block copied but not recorded"),
-        15 => text(b": no open block lives there"),
-        18 => text(b": a record store is due and block stores are pending"),
-        _ => {}
     }
 }
 
@@ -53,10 +45,10 @@ fn show_advanced(did: Advanced) {
     }
 }
 
-// The answer of a call on the medium, and the end of its line.
+// The answer of a call on the medium.
 pub fn show_answer(answer: Answer) {
     match answer {
-        Answer::Refused(k) => show_refusal(k),
+        Answer::Refused(k) => labelled(b"refused with", k),
         Answer::Done => text(b"done"),
         Answer::CallsLeft(n) => labelled(b"done; advance calls left:", n),
         Answer::Told(did, n) => {
@@ -64,32 +56,32 @@ pub fn show_answer(answer: Answer) {
             labelled(b"; advance calls left:", n);
         }
     }
-    text(b"\n");
 }
 
-// Where a block lives.
-pub fn show_home(answer: AddressAnswer) {
+// Where block x lives, and why.
+pub fn show_home(v: Volume, x: usize) {
+    let reply = v.address(Block(x));
+    let answer = reply.answer;
     match answer {
-        AddressAnswer::Refused(k) => {
-            text(b" is ");
-            show_refusal(k);
-        }
+        AddressAnswer::Refused(k) => labelled(b" is refused with", k),
         AddressAnswer::At(p, reason) => {
             let row = p.row;
             labelled(b" lives at disk", p.disk);
-            counted(b", row ", row.0, b": ");
+            labelled(b", row", row.0);
             show_reason(reason);
         }
     }
 }
 
 // The block that lives at a spot.
-pub fn show_held(answer: HolderAnswer) {
+pub fn show_held(v: Volume, disk: usize, row: usize) {
+    let reply = v.holder(Spot {
+        disk,
+        row: Row(row),
+    });
+    let answer = reply.answer;
     match answer {
-        HolderAnswer::Refused(k) => {
-            text(b" is ");
-            show_refusal(k);
-        }
+        HolderAnswer::Refused(k) => labelled(b" is refused with", k),
         HolderAnswer::Has(x) => labelled(b" has block", x.0),
     }
 }

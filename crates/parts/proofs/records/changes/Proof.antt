@@ -1,43 +1,58 @@
--- `changes` meets its contract. Assumes nothing.
-use Prim.Native.Nat.{_*_, _-_, _≤_}
-use mathlib.Core.Path.{_≡_}
-use lib.ListN.{length}
+-- `changes` meets its contract. The loop's invariant: the total is at most the changes passed. Assumes nothing.
+use Prim.Native.Nat.{_-_, _≤_}
+use mathlib.Core.Logic.{⊎-elim}
+use native.Mathlib.Omega.{arith}
 use borrow.Author.Needs.{needs}
 use Rattle.parts.proofs.records.changes.Statement.{statement}
 use Rattle.parts.proofs.records.changes.Tie as tie
 
 abbrev Inv-loop : tie.InvT-loop
-Inv-loop page₀ from end refusal total₀ at₀ page total at = (length page ≡ length page₀) × ((end ≤ 512) × (total ≤ 256 * at))
+Inv-loop page from last refusal end total₀ k₀ total k = (end ≤ 130560) × (total ≤ k)
 
 abbrev μ-loop : tie.MeasureT-loop
-μ-loop page₀ from end refusal total₀ at₀ page total at = end - at
+μ-loop page from last refusal end total₀ k₀ total k = end - k
 
 returns : tie.Need-returns Inv-loop μ-loop
 returns c = search needs
 
+returns-2 : tie.Need-returns-2 Inv-loop μ-loop
+returns-2 c = search needs
+
+mul-end : tie.Need-mul-end Inv-loop μ-loop
+mul-end c = search needs
+
+add-end : tie.Need-add-end Inv-loop μ-loop
+add-end c = search needs
+
+mul-k : tie.Need-mul-k Inv-loop μ-loop
+mul-k c = search needs
+
 loop-holds : tie.Need-loop-holds Inv-loop μ-loop
 loop-holds c = search needs
 
-changes-at-requires : tie.Need-changes-at-requires Inv-loop μ-loop
-changes-at-requires c κs = search needs
+add-refusal-with : tie.Need-add-refusal-with Inv-loop μ-loop
+add-refusal-with c = search needs
+
+cast-refusal-with : tie.Need-cast-refusal-with Inv-loop μ-loop
+cast-refusal-with c = search needs
+
+refusal-with-requires : tie.Need-refusal-with-requires Inv-loop μ-loop
+refusal-with-requires c κs = search needs
 
 add-total : tie.Need-add-total Inv-loop μ-loop
 add-total c = search needs
 
-add-at : tie.Need-add-at Inv-loop μ-loop
-add-at c = search needs
+add-k : tie.Need-add-k Inv-loop μ-loop
+add-k c = search needs
 
 loop-less : tie.Need-loop-less Inv-loop μ-loop
 loop-less c = search needs
 
 loop-again : tie.Need-loop-again Inv-loop μ-loop
-loop-again c = search needs
+loop-again c = ⊎-elim (λ w. (omega arith, omega arith)) (λ w. (omega arith, omega arith)) (c .if3 .came)
 
-same-length : tie.Need-same-length Inv-loop μ-loop
-same-length c = search needs
-
-returns-2 : tie.Need-returns-2 Inv-loop μ-loop
-returns-2 c = search needs
+returns-3 : tie.Need-returns-3 Inv-loop μ-loop
+returns-3 c = search needs
 
 pub changes-spec : {M : Type 1} → statement M
 changes-spec =
@@ -46,11 +61,16 @@ changes-spec =
     Inv-loop
     μ-loop
     returns
+    returns-2
+    mul-end
+    add-end
+    mul-k
     loop-holds
-    changes-at-requires
+    add-refusal-with
+    cast-refusal-with
+    refusal-with-requires
     add-total
-    add-at
+    add-k
     loop-less
     loop-again
-    same-length
-    returns-2)
+    returns-3)

@@ -7,13 +7,10 @@ use Rattle.tour.proofs.pictures.read_back.Statement.{statement}
 use Rattle.tour.proofs.pictures.read_back.Tie as tie
 
 abbrev Inv-loop : tie.InvT-loop
-Inv-loop medium v versions saved₀ same₀ x₀ saved same x = (x ≤ 30) × (saved ≤ x) × (same ≤ x)
+Inv-loop rack versions saved₀ same₀ x₀ t7 t8 saved same x = (x ≤ 30) × (saved ≤ x) × (same ≤ x)
 
 abbrev μ-loop : tie.MeasureT-loop
-μ-loop medium v versions saved₀ same₀ x₀ saved same x = 30 - x
-
-slice-aggregate-medium : tie.Need-slice-aggregate-medium Inv-loop μ-loop
-slice-aggregate-medium c = search needs
+μ-loop rack versions saved₀ same₀ x₀ t7 t8 saved same x = 30 - x
 
 loop-holds : tie.Need-loop-holds Inv-loop μ-loop
 loop-holds c = search needs
@@ -39,8 +36,17 @@ loop-less c = search needs
 loop-again : tie.Need-loop-again Inv-loop μ-loop
 loop-again c = ⊎-elim (λ w. omega arith) (⊎-elim (λ w. omega arith) (λ w. omega arith)) (c .if1 .came)
 
-tell-same-requires : tie.Need-tell-same-requires Inv-loop μ-loop
-tell-same-requires c κs = search needs
+slice-aggregate-labelled : tie.Need-slice-aggregate-labelled Inv-loop μ-loop
+slice-aggregate-labelled c = search needs
+
+labelled-requires : tie.Need-labelled-requires Inv-loop μ-loop
+labelled-requires c κs = search needs
+
+slice-aggregate-labelled-2 : tie.Need-slice-aggregate-labelled-2 Inv-loop μ-loop
+slice-aggregate-labelled-2 c = search needs
+
+labelled-requires-2 : tie.Need-labelled-requires-2 Inv-loop μ-loop
+labelled-requires-2 c κs = search needs
 
 returns : tie.Need-returns Inv-loop μ-loop
 returns c = search needs
@@ -51,7 +57,6 @@ read-back-spec =
     (tie.spec
     Inv-loop
     μ-loop
-    slice-aggregate-medium
     loop-holds
     array-read-version
     add-saved
@@ -60,5 +65,8 @@ read-back-spec =
     add-x
     loop-less
     loop-again
-    tell-same-requires
+    slice-aggregate-labelled
+    labelled-requires
+    slice-aggregate-labelled-2
+    labelled-requires-2
     returns)

@@ -1,8 +1,8 @@
 -- `show_set` meets its contract. Assumes nothing.
 use Prim.Native.Nat.{_-_, _≤_}
 use borrow.Author.Needs.{needs}
-use Rattle.printing.proofs.worked.show_set.Statement.{statement}
-use Rattle.printing.proofs.worked.show_set.Tie as tie
+use Rattle.parts.proofs.records.show_set.Statement.{statement}
+use Rattle.parts.proofs.records.show_set.Tie as tie
 
 abbrev Inv-loop : tie.InvT-loop
 Inv-loop marks i₀ i = i ≤ 64

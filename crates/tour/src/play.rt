@@ -1,0 +1,123 @@
+// The story, byte by byte, and its calls.
+use super::pictures::drawn;
+use super::pictures::read_back;
+use super::pictures::torn;
+use super::rack::ADVANCE;
+use super::rack::Rack;
+use super::rack::WRITE;
+use super::rack::after;
+use super::rack::power_cut;
+use super::rack::with_cache;
+use super::words::show_answer;
+use super::words::show_held;
+use super::words::show_home;
+use printing::Line;
+use printing::new_line;
+use printing::number;
+use printing::text;
+use printing::with_byte;
+use volume::Answer;
+
+// Beside the calls on the medium, which are in the file rack.rt: where block a lives; which block lives at disk a, row b; picture a of each
+// open block from b on is written; all pictures are read back; the two power cuts; from now on the drives have a write cache.
+const ADDRESS: u8 = b'A';
+
+const HOLDER: u8 = b'H';
+
+const WRITE_EACH: u8 = b'E';
+
+const READ_BACK: u8 = b'P';
+
+const CUT_IN_COPY: u8 = b'X';
+
+const CUT_BETWEEN_CALLS: u8 = b'Y';
+
+const CACHE: u8 = b'D';
+
+// Picture a of each open block from b on, and how often its write was done.
+fn write_each(rack: Rack, given: [usize; 8]) -> Rack {
+    let mut last = rack;
+    let mut now = given;
+    let mut total = 0;
+    let mut x = given[1];
+    while x < 30 {
+        now[1] = x;
+        last = after(last, WRITE, now);
+        let answer = last.answer;
+        if let Answer::Done = answer {
+            total += 1;
+        }
+        x += 1;
+    }
+    number(total);
+    last
+}
+
+// The advance copies block 4 and stores nothing in the record. Its new spot, disk 4 and row 1, begins at byte
+// 512 + (4 * 5 + 1) * 512 = 11,264; only the first half of the picture is stored.
+fn cut_in_copy(rack: Rack, given: [usize; 8]) -> Rack {
+    power_cut(after(rack, ADVANCE, given), 11_264, torn(4, 1))
+}
+
+// The spot of block 12, disk 0 and row 4, begins at byte 512 + 4 * 512 = 2,560, that of block 13, disk 1 and row 4, at byte
+// 512 + (5 + 4) * 512 = 5,120. Block 12 has its old picture again.
+fn cut_between_calls(rack: Rack) -> Rack {
+    let old = power_cut(rack, 2_560, drawn(12, 1));
+    power_cut(old, 5_120, torn(13, 2))
+}
+
+// A call on the medium, and its answer.
+fn answered(rack: Rack, call: u8, given: [usize; 8]) -> Rack {
+    let next = after(rack, call, given);
+    let answer = next.answer;
+    show_answer(answer);
+    next
+}
+
+fn called(rack: Rack, call: u8, given: [usize; 8]) -> Rack {
+    let v = rack.state;
+    match call {
+        ADDRESS => {
+            show_home(v, given[0]);
+            rack
+        }
+        HOLDER => {
+            show_held(v, given[0], given[1]);
+            rack
+        }
+        READ_BACK => {
+            read_back(rack);
+            rack
+        }
+        WRITE_EACH => write_each(rack, given),
+        CUT_IN_COPY => cut_in_copy(rack, given),
+        CUT_BETWEEN_CALLS => cut_between_calls(rack),
+        CACHE => with_cache(rack),
+        _ => answered(rack, call, given),
+    }
+}
+
+// The next byte of a line: printed, or a call made.
+fn step(rack: Rack, line: Line, byte: u8) -> Rack {
+    if line.byte == b'@' {
+        let given = line.numbers;
+        return called(rack, byte, given);
+    }
+    if byte != b'@' {
+        text(&[byte; 1]);
+    }
+    rack
+}
+
+pub fn play(rack: Rack, story: &[u8]) -> Rack {
+    let mut now = rack;
+    let mut line = new_line();
+    let mut at = 0;
+    while at < story.len() {
+        let byte = story[at];
+        now = step(now, line, byte);
+        line = with_byte(line, byte);
+        at += 1;
+    }
+    now
+}
