@@ -1,7 +1,7 @@
 // Runs what no call reaches on cases, the blocks and windows of one growth, columns and records of every length and with every byte
 // changed, and writes a line for each. What it must write is in the file stdout. The cases of calls are in the crate `script`.
-// The lines are printed as they stand, but for a letter after `@`: that is a question, as listed in the file play.rt. It is asked
-// with the numbers before it in its line, and the answer is printed.
+// The lines are printed as they stand, but for a letter after `@`: that is a question, listed in the file play.rt. It is asked with
+// the numbers before it in its line, a, b and c, and the answer is printed.
 mod changes;
 mod columns;
 mod play;

@@ -14,29 +14,37 @@ use printing::new_line;
 use printing::text;
 use printing::with_byte;
 
-// Of a growth: what it does with each block; its windows; the marks of one window. Of a column: of a number; of the ten, nine and eleven bytes
-// before the question. Of the worked record: its bytes; what it is read as; how many of its changes are accepted and how many
-// refused; and, for any other letter, the refusal of its first bytes.
+// What a growth from a disks by b does with each block, of c rows.
 const LETTERS: u8 = b'L';
 
+// The windows of the newest growth.
 const WINDOWS: u8 = b'W';
 
+// The marks of one of its windows.
 const MARKS: u8 = b'M';
 
+// The column of number a.
 const COLUMN: u8 = b'C';
 
+// What the ten bytes before are read as.
 const TEN_BYTES: u8 = b'T';
 
+// The nine bytes before.
 const NINE_BYTES: u8 = b'N';
 
+// The eleven bytes before.
 const ELEVEN_BYTES: u8 = b'E';
 
+// The bytes of the worked record. Any other letter asks for the refusal of its first a bytes.
 const PAGE: u8 = b'P';
 
+// What it is read as.
 const READ: u8 = b'B';
 
+// How many of its changes are accepted.
 const ACCEPTED: u8 = b'Y';
 
+// How many are refused.
 const REFUSED: u8 = b'Z';
 
 fn ask_record(page: [u8; 520], question: u8, line: Line) {

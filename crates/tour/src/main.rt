@@ -1,6 +1,6 @@
 // One rack through its life, printed for a person. What it must write is in the file stdout. The story is printed as it stands,
-// but for a letter after `@`: that is a call, as listed in the file play.rt. It is made with the numbers before it in its line, and
-// its answer is printed.
+// but for a letter after `@`: that is a call, listed in the files play.rt and rack.rt. It is made with the numbers before it in its
+// line, a, b and c, and its answer is printed.
 mod pictures;
 mod play;
 mod rack;

@@ -18,20 +18,25 @@ use printing::text;
 use printing::with_byte;
 use volume::Answer;
 
-// Beside the calls on the medium, which are in the file rack.rt: where block a lives; which block lives at disk a, row b; picture a of each
-// open block from b on is written; all pictures are read back; the two power cuts; from now on the drives have a write cache.
+// Where block a lives. The calls on the medium are in the file rack.rt.
 const ADDRESS: u8 = b'A';
 
+// Which block lives at disk a, row b.
 const HOLDER: u8 = b'H';
 
+// Picture a of each open block from b on is written.
 const WRITE_EACH: u8 = b'E';
 
+// All pictures are read back.
 const READ_BACK: u8 = b'P';
 
+// The power cut in the middle of a copy.
 const CUT_IN_COPY: u8 = b'X';
 
+// The power cut between two calls.
 const CUT_BETWEEN_CALLS: u8 = b'Y';
 
+// From now on the drives have a write cache.
 const CACHE: u8 = b'D';
 
 // Picture a of each open block from b on, and how often its write was done.

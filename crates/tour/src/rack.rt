@@ -52,18 +52,22 @@ pub fn power_cut(rack: Rack, at: usize, bytes: [u8; 512]) -> Rack {
     }
 }
 
-// The calls on the medium, with the numbers a, b and c: format with a disks of b rows, blocks of c bytes; restart; grow to a disks; advance;
-// checkpoint; write picture a of block b; and flushed, which is any other letter.
+// Format with a disks of b rows, blocks of c bytes. Any letter that is not listed is flushed.
 const FORMAT: u8 = b'F';
 
+// Restart.
 const RESTART: u8 = b'R';
 
+// Grow to a disks.
 const GROW: u8 = b'G';
 
+// Advance.
 pub const ADVANCE: u8 = b'V';
 
+// Checkpoint.
 const CHECKPOINT: u8 = b'C';
 
+// Write picture a of block b.
 pub const WRITE: u8 = b'W';
 
 fn write_picture(v: Volume, medium: &mut [u8], x: usize, version: u8) -> Reply {
