@@ -79,7 +79,6 @@ one byte changed: accepted @Y, refused @Z
 one of bytes 50 to 109 changed: accepted @Y, refused @Z
 one of bytes 194 to 510 changed: accepted @Y, refused @Z
 byte 511 changed: accepted @Y, refused @Z
-all undone; read back: refusal @B
 511 bytes, refusal @Q
 513 bytes, refusal @Q
 ",
