@@ -1,3 +1,4 @@
+pub mod Bits
 pub mod Booleans
 pub mod Counting
 pub mod Lists

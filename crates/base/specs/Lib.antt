@@ -1,2 +1,3 @@
 pub mod Below
+pub mod Bits
 pub mod Refusals

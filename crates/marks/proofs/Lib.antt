@@ -1,4 +1,3 @@
-pub mod Bits
 pub mod BlocksCode
 pub mod CopiesCode
 pub mod CountsCode

@@ -20,10 +20,11 @@ use Rattle.base.proofs.Lowest.{first-none, first-found}
 use Rattle.layout.specs.Limits.{Grows}
 use Rattle.layout.specs.Windows.{rowExists, spotOfMark}
 use Rattle.layout.proofs.WindowsCode.{marks-most}
-use Rattle.marks.specs.Words.{bits, marksOf, wordOf}
+use Rattle.base.specs.Bits.{bits, wordOf}
+use Rattle.marks.specs.Words.{marksOf}
 use Rattle.marks.specs.Marks.{markCount, noMarks, within, movingMarks, difference, firstUnmarked}
 use Rattle.marks.proofs.MarkSets.{within-use, within-make, within-both, none-within, movingAt, moving-length, moving-at}
-use Rattle.marks.proofs.Bits.{bits-length, and-at, not-at, no-bit, ones-at, word-ext, word-small, word-back, marks-back}
+use Rattle.base.proofs.Bits.{bits-length, and-at, not-at, no-bit, ones-at, word-ext, word-small, word-back, marks-back}
 use Rattle.marks.proofs.Searches.{ones-bits, count-cut, trailing-before, trailing-found}
 
 and-absorbs : (a b : Bool) → (a ≡ true → b ≡ true) → (a && b) ≡ a

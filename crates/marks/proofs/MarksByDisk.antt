@@ -16,7 +16,7 @@ use Rattle.layout.specs.Limits.{Grows}
 use Rattle.layout.specs.Windows.{rowExists, spotOfMark}
 use Rattle.layout.proofs.WindowsCode.{marks-most}
 use Rattle.marks.specs.Marks.{markCount, movingMarks}
-use Rattle.marks.specs.Words.{wordOf}
+use Rattle.base.specs.Bits.{wordOf}
 use Rattle.marks.proofs.MarkSets.{moving-length, moving-at}
 use Rattle.marks.proofs.MarkWords.{word-none, word-fits}
 

@@ -10,8 +10,8 @@ use lib.Dec.{eqb}
 use lib.ListN.{getD}
 use lib.Count.{ones, ones-step, trailingZeros, under}
 use Rattle.base.specs.Below.{count}
-use Rattle.marks.specs.Words.{bits}
-use Rattle.marks.proofs.Bits.{of-digit}
+use Rattle.base.specs.Bits.{bits}
+use Rattle.base.proofs.Bits.{of-digit}
 
 -- ---- ones
 

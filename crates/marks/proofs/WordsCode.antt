@@ -10,7 +10,7 @@ use lib.Dec.{eqb, lit<}
 use lib.ListN.{length, take, drop, set, replicate, take-append-drop}
 use lib.Pow.{shl-exact}
 use lib.Seq.{take-all, take-suc-set, drop-drop, drop-set-lt, append-snoc}
-use Rattle.marks.specs.Words.{bits}
+use Rattle.base.specs.Bits.{bits}
 
 -- ---- shifts
 

@@ -5,7 +5,8 @@ ghost use Prim.Native.Nat.{_+_, _-_, _^_, _<_, _≤_, min};
 ghost use lib.ListN.{getD, set};
 ghost use Rattle.layout.specs.Limits.{Grows, mostDisks, mostRows};
 ghost use Rattle.marks.specs.Marks.{within, movingMarks, difference};
-ghost use Rattle.marks.specs.Words.{marksOf, wordOf};
+ghost use Rattle.base.specs.Bits.{wordOf};
+ghost use Rattle.marks.specs.Words.{marksOf};
 
 // Are the marks of a all in b?
 pub fn is_within(a: usize, b: usize) -> bool

@@ -27,7 +27,7 @@ use Rattle.volume.proofs.Theorems.{volume-laws}
 use Rattle.promise.specs.Model.{noBlock, startTally, grownTally, withBlocks, copiedTally, nextWindowTally, finishedTally, recordedTally, restartedTally}
 use Rattle.promise.proofs.Tallies.{Running, Resting, Stage, running, resting}
 use Rattle.marks.specs.Words.{marksOf}
-use Rattle.marks.proofs.Bits.{bits-length}
+use Rattle.base.proofs.Bits.{bits-length}
 use Rattle.marks.proofs.MarkWords.{no-marks, marks-of-word}
 
 -- ---- marks, read as blocks

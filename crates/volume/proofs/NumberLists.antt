@@ -14,7 +14,7 @@ use Rattle.volume.specs.declared.Volume.{Volume}
 use Rattle.volume.specs.Records.{numbersOf, stateOf}
 use Rattle.volume.specs.States.{nonePending, withPending, newState, withGrowth}
 use Rattle.volume.proofs.RecordCode.{thirteen-listed, counts-listed}
-use Rattle.marks.specs.Words.{wordOf}
+use Rattle.base.specs.Bits.{wordOf}
 
 module _ (counts : List ℕ) (g w : ℕ) (e : length counts ≡ 8) where
   count-at : (k : ℕ) → k < 8 → getD (counts ++ (g ∷ w ∷ [])) k 0 ≡ getD counts k 0

@@ -31,7 +31,7 @@ use Rattle.volume.proofs.NumberLists.{numbers-each, state-back, numbers
 use Rattle.volume.proofs.RecordCode.{numbers-listed}
 use Rattle.volume.proofs.SoundLaws.{sound-facts, facts-sound}
 use Rattle.marks.specs.Words.{marksOf}
-use Rattle.marks.proofs.Bits.{bits-length}
+use Rattle.base.proofs.Bits.{bits-length}
 use Rattle.marks.proofs.MarkWords.{word-of-marks, marks-of-word}
 
 -- ---- a record can hold a sound state

@@ -32,8 +32,9 @@ use Rattle.volume.specs.States.{historyOf, disks, tallyOf, newState, wit
 use Rattle.volume.proofs.Accepted.{GrowFacts, format-accepted, restart-accepted, sector-accepted, grow-accepted}
 use Rattle.volume.proofs.RecordLaws.{read-sound}
 use Rattle.volume.proofs.SoundLaws.{SizeFacts, size-facts, from-one, sound-facts, some-old, facts-sound}
-use Rattle.marks.specs.Words.{marksOf, wordOf}
-use Rattle.marks.proofs.Bits.{bits-length}
+use Rattle.base.specs.Bits.{wordOf}
+use Rattle.marks.specs.Words.{marksOf}
+use Rattle.base.proofs.Bits.{bits-length}
 use Rattle.marks.proofs.MarkWords.{no-marks, marks-of-word, word-of-fits}
 
 -- ---- what is pending

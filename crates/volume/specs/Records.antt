@@ -5,7 +5,8 @@ use mathlib.Core.Bool.{Bool, _&&_}
 use mathlib.Core.List.{List, [], _∷_, _++_}
 use lib.Dec.{eqb}
 use lib.ListN.{take, drop, getD}
-use Rattle.marks.specs.Words.{marksOf, wordOf}
+use Rattle.base.specs.Bits.{wordOf}
+use Rattle.marks.specs.Words.{marksOf}
 use Rattle.record.specs.Sector.{sector, readRecord}
 use Rattle.volume.specs.declared.Volume.{Volume}
 use Rattle.volume.specs.States.{newState, withGrowth}

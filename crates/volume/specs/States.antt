@@ -8,7 +8,8 @@ use lib.ListN.{set, replicate}
 use Rattle.layout.specs.History.{history, diskCount}
 use Rattle.layout.specs.Tally.{Mode, notGrowing, growing, Tally, windowFull, lastWindow}
 use Rattle.layout.specs.Windows.{markOf, markedBlocks}
-use Rattle.marks.specs.Words.{marksOf, wordOf}
+use Rattle.base.specs.Bits.{wordOf}
+use Rattle.marks.specs.Words.{marksOf}
 use Rattle.medium.specs.declared.Geometry.{Geometry}
 use Rattle.medium.specs.Medium.{Store, noStore, recordStore, blockStore}
 use Rattle.volume.specs.declared.Pending.{Pending}

@@ -6,7 +6,7 @@ use Rattle.layout.specs.History.{history, diskCount, earlier, oldCount, addedCo
 use Rattle.layout.specs.Live.{atNewSpot, liveSpot}
 use Rattle.layout.specs.Tally.{openBlocks, recordedBy, movedBlocks, liveSpotOf, waiting, callsLeftOf, movesNow, rankNow, targetOf, nextBlock, windowFull, lastWindow}
 use Rattle.layout.specs.Windows.{windows, windowOfRow, markOfSpot, spotOfMark, rowExists, oldSpot, moving, windowOf, movingIn, markOf, blockOfMark, markedBlocks, partMoved, nextToCopy, areCopied, uncopied, callsLeft}
-use Rattle.marks.specs.Words.{bits, wordOf}
+use Rattle.base.specs.Bits.{bits, wordOf}
 use Rattle.marks.specs.Marks.{noMarks, within, movingMarks, atRest, inGrowth, zerosAfter}
 use Rattle.medium.specs.Medium.{place, bytesNeeded, observe, cutStore, alsoPending}
 use Rattle.record.specs.Decimal.{leading, decimal, blank, isDigit, columnStep, columnFold, readColumn}

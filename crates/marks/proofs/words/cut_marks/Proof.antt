@@ -5,7 +5,7 @@ use native.Mathlib.Nat.{mul-le-mul, zero-mul}
 use native.Mathlib.Omega.{arith}
 use borrow.Author.Needs.{needs}
 use lib.ListN.{drop}
-use Rattle.marks.specs.Words.{wordOf}
+use Rattle.base.specs.Bits.{wordOf}
 use Rattle.marks.specs.Marks.{movingMarks}
 use Rattle.marks.proofs.MarkSets.{moving-length}
 use Rattle.marks.proofs.MarkWords.{word-fits}

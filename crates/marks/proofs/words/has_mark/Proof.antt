@@ -1,7 +1,7 @@
 -- `has_mark` meets its contract. Assumes nothing.
 use mathlib.Core.Path.{sym}
 use borrow.Author.Needs.{needs}
-use Rattle.marks.proofs.Bits.{bit-at}
+use Rattle.base.proofs.Bits.{bit-at}
 use Rattle.marks.proofs.words.has_mark.Statement.{statement}
 use Rattle.marks.proofs.words.has_mark.Tie as tie
 

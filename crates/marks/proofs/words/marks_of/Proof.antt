@@ -5,7 +5,7 @@ use mathlib.Core.Bool.{false}
 use mathlib.Core.List.{_++_}
 use native.Mathlib.Omega.{arith}
 use lib.ListN.{length, take, drop, replicate, length-set}
-use Rattle.marks.specs.Words.{bits}
+use Rattle.base.specs.Bits.{bits}
 use Rattle.marks.proofs.WordsCode.{bits-next, bits-rest, still-unset, bits-all}
 use Rattle.marks.proofs.words.marks_of.Statement.{statement}
 use Rattle.marks.proofs.words.marks_of.Tie as tie

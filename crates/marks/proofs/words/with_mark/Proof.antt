@@ -4,8 +4,8 @@ use mathlib.Core.Path.{sym, ap, _∙_}
 use lib.Bits.{bitOr, or-lt}
 use lib.Pow.{pow-lt}
 use borrow.Author.Needs.{needs}
-use Rattle.marks.specs.Words.{wordOf}
-use Rattle.marks.proofs.Bits.{or-bit, word-back}
+use Rattle.base.specs.Bits.{wordOf}
+use Rattle.base.proofs.Bits.{or-bit, word-back}
 use Rattle.marks.proofs.WordsCode.{one-shl}
 use Rattle.marks.proofs.words.with_mark.Statement.{statement}
 use Rattle.marks.proofs.words.with_mark.Tie as tie

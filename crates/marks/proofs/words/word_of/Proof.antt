@@ -6,7 +6,7 @@ use mathlib.Core.Logic.{⊎-elim}
 use native.Mathlib.Omega.{arith}
 use lib.ListN.{length, drop, getD}
 use borrow.Author.Needs.{needs}
-use Rattle.marks.specs.Words.{wordOf}
+use Rattle.base.specs.Bits.{wordOf}
 use Rattle.marks.proofs.MarkWords.{word-none, word-fits, word-next}
 use Rattle.marks.proofs.words.word_of.Statement.{statement}
 use Rattle.marks.proofs.words.word_of.Tie as tie

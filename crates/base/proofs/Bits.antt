@@ -12,8 +12,8 @@ use lib.Seq.{ext-getD}
 use lib.Pow.{pow-pos, shr-shr}
 use lib.Bits.{bitAnd, bitOr, and-step, or-step, or-zero-r}
 use borrow.Author.Tests.{eqb-true, eqb-false, eq-eqb, ne-eqb, lt-ltb}
 use Rattle.base.proofs.Booleans.{cond-cases}
-use Rattle.marks.specs.Words.{bits, wordOf}
+use Rattle.base.specs.Bits.{bits, wordOf}
 
 -- ---- digits
 
