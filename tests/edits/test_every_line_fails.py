@@ -216,6 +216,14 @@ class EveryLineFails(unittest.TestCase):
         for path, text in zip(paths, [CODE, self.edited(ALL_WRONG)]):
             self.write(path, text)
 
+    def test_a_library_without_edits(self):
+        path = 'crates/small/src/lib.rt'
+        self.write(path, CODE.replace('pub(crate) fn tell', 'pub fn tell'))
+        self.assert_told(['tell: 0 wrong lines, and two are asked for'])
+        os.rmdir(os.path.join(self.root, 'crates/small/must-fail'))
+        self.assert_told(['tell: 0 wrong lines, and two are asked for'])
+        self.write(path, CODE)
+
     def test_an_edit_that_cannot_be_judged(self):
         self.assert_told(['it has no log'], never_run=ALL_WRONG)
         self.assert_told(['it changes code and definitions'], all_wrong=ALL_WRONG + DEFINITION)

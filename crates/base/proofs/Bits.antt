@@ -138,23 +138,23 @@ word-back (suc k) w h =
     let g : w < 2 * 2 ^ k = rw pow-succ' at h in
     rw (word-back k (w / 2) (omega (arith, g))) (bit-rest w)
 
-pub word-small : (marks : List Bool) → wordOf marks < 2 ^ length marks
+pub word-small : (list : List Bool) → wordOf list < 2 ^ length list
 unfolding wordOf
 word-small [] = omega arith
-word-small (true ∷ marks) = rw pow-succ' (omega (arith, word-small marks))
-word-small (false ∷ marks) = rw pow-succ' (omega (arith, word-small marks))
+word-small (true ∷ list) = rw pow-succ' (omega (arith, word-small list))
+word-small (false ∷ list) = rw pow-succ' (omega (arith, word-small list))
 
-pub marks-back : (marks : List Bool) → bits (length marks) (wordOf marks) ≡ marks
+pub bits-back : (list : List Bool) → bits (length list) (wordOf list) ≡ list
 unfolding bits wordOf
-marks-back [] = refl
-marks-back (true ∷ marks) =
-    let half : (1 + 2 * wordOf marks) / 2 ≡ wordOf marks = omega arith in
-    let odd : (1 + 2 * wordOf marks) % 2 ≡ 1 = omega arith in
-    rw (half, eq-eqb ((1 + 2 * wordOf marks) % 2) 1 odd, marks-back marks)
-marks-back (false ∷ marks) =
-    let half : (0 + 2 * wordOf marks) / 2 ≡ wordOf marks = omega arith in
-    let even : (0 + 2 * wordOf marks) % 2 ≡ 1 → ⊥ = λ e. omega arith in
-    rw (half, ne-eqb ((0 + 2 * wordOf marks) % 2) 1 even, marks-back marks)
+bits-back [] = refl
+bits-back (true ∷ list) =
+    let half : (1 + 2 * wordOf list) / 2 ≡ wordOf list = omega arith in
+    let odd : (1 + 2 * wordOf list) % 2 ≡ 1 = omega arith in
+    rw (half, eq-eqb ((1 + 2 * wordOf list) % 2) 1 odd, bits-back list)
+bits-back (false ∷ list) =
+    let half : (0 + 2 * wordOf list) / 2 ≡ wordOf list = omega arith in
+    let even : (0 + 2 * wordOf list) % 2 ≡ 1 → ⊥ = λ e. omega arith in
+    rw (half, ne-eqb ((0 + 2 * wordOf list) % 2) 1 even, bits-back list)
 
 -- words with the same bits are one
 pub word-ext : (k a b : ℕ) → a < 2 ^ k → b < 2 ^ k → ((j : ℕ) → j < k → getD (bits k a) j false ≡ getD (bits k b) j false) → a ≡ b

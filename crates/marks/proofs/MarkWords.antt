@@ -24,7 +24,7 @@ use Rattle.base.specs.Bits.{bits, wordOf}
 use Rattle.marks.specs.Words.{marksOf}
 use Rattle.marks.specs.Marks.{markCount, noMarks, within, movingMarks, difference, firstUnmarked}
 use Rattle.marks.proofs.MarkSets.{within-use, within-make, within-both, none-within, movingAt, moving-length, moving-at}
-use Rattle.base.proofs.Bits.{bits-length, and-at, not-at, no-bit, ones-at, word-ext, word-small, word-back, marks-back}
+use Rattle.base.proofs.Bits.{bits-length, and-at, not-at, no-bit, ones-at, word-ext, word-small, word-back, bits-back}
 use Rattle.marks.proofs.Searches.{ones-bits, count-cut, trailing-before, trailing-found}
 
 and-absorbs : (a b : Bool) → (a ≡ true → b ≡ true) → (a && b) ≡ a
@@ -112,7 +112,7 @@ whole-word m n s w h k l =
     ∙ sym (moving-at m n s w j i ∙ and-absorbs (ltb j (m * n)) (rowExists m n s w j) (λ e. row-there m n s w j h (ltb-true j (m * n) e) l)))
 
 pub cut-word : (m n s w r : ℕ) → r ≡ wordOf (movingMarks m n s w) → marksOf r ≡ movingMarks m n s w
-cut-word m n s w r e = ap marksOf e ∙ rw (moving-length m n s w) at (marks-back (movingMarks m n s w))
+cut-word m n s w r e = ap marksOf e ∙ rw (moving-length m n s w) at (bits-back (movingMarks m n s w))
 
 -- ---- what is left to copy
 
@@ -189,7 +189,7 @@ pub word-of-fits : (marks : List Bool) → length marks ≡ markCount → wordOf
 word-of-fits marks e = rw e at (word-small marks)
 
 pub marks-of-word : (marks : List Bool) → length marks ≡ markCount → marksOf (wordOf marks) ≡ marks
-marks-of-word marks e = rw e at (marks-back marks)
+marks-of-word marks e = rw e at (bits-back marks)
 
 pub word-of-marks : (a : ℕ) → a < 2 ^ 64 → wordOf (marksOf a) ≡ a
 word-of-marks a h = word-back 64 a h

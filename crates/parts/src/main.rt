@@ -1,17 +1,17 @@
 // Runs what no call reaches on cases, the blocks and windows of one growth, columns and records of every length and with every byte
 // changed, and writes a line for each. What it must write is in the file stdout. The cases of calls are in the crate `script`.
-// The lines are printed as they stand, but for a letter after `@`: that is a question, listed in the file play.rt. It is asked with
+// The lines are printed as they stand, but for a letter after `@`: that is a question, listed in the file cases.rt. It is asked with
 // the numbers before it in its line, a, b and c, and the answer is printed.
+mod cases;
 mod changes;
 mod columns;
-mod play;
 mod records;
 mod windows;
 
-use play::play;
+use cases::run_cases;
 
 fn growths() {
-    play(
+    run_cases(
         b"1. One growth: each block a head, body or tail that moves, one that stays, or added
 m 3, n 2, s 5: @L
 m 4, n 2, s 6: @L
@@ -52,7 +52,7 @@ m 3, n 2, s 1: @L
 
 fn main() {
     growths();
-    play(
+    run_cases(
         b"5. Columns: written and read back; then a blank one, damaged ones and ones of another length
 column of 0: [@C
 column of 9: [@C

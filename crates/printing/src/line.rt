@@ -19,22 +19,22 @@ pub fn new_line() -> Line {
     }
 }
 
-fn is_digit(byte: u8) -> bool {
+pub fn is_digit(byte: u8) -> bool {
     match byte {
         b'0'..=b'9' => true,
         _ => false,
     }
 }
 
-// The number n with a digit after it; n itself if it has more than ten.
-fn with_digit(n: usize, byte: u8) -> usize {
+// The number n with a digit after it; the largest number where that is too large.
+pub fn with_digit(n: usize, byte: u8) -> usize {
     if byte < b'0' {
         return n;
     }
-    if 9_999_999_999 < n {
-        return n;
+    if 1_844_674_407_370_955_160 < n {
+        return 18_446_744_073_709_551_615;
     }
-    n * 10 + (byte - b'0') as usize
+    n * 10 + ((byte - b'0') as usize) % 10
 }
 
 // The line with its next byte. A new one begins after its end and after 16 numbers.

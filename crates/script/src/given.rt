@@ -101,7 +101,8 @@ fn wanted(k: usize) -> usize {
 fn call_of(line: &[u8], count: usize) -> usize {
     let k = word_number(
         line,
-        b"format restart sector grow copy checkpoint advance flushed write saves read reads address holder addresses chart chart-of-record state medium cache record put bytes keep back ",
+        b"format restart sector grow copy checkpoint advance flushed write saves read reads address holder \
+addresses chart chart-of-record state medium cache record put bytes keep back ",
     );
     // Text may follow the number of `bytes`.
     if k == BYTES {

@@ -1,4 +1,6 @@
 // Lines: a word, then numbers.
+use printing::is_digit;
+use printing::with_digit;
 
 // A number of a line, and where it ends.
 struct NumberFound {
@@ -20,13 +22,6 @@ pub fn byte_at(line: &[u8], i: usize) -> u8 {
     line[i]
 }
 
-fn is_digit(b: u8) -> bool {
-    if b < b'0' {
-        return false;
-    }
-    b <= b'9'
-}
-
 // Where the line that starts at `from` ends.
 pub fn line_end(script: &[u8], from: usize) -> usize {
     let mut i = from;
@@ -39,10 +34,10 @@ pub fn line_end(script: &[u8], from: usize) -> usize {
     i
 }
 
-// Where the line behind that end starts.
-pub fn next_line(script: &[u8], end: usize) -> usize {
-    if script.len() <= end {
-        return script.len();
+// The place behind `end`, where a line or a number ends; at most the length.
+pub fn place_after(text: &[u8], end: usize) -> usize {
+    if text.len() <= end {
+        return text.len();
     }
     end + 1
 }
@@ -89,17 +84,6 @@ fn digit_at(line: &[u8], from: usize) -> usize {
     i
 }
 
-// A number with one more digit; the largest number where it is too large.
-fn with_digit(value: usize, b: u8) -> usize {
-    if b < b'0' {
-        return value;
-    }
-    if 1_844_674_407_370_955_160 < value {
-        return 18_446_744_073_709_551_615;
-    }
-    value * 10 + ((b - b'0') as usize) % 10
-}
-
 // The number whose digits start at `from`.
 fn number_at(line: &[u8], from: usize) -> NumberFound {
     let mut value = 0;
@@ -135,5 +119,5 @@ pub fn numbers_of(line: &[u8]) -> Numbers {
 // Where the text behind the first number starts, after a space.
 pub fn text_start(line: &[u8]) -> usize {
     let found = number_at(line, digit_at(line, 0));
-    next_line(line, found.end)
+    place_after(line, found.end)
 }

@@ -4,11 +4,12 @@
 mod answers;
 mod calls;
 mod charts;
+mod damage;
 mod given;
 mod lines;
 mod lookups;
-mod outside;
-mod play;
+mod run;
+mod script;
 mod states;
 
 use printing::text;
@@ -20,5 +21,5 @@ fn main() {
         text(b"at most 65,535 bytes are read\n");
         return;
     }
-    play::play(&space[..got]);
+    script::run_script(&space[..got]);
 }

@@ -1,59 +1,10 @@
 // States as sixteen numbers, in the order of the C header: Z, s, t, N[0] to N[7], growing, w, the recorded and the copied marks, each as a
 // word, and what is pending, 1 for a record and 2 for blocks.
+use super::lines::numbers_of;
 use printing::number;
-use printing::number_bytes;
 use printing::text;
 use volume::Pending;
 use volume::Volume;
-
-// The state, the medium, how many of its bytes are lent to a call, a medium that was kept, and whether the drives have a write cache: where
-// they have none, flushed is called after each call.
-pub struct Run {
-    pub v: Volume,
-    pub lent: usize,
-    pub cached: bool,
-    pub medium: [u8; 18_432],
-    pub kept: [u8; 18_432],
-}
-
-// The state of zeros, a medium whose byte k holds k % 251, all of it lent, and a write cache.
-pub fn start() -> Run {
-    let v = Volume::zeros();
-    let kept = [0u8; 18_432];
-    let mut medium = [0u8; 18_432];
-    number_bytes(&mut medium);
-    Run {
-        v,
-        lent: 18_432,
-        cached: true,
-        medium,
-        kept,
-    }
-}
-
-pub fn with_state(run: Run, v: Volume) -> Run {
-    let medium = run.medium;
-    let kept = run.kept;
-    Run {
-        v,
-        lent: run.lent,
-        cached: run.cached,
-        medium,
-        kept,
-    }
-}
-
-pub fn with_medium(run: Run, medium: [u8; 18_432]) -> Run {
-    let v = run.v;
-    let kept = run.kept;
-    Run {
-        v,
-        lent: run.lent,
-        cached: run.cached,
-        medium,
-        kept,
-    }
-}
 
 fn pending_of(word: usize) -> Pending {
     Pending {
@@ -70,7 +21,7 @@ fn pending_word(pending: Pending) -> usize {
 }
 
 pub fn state_of(line: &[u8]) -> Volume {
-    let numbers = super::lines::numbers_of(line);
+    let numbers = numbers_of(line);
     let list = numbers.list;
     let counts = [
         list[3],
@@ -96,7 +47,7 @@ pub fn state_of(line: &[u8]) -> Volume {
     }
 }
 
-fn numbers_of(v: Volume) -> [usize; 16] {
+fn state_numbers(v: Volume) -> [usize; 16] {
     let c = v.counts;
     let pending = pending_word(v.pending);
     [
@@ -155,8 +106,8 @@ fn show_numbers(words: &[u8], list: [usize; 16]) {
 
 // The state after a call, if it is another one than before.
 pub fn show_change(before: Volume, after: Volume) {
-    let numbers = numbers_of(after);
-    if same_numbers(numbers_of(before), numbers) {
+    let numbers = state_numbers(after);
+    if same_numbers(state_numbers(before), numbers) {
         return;
     }
     show_numbers(

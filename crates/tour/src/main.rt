@@ -1,17 +1,17 @@
 // One rack through its life, printed for a person. What it must write is in the file stdout. The story is printed as it stands,
-// but for a letter after `@`: that is a call, listed in the files play.rt and rack.rt. It is made with the numbers before it in its
+// but for a letter after `@`: that is a call, listed in the files story.rt and rack.rt. It is made with the numbers before it in its
 // line, a, b and c, and its answer is printed.
 mod pictures;
-mod play;
 mod rack;
+mod story;
 mod words;
 
-use play::play;
 use rack::Rack;
 use rack::empty;
+use story::tell;
 
 fn three_disks(rack: Rack) -> Rack {
-    play(
+    tell(
         rack,
         b"ONE RACK THROUGH ITS LIFE
 \nThe volume keeps a picture in each block. A block lives at a spot: a row of a disk.
@@ -38,7 +38,7 @@ Indented lines are calls with their answers; these calls of flushed have no line
 }
 
 fn first_growth(rack: Rack) -> Rack {
-    play(
+    tell(
         rack,
         b"\n2. GROWTH 1 BEGINS: FROM 3 DISKS TO 5
   grow to 5 disks: @G
@@ -73,7 +73,7 @@ The last of the 5 calls that were reported finished the growth.
 }
 
 fn second_growth(rack: Rack) -> Rack {
-    play(
+    tell(
         rack,
         b"The blocks that growth 1 added are open now, 15 to 24.
   write picture 1 of each open block from 15 on: done @E times
@@ -110,7 +110,7 @@ fn main() {
     let three = three_disks(empty());
     let five = first_growth(three);
     let six = second_growth(five);
-    play(
+    tell(
         six,
         b"\n6. DRIVES WITH A WRITE CACHE
 @DNew drives may keep stores in a cache and land them in any order. A flush lands them all.

@@ -16,7 +16,7 @@ use Rattle.promise.specs.Lists.{Event, runs, cut, System, up, down, drivesOf, m
 use Rattle.promise.specs.Model.{Model, startModel, nothingPending, modelled}
 use Rattle.promise.specs.Promise.{Start, begin, modelOf}
 use Rattle.worked.specs.WrongPrograms.{Act}
-use Rattle.worked.proofs.Decisions.{Decides, holds, fails, passed, failed, both, implies, same-number, isEmpty, is-empty, isNothing, is-nothing}
+use Rattle.worked.proofs.Reflects.{Reflects, holds, fails, passed, failed, both, implies, same-number, isEmpty, is-empty, isNothing, is-nothing}
 use Rattle.worked.proofs.FasterCalls.{cutsApplied, cuts-same, mediumSeen, seen-same, isRestart, is-restart, faster, OurRestart, faster-same}
 
 -- ---- whether an event may come, as a test
@@ -30,7 +30,7 @@ mayLeave (blockStore p stored) (tornBlock bytes) = eqb (length bytes) (length st
 mayLeave (blockStore p stored) oldRecord = false
 mayLeave (blockStore p stored) newRecord = false
 
-may-leave : (s : Store) (l : AfterCut) → Decides (MayLeave s l) (mayLeave s l)
+may-leave : (s : Store) (l : AfterCut) → Reflects (MayLeave s l) (mayLeave s l)
 unfolding mayLeave MayLeave
 may-leave noStore l = fails (λ e. e)
 may-leave (recordStore sector) (tornBlock bytes) = fails (λ e. e)
@@ -46,7 +46,7 @@ eachMayLeave [] (l ∷ left) = false
 eachMayLeave (s ∷ stores) [] = false
 eachMayLeave (s ∷ stores) (l ∷ left) = mayLeave (s .store) l && eachMayLeave stores left
 
-each-may-leave : (stores : List Placed) (left : List AfterCut) → Decides (EachMayLeave stores left) (eachMayLeave stores left)
+each-may-leave : (stores : List Placed) (left : List AfterCut) → Reflects (EachMayLeave stores left) (eachMayLeave stores left)
 unfolding eachMayLeave EachMayLeave
 each-may-leave [] [] = holds tt
 each-may-leave [] (l ∷ left) = fails (λ e. e)
@@ -63,12 +63,12 @@ mayCut c (up v d) stores left = eachMayLeave stores left
 mayCut c (down m) stores left = isNothing c && isEmpty left
 
 module _ (calls : (c : Call) → Act) where
-  may-run : (c : Call) (s : System) → Decides (Allowed calls s (runs c)) (mayRun c s)
+  may-run : (c : Call) (s : System) → Reflects (Allowed calls s (runs c)) (mayRun c s)
   unfolding mayRun Allowed
   may-run c (up v d) = implies (is-restart c) (is-empty (d .pending))
   may-run c (down m) = is-restart c
 
-  may-cut : (c : Option Call) (s : System) (left : List AfterCut) → Decides (Allowed calls s (cut c left)) (mayCut c s (storesAt calls c s) left)
+  may-cut : (c : Option Call) (s : System) (left : List AfterCut) → Reflects (Allowed calls s (cut c left)) (mayCut c s (storesAt calls c s) left)
   unfolding mayCut Allowed
   may-cut c (up v d) left = each-may-leave (storesAt calls c (up v d)) left
   may-cut c (down m) left = both (is-nothing c) (is-empty left)
@@ -142,7 +142,7 @@ module _ (calls : (c : Call) → Act) {X : Type 0} (hear : (out : Outcome) (befo
   heard-same s (cut c left ∷ es) before =
       ap (λ (t : System). computed t es before .heard) (cut-same calls c left s) ∙ heard-same (after calls s (cut c left)) es before
 
-  is-lawful : (s : System) (es : List Event) (before : X) → Decides (Lawful calls s es) (computed s es before .lawful)
+  is-lawful : (s : System) (es : List Event) (before : X) → Reflects (Lawful calls s es) (computed s es before .lawful)
   unfolding computed Lawful
   is-lawful s [] before = holds tt
   is-lawful s (runs c ∷ es) before = rw (run-same calls c s) (both (may-run calls c s) (is-lawful (after calls s (runs c)) es _))

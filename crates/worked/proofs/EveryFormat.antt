@@ -30,7 +30,7 @@ use Rattle.promise.proofs.EventSteps.{flushed-pending, flushed-live, settling-a
 use Rattle.promise.proofs.Steps.{Up}
 use Rattle.promise.proofs.Theorem.{startGeometry, start, block-open, piece-whole}
 use Rattle.worked.specs.Worked.{workedStart, unlawful, earlyCut, NoneLawful, NotEmpty}
-use Rattle.worked.proofs.Decisions.{failed}
+use Rattle.worked.proofs.Reflects.{failed}
 use Rattle.worked.proofs.FasterCalls.{is-restart, faster}
 use Rattle.worked.proofs.Computed.{computed, not-lawful}
 use Rattle.worked.proofs.Computing.{computing}

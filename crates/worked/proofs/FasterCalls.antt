@@ -25,7 +25,7 @@ use Rattle.promise.proofs.Consistent.{consistent-restarted}
 use Rattle.promise.proofs.StateTallies.{tally-restarted}
 use Rattle.promise.proofs.Steps.{restart-found}
 use Rattle.worked.specs.WrongPrograms.{Act}
-use Rattle.worked.proofs.Decisions.{Decides, holds, fails, passed}
+use Rattle.worked.proofs.Reflects.{Reflects, holds, fails, passed}
 
 -- ---- stores, in one walk
 
@@ -142,7 +142,7 @@ isRestart (read x piece) = false
 isRestart restart = true
 isRestart flushed = false
 
-pub is-restart : (c : Call) → Decides (c ≡ restart) (isRestart c)
+pub is-restart : (c : Call) → Reflects (c ≡ restart) (isRestart c)
 is-restart (grow count) = fails (λ e. false≢true (ap isRestart e))
 is-restart (copy x) = fails (λ e. false≢true (ap isRestart e))
 is-restart checkpoint = fails (λ e. false≢true (ap isRestart e))

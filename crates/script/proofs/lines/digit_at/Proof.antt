@@ -4,7 +4,7 @@ use lib.ListN.{length}
 use borrow.Author.Needs.{needs}
 use Rattle.script.proofs.lines.digit_at.Statement.{statement}
 use Rattle.script.proofs.lines.digit_at.Tie as tie
-use Rattle.script.proofs.lines.is_digit.Reads as is-digit-reads
+use Rattle.printing.proofs.is_digit.Reads as is-digit-reads
 
 abbrev Inv-loop : tie.InvT-loop
 Inv-loop line from after-space₀ i₀ after-space i = from ≤ i

@@ -4,8 +4,8 @@ use lib.ListN.{length}
 use borrow.Author.Needs.{needs}
 use Rattle.script.proofs.lines.number_at.Statement.{statement}
 use Rattle.script.proofs.lines.number_at.Tie as tie
-use Rattle.script.proofs.lines.is_digit.Reads as is-digit-reads
-use Rattle.script.proofs.lines.with_digit.Reads as with-digit-reads
+use Rattle.printing.proofs.is_digit.Reads as is-digit-reads
+use Rattle.printing.proofs.with_digit.Reads as with-digit-reads
 
 abbrev Inv-loop : tie.InvT-loop
 Inv-loop line from value₀ i₀ value i = from ≤ i

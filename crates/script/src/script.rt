@@ -5,6 +5,10 @@ use super::calls::reads;
 use super::calls::saves;
 use super::calls::write;
 use super::charts::chart;
+use super::damage::put;
+use super::damage::put_back;
+use super::damage::put_record;
+use super::damage::put_text;
 use super::given::ADDRESS;
 use super::given::ADDRESSES;
 use super::given::BACK;
@@ -26,22 +30,18 @@ use super::given::WRITE;
 use super::given::given_by;
 use super::lines::byte_at;
 use super::lines::line_end;
-use super::lines::next_line;
+use super::lines::place_after;
 use super::lookups::address;
 use super::lookups::addresses;
 use super::lookups::holder;
-use super::outside::keep;
-use super::outside::put;
-use super::outside::put_back;
-use super::outside::put_record;
-use super::outside::put_text;
-use super::outside::with_cache;
-use super::outside::with_lent;
-use super::states::Run;
+use super::run::Run;
+use super::run::keep;
+use super::run::start;
+use super::run::with_cache;
+use super::run::with_lent;
+use super::run::with_state;
 use super::states::show_change;
-use super::states::start;
 use super::states::state_of;
-use super::states::with_state;
 use printing::first_changed;
 use printing::labelled;
 use printing::last_changed;
@@ -109,7 +109,7 @@ fn set(run: Run, line: &[u8], given: Given) -> Run {
     }
 }
 
-fn play_given(run: Run, line: &[u8], given: Given) -> Run {
+fn run_given(run: Run, line: &[u8], given: Given) -> Run {
     let call = given.call;
     if call < WRITE {
         return make(run, given);
@@ -150,13 +150,13 @@ fn is_shown_alone(line: &[u8]) -> bool {
     byte_at(line, 0) == b'#'
 }
 
-fn play_line(run: Run, line: &[u8]) -> Run {
+fn run_line(run: Run, line: &[u8]) -> Run {
     text(line);
     if is_shown_alone(line) {
         text(b"\n");
         return run;
     }
-    let next = play_given(run, line, given_by(line));
+    let next = run_given(run, line, given_by(line));
     show_change(run.v, next.v);
     let before = run.medium;
     let after = next.medium;
@@ -164,16 +164,16 @@ fn play_line(run: Run, line: &[u8]) -> Run {
     next
 }
 
-pub fn play(script: &[u8]) {
+pub fn run_script(script: &[u8]) {
     let mut run = start();
     let mut at = 0;
     while at < script.len() {
         let end = line_end(script, at);
-        let next = next_line(script, end);
+        let next = place_after(script, end);
         if next <= at {
             return;
         }
-        run = play_line(run, line_of(script, at, end));
+        run = run_line(run, line_of(script, at, end));
         at = next;
     }
 }

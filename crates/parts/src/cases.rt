@@ -83,7 +83,7 @@ fn step(before: &[u8], byte: u8, line: Line, page: [u8; 520]) {
     }
 }
 
-pub fn play(lines: &[u8]) {
+pub fn run_cases(lines: &[u8]) {
     let page = worked();
     let mut line = new_line();
     let mut at = 0;

@@ -114,7 +114,7 @@ fn step(rack: Rack, line: Line, byte: u8) -> Rack {
     rack
 }
 
-pub fn play(rack: Rack, story: &[u8]) -> Rack {
+pub fn tell(rack: Rack, story: &[u8]) -> Rack {
     let mut now = rack;
     let mut line = new_line();
     let mut at = 0;

@@ -1,9 +1,9 @@
--- `play` meets its contract. Assumes nothing.
+-- `run_cases` meets its contract. Assumes nothing.
 use Prim.Native.Nat.{_-_, _≤_}
 use lib.ListN.{length}
 use borrow.Author.Needs.{needs}
-use Rattle.parts.proofs.play.play.Statement.{statement}
-use Rattle.parts.proofs.play.play.Tie as tie
+use Rattle.parts.proofs.cases.run_cases.Statement.{statement}
+use Rattle.parts.proofs.cases.run_cases.Tie as tie
 
 abbrev Inv-loop : tie.InvT-loop
 Inv-loop lines page line₀ at₀ line at = at ≤ length lines
@@ -50,8 +50,8 @@ loop-again c = search needs
 returns : tie.Need-returns Inv-loop μ-loop
 returns c = search needs
 
-pub play-spec : {M : Type 1} → statement M
-play-spec =
+pub run-cases-spec : {M : Type 1} → statement M
+run-cases-spec =
     tie.close
     (tie.spec
     Inv-loop

@@ -4,8 +4,8 @@ use mathlib.Core.Path.{_≡_}
 use lib.ListN.{length}
 use mathlib.Core.Logic.{⊎-elim}
 use borrow.Author.Needs.{needs}
-use Rattle.tour.proofs.play.write_each.Statement.{statement}
-use Rattle.tour.proofs.play.write_each.Tie as tie
+use Rattle.tour.proofs.story.write_each.Statement.{statement}
+use Rattle.tour.proofs.story.write_each.Tie as tie
 
 abbrev Inv-loop : tie.InvT-loop
 Inv-loop last₀ now₀ total₀ x₀ last now total x = (length now ≡ 8) × (total ≤ x)

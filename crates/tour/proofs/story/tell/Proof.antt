@@ -1,9 +1,9 @@
--- `play` meets its contract. Assumes nothing.
+-- `tell` meets its contract. Assumes nothing.
 use Prim.Native.Nat.{_-_, _≤_}
 use lib.ListN.{length}
 use borrow.Author.Needs.{needs}
-use Rattle.tour.proofs.play.play.Statement.{statement}
-use Rattle.tour.proofs.play.play.Tie as tie
+use Rattle.tour.proofs.story.tell.Statement.{statement}
+use Rattle.tour.proofs.story.tell.Tie as tie
 
 abbrev Inv-loop : tie.InvT-loop
 Inv-loop story now₀ line₀ at₀ now line at = at ≤ length story
@@ -38,8 +38,8 @@ loop-again c = search needs
 returns : tie.Need-returns Inv-loop μ-loop
 returns c = search needs
 
-pub play-spec : {M : Type 1} → statement M
-play-spec =
+pub tell-spec : {M : Type 1} → statement M
+tell-spec =
     tie.close
     (tie.spec
     Inv-loop

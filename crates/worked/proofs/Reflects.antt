@@ -1,4 +1,4 @@
--- Tests that decide a claim. Assumes nothing.
+-- Tests that reflect a claim. Assumes nothing.
 use Prim.Native.Nat.{ℕ}
 use mathlib.Core.Bool.{Bool, true, false, not, _&&_, _||_, true≢false, false≢true}
 use mathlib.Core.List.{List, [], _∷_}
@@ -8,32 +8,32 @@ use lib.Dec.{eqb}
 use borrow.Author.Tests.{eqb-true, eqb-false}
 
 -- the claim holds and the test passes, or neither
-pub data Decides (P : Type 0) : Bool → Type 0 where
-  holds : P → Decides P true
-  fails : (P → ⊥) → Decides P false
+pub data Reflects (P : Type 0) : Bool → Type 0 where
+  holds : P → Reflects P true
+  fails : (P → ⊥) → Reflects P false
 
-pub passed : {P : Type 0} {test : Bool} → Decides P test → test ≡ true → P
+pub passed : {P : Type 0} {test : Bool} → Reflects P test → test ≡ true → P
 passed (holds p) e = p
 passed (fails f) e = absurd (false≢true e)
 
-pub failed : {P : Type 0} {test : Bool} → Decides P test → test ≡ false → P → ⊥
+pub failed : {P : Type 0} {test : Bool} → Reflects P test → test ≡ false → P → ⊥
 failed (holds p) e = absurd (true≢false e)
 failed (fails f) e = f
 
-pub both : {P Q : Type 0} {a b : Bool} → Decides P a → Decides Q b → Decides (P × Q) (a && b)
+pub both : {P Q : Type 0} {a b : Bool} → Reflects P a → Reflects Q b → Reflects (P × Q) (a && b)
 both (holds p) (holds q) = holds (p, q)
 both (holds p) (fails g) = fails (λ r. g (r .1))
 both (fails f) d = fails (λ r. f (r .0))
 
-pub implies : {P Q : Type 0} {a b : Bool} → Decides P a → Decides Q b → Decides (P → Q) (not a || b)
+pub implies : {P Q : Type 0} {a b : Bool} → Reflects P a → Reflects Q b → Reflects (P → Q) (not a || b)
 implies (holds p) (holds q) = holds (λ _. q)
 implies (holds p) (fails g) = fails (λ h. g (h p))
 implies (fails f) d = holds (λ p. absurd (f p))
 
-pub same-number : (a b : ℕ) → Decides (a ≡ b) (eqb a b)
+pub same-number : (a b : ℕ) → Reflects (a ≡ b) (eqb a b)
 same-number a b = go (eqb a b) refl
   where
-    go : (test : Bool) → eqb a b ≡ test → Decides (a ≡ b) test
+    go : (test : Bool) → eqb a b ≡ test → Reflects (a ≡ b) test
     go true e = holds (eqb-true a b e)
     go false e = fails (eqb-false a b e)
 
@@ -41,7 +41,7 @@ abbrev pub isEmpty : {A : Type 0} (l : List A) → Bool
 isEmpty [] = true
 isEmpty (x ∷ l) = false
 
-pub is-empty : {A : Type 0} (l : List A) → Decides (l ≡ []) (isEmpty l)
+pub is-empty : {A : Type 0} (l : List A) → Reflects (l ≡ []) (isEmpty l)
 is-empty [] = holds refl
 is-empty (x ∷ l) = fails (λ e. false≢true (ap isEmpty e))
 
@@ -49,6 +49,6 @@ abbrev pub isNothing : {A : Type 0} (o : Option A) → Bool
 isNothing none = true
 isNothing (some x) = false
 
-pub is-nothing : {A : Type 0} (o : Option A) → Decides (o ≡ none) (isNothing o)
+pub is-nothing : {A : Type 0} (o : Option A) → Reflects (o ≡ none) (isNothing o)
 is-nothing none = holds refl
 is-nothing (some x) = fails (λ e. false≢true (ap isNothing e))

@@ -1,10 +1,9 @@
-// What changes the run from outside: other bytes on the medium, as a power cut or a damage leaves them, and what is lent.
+// Other bytes on the medium, as a power cut or a damage leaves them.
 use super::given::Given;
 use super::lines::text_start;
-use super::states::Run;
-use super::states::with_medium;
+use super::run::Run;
+use super::run::with_medium;
 use printing::put_bytes;
-use printing::text;
 
 // Puts so many times one byte on the medium; nothing if they do not fit.
 pub fn put(run: Run, given: Given) -> Run {
@@ -58,19 +57,6 @@ pub fn put_record(run: Run) -> Run {
     with_medium(run, medium)
 }
 
-// Keeps the medium as it is.
-pub fn keep(run: Run) -> Run {
-    let v = run.v;
-    let medium = run.medium;
-    Run {
-        v,
-        lent: run.lent,
-        cached: run.cached,
-        medium,
-        kept: medium,
-    }
-}
-
 fn copy_back(medium: &mut [u8], kept: &[u8], at: usize, count: usize) {
     if kept.len() < count {
         return;
@@ -88,36 +74,4 @@ pub fn put_back(run: Run, at: usize, count: usize) -> Run {
     let mut medium = run.medium;
     copy_back(&mut medium, &kept, at, count);
     with_medium(run, medium)
-}
-
-// Lends so many bytes of the medium from now on.
-pub fn with_lent(run: Run, lent: usize) -> Run {
-    if 18_432 < lent {
-        text(b": the medium has at most 18,432 bytes");
-        return run;
-    }
-    let v = run.v;
-    let medium = run.medium;
-    let kept = run.kept;
-    Run {
-        v,
-        lent,
-        cached: run.cached,
-        medium,
-        kept,
-    }
-}
-
-// Drives with a write cache from now on, or, for 0, without.
-pub fn with_cache(run: Run, cache: usize) -> Run {
-    let v = run.v;
-    let medium = run.medium;
-    let kept = run.kept;
-    Run {
-        v,
-        lent: run.lent,
-        cached: cache != 0,
-        medium,
-        kept,
-    }
 }
