@@ -1,4 +1,4 @@
--- Laws of the bits of a word: and, or, complement, a single bit, ones, and the conversions to and from lists of tests. Assumes nothing.
+-- Laws of the bits of a word: and, or, complement, a single bit, ones, and the conversions to and from lists of tests.
 use Prim.Native.Nat.{ℕ, zero, suc, _+_, _-_, _*_, _/_, _%_, _^_, _<_, min, max}
 use mathlib.Core.Path.{_≡_, refl, sym, ap, _∙_}
 use mathlib.Core.Bool.{Bool, true, false, cond, not, _&&_}

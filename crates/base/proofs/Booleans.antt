@@ -1,4 +1,4 @@
--- Laws of tests and of a choice by a test. Assumes nothing.
+-- Laws of tests and of a choice by a test.
 use Prim.Native.Nat.{ℕ, _<_}
 use mathlib.Core.Path.{_≡_, refl, sym, _∙_}
 use mathlib.Core.Bool.{Bool, true, false, cond, _&&_, _||_, true≢false, false≢true}

@@ -1,4 +1,4 @@
--- Laws of `count`, `every` and `sum`. Assumes nothing.
+-- Laws of `count`, `every` and `sum`.
 use Prim.Native.Nat.{ℕ, zero, suc, _+_, _-_, _*_, _/_, _%_, _≤_, _<_, min}
 use mathlib.Core.Path.{_≡_, refl, sym, _∙_, ap}
 use mathlib.Core.Bool.{Bool, true, false, cond, not, _&&_, and-true, and-false}

@@ -1,4 +1,4 @@
--- Laws of lists: runs of elements stored (`sets` of the library), parts, tables, and lists joined. Assumes nothing.
+-- Laws of lists: runs of elements stored (`sets` of the library), parts, tables, and lists joined.
 use Prim.Native.Nat.{ℕ, zero, suc, _+_, _-_, _*_, _≤_, _<_}
 use mathlib.Core.Path.{_≡_, refl, sym, ap, _∙_}
 use mathlib.Core.List.{List, [], _∷_, _++_, append-nil, append-assoc}

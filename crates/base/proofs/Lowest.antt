@@ -1,4 +1,4 @@
--- Laws of `first` and `lowest`. Assumes nothing.
+-- Laws of `first` and `lowest`.
 use Prim.Native.Nat.{ℕ, zero, suc, _≤_, _<_}
 use mathlib.Core.Path.{_≡_, refl, ap, _∙_, subst}
 use mathlib.Core.Bool.{Bool, true, false, cond}

@@ -1,4 +1,4 @@
--- Laws of tables of refusals. Assumes nothing.
+-- Laws of tables of refusals.
 use Prim.Native.Nat.{ℕ, _<_}
 use mathlib.Core.Path.{_≡_, refl}
 use mathlib.Core.Bool.{Bool, true, false, not}

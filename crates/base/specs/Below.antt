@@ -1,5 +1,5 @@
 -- Numbers below a bound: how many pass a test, whether all do, the first and the lowest in rank that does, a sum over them, the list
--- of a function's values at them, and lists joined. Assumes nothing.
+-- of a function's values at them, and lists joined.
 use Prim.Native.Nat.{ℕ, zero, suc, _+_}
 use mathlib.Core.Bool.{Bool, true, cond, _&&_}
 use mathlib.Core.List.{List, [], _∷_, _++_}

@@ -1,4 +1,4 @@
--- The bits of a word, lowest first. Assumes nothing.
+-- The bits of a word, lowest first.
 use Prim.Native.Nat.{ℕ, zero, suc, _+_, _*_, _/_, _%_}
 use mathlib.Core.Bool.{Bool, cond}
 use mathlib.Core.List.{List, [], _∷_}

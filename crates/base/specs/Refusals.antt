@@ -1,5 +1,4 @@
 -- Document 01, "Calls": "Checks come in the order written." A table of refusals is a list of numbers, each with its test.
--- Assumes nothing.
 use Prim.Native.Nat.{ℕ}
 use mathlib.Core.Bool.{Bool, cond}
 use mathlib.Core.List.{List, [], _∷_}

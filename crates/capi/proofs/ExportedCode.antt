@@ -1,4 +1,4 @@
--- What the code of the exported functions needs: the tests of the lengths, and what load puts and leaves. Assumes nothing.
+-- What the code of the exported functions needs: the tests of the lengths, and what load puts and leaves.
 use Prim.Native.Nat.{ℕ}
 use mathlib.Core.Path.{_≡_, refl, sym, ap, _∙_}
 use mathlib.Core.Bool.{Bool, true, false, cond, not}

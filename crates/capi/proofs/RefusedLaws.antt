@@ -1,5 +1,5 @@
 -- What the exported functions leave: no call has the number of a wrong length, and a refused call leaves the words as they were, zeros as
--- figures and nothing stored. Assumes nothing.
+-- figures and nothing stored.
 use Prim.Native.Nat.{ℕ, _<_}
 use mathlib.Core.Path.{_≡_, refl, ap, _∙_}
 use mathlib.Core.Bool.{Bool, true, false, cond, _&&_, false≢true}

@@ -1,4 +1,4 @@
--- The laws of words and of the exported functions: `capi-laws` proves all of `CapiLaws` in `specs/Laws.antt`. Assumes nothing.
+-- The laws of words and of the exported functions: `capi-laws` proves all of `CapiLaws` in `specs/Laws.antt`.
 use Rattle.capi.specs.Laws.{CapiLaws}
 use Rattle.capi.proofs.RefusedLaws.{format-number, restart-number, grow-number, copy-number, checkpoint-number, advance-number, write-number, read-number, flushed-number, address-number, holder-number, load-number, grow-refused, copy-refused, checkpoint-refused, advance-refused, format-refused, restart-refused, address-refused, holder-refused, load-refused, write-refused, flushed-refused, write-keeps, flushed-keeps, read-keeps}
 use Rattle.capi.proofs.WordLaws.{words-count, state-back, state-arrays, words-back}

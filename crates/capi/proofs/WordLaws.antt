@@ -1,4 +1,4 @@
--- The words of a state and the state of words: both conversions give back what they were given. Assumes nothing.
+-- The words of a state and the state of words: both conversions give back what they were given.
 use Prim.Native.Nat.{ℕ, zero, suc, _+_, _/_, _%_, _≤_}
 use mathlib.Core.Path.{_≡_, refl, sym, ap}
 use mathlib.Core.Bool.{Bool, true, false, cond}

@@ -1,4 +1,4 @@
--- What the code of the words needs besides: lists of numbers written out one by one, and a slice stored number by number. Assumes nothing.
+-- What the code of the words needs besides: lists of numbers written out one by one, and a slice stored number by number.
 use Prim.Native.Nat.{ℕ, _+_, _≤_, _<_}
 use mathlib.Core.Path.{_≡_, sym, _∙_}
 use mathlib.Core.List.{List, [], _∷_}

@@ -1,5 +1,5 @@
 -- What each exported function leaves: the number that it returns, the lent words of the state, the lent figures, its store and the lent
--- piece. It is the volume's own outcome, or `scene_load`'s, of the state that the words hold. Assumes nothing.
+-- piece. It is the volume's own outcome, or `scene_load`'s, of the state that the words hold.
 use Prim.Native.Nat.{ℕ}
 use mathlib.Core.Bool.{Bool, cond, _&&_}
 use mathlib.Core.List.{List, []}

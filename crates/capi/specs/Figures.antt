@@ -1,4 +1,4 @@
--- The figures beside an answer's number, as lists of numbers. "A refusal has 0 for every figure beside its number." Assumes nothing.
+-- The figures beside an answer's number, as lists of numbers. "A refusal has 0 for every figure beside its number."
 use Prim.Native.Nat.{ℕ}
 use mathlib.Core.List.{List, [], _∷_}
 use Rattle.layout.specs.declared.Part.{Part}

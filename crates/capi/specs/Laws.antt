@@ -1,4 +1,4 @@
--- What is proved of the words of a state and of the exported functions: `CapiLaws`. `proofs/Theorems.antt` has the proof. Assumes nothing.
+-- What is proved of the words of a state and of the exported functions: `CapiLaws`. `proofs/Theorems.antt` has the proof.
 use Prim.Native.Nat.{ℕ, _≤_}
 use mathlib.Core.Path.{_≡_}
 use mathlib.Core.Bool.{true}

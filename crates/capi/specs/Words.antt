@@ -1,5 +1,5 @@
 -- The state in sixteen words, as it crosses to programs in other languages: Z, s, t, N[0] to N[7], growing, w, the recorded marks, the
--- copied marks, and what is pending. A word of marks has mark j as its bit j. Assumes nothing.
+-- copied marks, and what is pending. A word of marks has mark j as its bit j.
 use Prim.Native.Nat.{ℕ, _+_, _/_, _%_}
 use mathlib.Core.Bool.{Bool, cond, _&&_}
 use mathlib.Core.List.{List, [], _∷_, _++_}

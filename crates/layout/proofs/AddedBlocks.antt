@@ -1,4 +1,4 @@
--- Which spots have a block that the newest growth, from m disks to c, added, no growth running. Assumes nothing.
+-- Which spots have a block that the newest growth, from m disks to c, added, no growth running.
 use Prim.Native.Nat.{ℕ, _+_, _-_, _*_, _/_, _%_, _≤_, _<_}
 use mathlib.Core.Path.{_≡_, sym, _∙_, ap, subst}
 use mathlib.Core.Bool.{Bool, true, false, true≢false}

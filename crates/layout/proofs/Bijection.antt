@@ -1,4 +1,4 @@
--- Blocks and spots are one to one, for every history whose counts rise. Assumes nothing.
+-- Blocks and spots are one to one, for every history whose counts rise.
 use Prim.Native.Nat.{ℕ, _+_, _-_, _*_, _<_}
 use mathlib.Core.Path.{_≡_, sym, _∙_, ap, subst}
 use mathlib.Core.Bool.{true}

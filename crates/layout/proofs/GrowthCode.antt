@@ -1,4 +1,4 @@
--- What the code of one growth needs besides the laws of one row. Assumes nothing.
+-- What the code of one growth needs besides the laws of one row.
 use Prim.Native.Nat.{ℕ, _+_, _-_, _*_, _%_, _^_, _≤_, _<_}
 use mathlib.Core.Path.{_≡_, sym, _∙_}
 use native.Mathlib.Nat.{mul-le-mul, mod-lt, mod-eq-of-lt, add-mod-right}

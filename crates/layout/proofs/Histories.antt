@@ -1,4 +1,4 @@
--- Histories whose disk counts rise. Assumes nothing.
+-- Histories whose disk counts rise.
 use Prim.Native.Nat.{ℕ, _-_, _<_}
 use mathlib.Core.Path.{_≡_}
 use mathlib.Core.Bool.{true, false≢true}

@@ -1,4 +1,4 @@
--- What the loops over the growths need at each turn: the array of counts read as a history. Assumes nothing.
+-- What the loops over the growths need at each turn: the array of counts read as a history.
 use Prim.Native.Nat.{ℕ, zero, suc, _+_, _-_, _*_, _/_, _%_, _≤_, _<_}
 use mathlib.Core.Path.{_≡_, refl, sym, _∙_, ap, subst}
 use mathlib.Core.Bool.{true, false}

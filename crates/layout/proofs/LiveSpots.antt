@@ -1,4 +1,4 @@
--- A growth from m disks to c under way, whichever blocks have been moved. Assumes nothing.
+-- A growth from m disks to c under way, whichever blocks have been moved.
 use Prim.Native.Nat.{ℕ, _-_, _*_, _≤_, _<_}
 use mathlib.Core.Path.{_≡_, refl, sym, _∙_, ap, subst}
 use mathlib.Core.Bool.{Bool, true, false, cond}

@@ -1,4 +1,4 @@
--- A tally's live spots, from the laws of its history, and of its growth where one runs. Assumes nothing.
+-- A tally's live spots, from the laws of its history, and of its growth where one runs.
 use Prim.Native.Nat.{ℕ, _*_, _<_}
 use mathlib.Core.Path.{_≡_, refl, ap, subst}
 use mathlib.Core.Bool.{Bool, true, false, cond, true≢false}

@@ -1,4 +1,4 @@
--- Marks and moving blocks of the windows of the newest growth, from m disks to c, are one to one. Assumes nothing.
+-- Marks and moving blocks of the windows of the newest growth, from m disks to c, are one to one.
 use Prim.Native.Nat.{ℕ, _-_, _*_, _<_}
 use mathlib.Core.Path.{_≡_, refl, _∙_, ap}
 use mathlib.Core.Bool.{true}

@@ -1,4 +1,4 @@
--- Marks and old spots of moving blocks, in the growth from m disks by n. For all m and n above 0. Assumes nothing.
+-- Marks and old spots of moving blocks, in the growth from m disks by n. For all m and n above 0.
 use Prim.Native.Nat.{ℕ, suc, _+_, _-_, _*_, _/_, _%_, _≤_, _<_}
 use mathlib.Core.Path.{_≡_, _∙_, ap}
 use mathlib.Core.Bool.{true}

@@ -1,4 +1,4 @@
--- How many blocks move in the newest growth, from m disks to c: by marks, and in closed form. Assumes nothing.
+-- How many blocks move in the newest growth, from m disks to c: by marks, and in closed form.
 use Prim.Native.Nat.{ℕ, zero, suc, _+_, _-_, _*_, _/_, _%_, _≤_, _<_, min}
 use mathlib.Core.Path.{_≡_, refl, sym, _∙_, ap}
 use mathlib.Core.Bool.{Bool, true, false, cond, not, _&&_, and-true}

@@ -1,4 +1,4 @@
--- What code that has read the newest growth g of a history h knows of it. Assumes nothing.
+-- What code that has read the newest growth g of a history h knows of it.
 use Prim.Native.Nat.{ℕ, suc, _+_, _-_, _*_, _≤_, _<_}
 use mathlib.Core.Path.{_≡_, sym, ap}
 use mathlib.Core.Bool.{Bool, true}

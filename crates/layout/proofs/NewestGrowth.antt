@@ -1,4 +1,4 @@
--- What the newest growth, from m disks to c, does with the old blocks. Assumes nothing.
+-- What the newest growth, from m disks to c, does with the old blocks.
 use Prim.Native.Nat.{ℕ, _-_, _*_, _≤_, _<_}
 use mathlib.Core.Path.{_≡_, _∙_, ap}
 use mathlib.Core.Bool.{true, false}

@@ -1,4 +1,4 @@
--- The blocks of window w that are left to copy. Assumes nothing.
+-- The blocks of window w that are left to copy.
 use Prim.Native.Nat.{ℕ, _*_, _<_}
 use mathlib.Core.Path.{_≡_, ap}
 use mathlib.Core.Bool.{Bool, true, false, not, _&&_, _||_}

@@ -1,4 +1,4 @@
--- One growth: the way there and the way back, over any layout before it. Assumes nothing.
+-- One growth: the way there and the way back, over any layout before it.
 use Prim.Native.Nat.{ℕ, _+_, _-_, _*_, _/_, _%_, _≤_, _<_}
 use mathlib.Core.Path.{_≡_, _∙_, ap}
 use native.Mathlib.Nat.{mod-lt, div-lt-iff-lt-mul, div-add-mod'}

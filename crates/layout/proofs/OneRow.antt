@@ -1,5 +1,4 @@
 -- One row of one growth: its old and its added blocks together are on each disk below m+n exactly once. For all m and n above 0.
--- Assumes nothing.
 use Prim.Native.Nat.{ℕ, _+_, _-_, _%_, _≤_, _<_}
 use mathlib.Core.Path.{_≡_, refl, sym, _∙_, ap}
 use mathlib.Core.Bool.{Bool, true, false, cond, _&&_}

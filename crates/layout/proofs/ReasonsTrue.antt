@@ -1,4 +1,4 @@
--- The reason that is told of a block is true: no growth after the one told has moved it. Assumes nothing.
+-- The reason that is told of a block is true: no growth after the one told has moved it.
 use Prim.Native.Nat.{ℕ, suc, _-_, _*_, _≤_, _<_}
 use mathlib.Core.Path.{_≡_, refl, sym, _∙_, ap}
 use mathlib.Core.Bool.{Bool, true, false, cond}

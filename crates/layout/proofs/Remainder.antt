@@ -1,4 +1,4 @@
--- The remainder that is never negative. Assumes nothing.
+-- The remainder that is never negative.
 use Prim.Native.Nat.{ℕ, suc, _+_, _-_, _*_, _/_, _%_, _≤_, _<_}
 use mathlib.Core.Path.{_≡_, refl, sym, _∙_, ap}
 use mathlib.Core.Bool.{Bool, true, false}

@@ -1,4 +1,4 @@
--- Two spots with the same disk and row are one. Assumes nothing.
+-- Two spots with the same disk and row are one.
 use mathlib.Core.Path.{_≡_}
 use Rattle.layout.specs.declared.Spot.{Spot}
 

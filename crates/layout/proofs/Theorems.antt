@@ -1,4 +1,4 @@
--- The laws of the layout: `layout-laws` proves all of `LayoutLaws` in `specs/Laws.antt`. Assumes nothing.
+-- The laws of the layout: `layout-laws` proves all of `LayoutLaws` in `specs/Laws.antt`.
 use Prim.Native.Nat.{ℕ, _+_, _-_, _<_}
 use mathlib.Core.Path.{_≡_, refl, _∙_, ap}
 use mathlib.Core.Bool.{Bool, true, false}

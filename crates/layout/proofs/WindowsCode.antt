@@ -1,4 +1,4 @@
--- The limits of the windows and marks, so that no sum in the code wraps. Assumes nothing.
+-- The limits of the windows and marks, so that no sum in the code wraps.
 use Prim.Native.Nat.{ℕ, suc, _+_, _-_, _*_, _/_, _%_, _≤_, _<_, min}
 use mathlib.Core.Path.{_≡_, refl}
 use mathlib.Core.Bool.{true}

@@ -1,4 +1,4 @@
--- Document 01, "Layout cases": L1 to L12 as one table. `proofs/Theorems.antt` has its one proof. Assumes nothing.
+-- Document 01, "Layout cases": L1 to L12 as one table. `proofs/Theorems.antt` has its one proof.
 use Prim.Native.Nat.{ℕ}
 use mathlib.Core.Path.{_≡_}
 use mathlib.Core.Bool.{false}

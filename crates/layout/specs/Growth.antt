@@ -1,5 +1,5 @@
 -- Document 01, "Layout after t growths": one growth, from m disks by n more, to m+n.
--- d0 is a block's disk before the growth, b its row and b1 = b mod (m+n). Assumes nothing.
+-- d0 is a block's disk before the growth, b its row and b1 = b mod (m+n).
 use Prim.Native.Nat.{ℕ, _+_, _-_, _*_, _/_, _%_}
 use mathlib.Core.Bool.{Bool, cond, _&&_}
 use lib.Dec.{leb, ltb}

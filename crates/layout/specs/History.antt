@@ -1,6 +1,6 @@
 -- Document 01, "Words and limits" and "Layout after t growths": the whole history of growths.
 -- A history is the list of disk counts N[t] .. N[0], newest first, and never empty; s is the number of rows on each disk.
--- Blocks are numbers here; rows are a type of their own. Assumes nothing.
+-- Blocks are numbers here; rows are a type of their own.
 use Prim.Native.Nat.{ℕ, zero, suc, _+_, _-_, _*_, _/_, _%_, _<_}
 use mathlib.Core.Bool.{Bool, false, _&&_}
 use mathlib.Core.List.{List, [], _∷_}

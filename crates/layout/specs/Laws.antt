@@ -1,5 +1,5 @@
 -- What is proved of the layout: each law as a record of facts, and in `LayoutLaws` all of them with what each asks.
--- `proofs/Theorems.antt` has the proof. None but `MarksFit` rests on the limit of 16 disks. Assumes nothing.
+-- `proofs/Theorems.antt` has the proof. None but `MarksFit` rests on the limit of 16 disks.
 use Prim.Native.Nat.{ℕ, suc, _+_, _-_, _*_, _%_, _≤_, _<_}
 use mathlib.Core.Path.{_≡_}
 use mathlib.Core.Bool.{Bool, true, false, not, _&&_}

@@ -1,5 +1,4 @@
 -- Document 01, "Words and limits": the limits that the layout's code needs so that no sum wraps, and that the 64 marks need.
--- Assumes nothing.
 use Prim.Native.Nat.{ℕ, suc, _+_, _≤_, _<_}
 use mathlib.Core.Path.{_≡_}
 use mathlib.Core.Bool.{true}

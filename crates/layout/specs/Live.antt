@@ -1,4 +1,4 @@
--- Document 01, "The live spot": a growth under way, with any set of blocks that have been moved. Assumes nothing.
+-- Document 01, "The live spot": a growth under way, with any set of blocks that have been moved.
 use Prim.Native.Nat.{ℕ}
 use mathlib.Core.Bool.{Bool, cond, _&&_}
 use mathlib.Core.List.{List}

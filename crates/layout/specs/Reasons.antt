@@ -1,5 +1,5 @@
 -- Document 01, "Looking up spots": why a block is at its spot, "set out at format or added, by the last growth that placed it, or
--- moved there, as head, body or tail, by the last growth that moved it". Assumes nothing.
+-- moved there, as head, body or tail, by the last growth that moved it".
 use Prim.Native.Nat.{ℕ, zero, suc, _-_}
 use mathlib.Core.List.{List, [], _∷_}
 use lib.ListN.{length, drop}

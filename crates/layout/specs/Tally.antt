@@ -1,5 +1,5 @@
 -- Document 01, "The plain volume and the cut": the tally, which follows the growth, and "The live spot" worked out from it.
--- Blocks are numbers here; nothing is known of a state, a record or a medium. Assumes nothing.
+-- Blocks are numbers here; nothing is known of a state, a record or a medium.
 use Prim.Native.Nat.{ℕ, suc, _*_}
 use mathlib.Core.Bool.{Bool, true, false, cond, not, _&&_, _||_}
 use mathlib.Core.List.{List}

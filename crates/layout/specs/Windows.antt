@@ -1,4 +1,4 @@
--- Document 01: the windows of a growth, the marks of their moving blocks, and the advance calls left. Assumes nothing.
+-- Document 01: the windows of a growth, the marks of their moving blocks, and the advance calls left.
 use Prim.Native.Nat.{ℕ, suc, _+_, _-_, _*_, _/_, _%_, min}
 use mathlib.Core.Bool.{Bool, false, cond, not, _&&_, _||_}
 use mathlib.Core.List.{List}

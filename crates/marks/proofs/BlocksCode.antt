@@ -1,4 +1,4 @@
--- What the code that looks for a block of a growth under way meets. Assumes nothing.
+-- What the code that looks for a block of a growth under way meets.
 use Prim.Native.Nat.{ℕ, zero, suc, _+_, _-_, _*_, _/_, _≤_, _<_}
 use mathlib.Core.Path.{_≡_, refl, sym, _∙_, ap}
 use mathlib.Core.Bool.{Bool, true, false, not, _&&_, _||_}

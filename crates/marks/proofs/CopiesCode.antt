@@ -1,4 +1,4 @@
--- What the code that looks for what is left to copy meets. Assumes nothing.
+-- What the code that looks for what is left to copy meets.
 use Prim.Native.Nat.{ℕ, _+_, _-_, _*_, _%_, _≤_, _<_}
 use mathlib.Core.Path.{_≡_, sym, _∙_, ap}
 use mathlib.Core.Bool.{Bool, true, false, not}

@@ -1,4 +1,4 @@
--- What the loops over counts meet at each turn. Assumes nothing.
+-- What the loops over counts meet at each turn.
 use Prim.Native.Nat.{ℕ, zero, suc, _+_, _≤_, _<_}
 use mathlib.Core.Path.{_≡_, refl, sym}
 use mathlib.Core.Bool.{Bool, true, false, _||_, or-true}

@@ -1,4 +1,4 @@
--- Laws of sets of marks, and what a set of marks of window w says of the moving blocks of the window. Assumes nothing.
+-- Laws of sets of marks, and what a set of marks of window w says of the moving blocks of the window.
 use Prim.Native.Nat.{ℕ, zero, suc, _*_, _<_}
 use mathlib.Core.Path.{_≡_, refl, sym, _∙_}
 use mathlib.Core.Bool.{Bool, true, false, not, _&&_, _||_}

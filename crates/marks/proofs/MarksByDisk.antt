@@ -1,4 +1,4 @@
--- The word of the marks of a window that is cut off, disk by disk: of the n marks of a disk those of its lowest rows are set. Assumes nothing.
+-- The word of the marks of a window that is cut off, disk by disk: of the n marks of a disk those of its lowest rows are set.
 use Prim.Native.Nat.{ℕ, zero, suc, _+_, _-_, _*_, _^_, _≤_, _<_, min}
 use mathlib.Core.Path.{_≡_, sym, ap, _∙_}
 use mathlib.Core.Bool.{Bool, true, false}

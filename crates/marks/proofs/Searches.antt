@@ -1,4 +1,4 @@
--- Counts of bits: the set bits of a word are counted by `ones`, and the lowest is found by `trailingZeros`. Assumes nothing.
+-- Counts of bits: the set bits of a word are counted by `ones`, and the lowest is found by `trailingZeros`.
 use Prim.Native.Nat.{ℕ, zero, suc, _+_, _*_, _/_, _%_, _^_, _≤_, _<_}
 use mathlib.Core.Path.{_≡_, refl}
 use mathlib.Core.Bool.{Bool, true, false, cond}

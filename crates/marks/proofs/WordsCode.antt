@@ -1,4 +1,4 @@
--- What the code that shifts 1, and the code that stores the bits of a word one by one, needs. Assumes nothing.
+-- What the code that shifts 1, and the code that stores the bits of a word one by one, needs.
 use Prim.Native.Nat.{ℕ, zero, suc, _+_, _-_, _*_, _/_, _%_, _^_, _≤_, _<_}
 use mathlib.Core.Path.{_≡_, refl, subst, sym, ap, _∙_}
 use mathlib.Core.Bool.{Bool, false}

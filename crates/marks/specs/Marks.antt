@@ -1,4 +1,4 @@
--- Document 01, "Medium, state, record": sets of 64 marks, the counts after N[t], and the stages of a sound state. Assumes nothing.
+-- Document 01, "Medium, state, record": sets of 64 marks, the counts after N[t], and the stages of a sound state.
 use Prim.Native.Nat.{ℕ, _*_}
 use mathlib.Core.Bool.{Bool, false, cond, not, _&&_, _||_}
 use mathlib.Core.List.{List}

@@ -1,4 +1,4 @@
--- A set of 64 marks as a word: mark j is bit j. Assumes nothing.
+-- A set of 64 marks as a word: mark j is bit j.
 use Prim.Native.Nat.{ℕ}
 use mathlib.Core.Bool.{Bool}
 use mathlib.Core.List.{List}

@@ -1,5 +1,4 @@
 -- What the code needs besides: that nothing on the way to a place wraps, a part that was lent, and a copy byte by byte through an array.
--- Assumes nothing.
 use Prim.Native.Nat.{ℕ, _+_, _-_, _*_, _^_, _≤_, _<_}
 use mathlib.Core.Path.{_≡_, sym, _∙_}
 use mathlib.Core.List.{List, [], _∷_, _++_}

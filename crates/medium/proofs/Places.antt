@@ -1,4 +1,4 @@
--- Places of spots: past the record, apart from each other, within the bytes that the disks need. Assumes nothing.
+-- Places of spots: past the record, apart from each other, within the bytes that the disks need.
 use Prim.Native.Nat.{ℕ, suc, _+_, _*_, _≤_, _<_}
 use mathlib.Core.Path.{_≡_}
 use mathlib.Core.Logic.{_⊎_, _≢_, inl, inr}

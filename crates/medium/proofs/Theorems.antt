@@ -1,4 +1,4 @@
--- The laws of stores, as `specs/Laws.antt` states them. Assumes nothing.
+-- The laws of stores, as `specs/Laws.antt` states them.
 use Prim.Native.Nat.{ℕ}
 use mathlib.Core.Path.{_≡_, refl, subst, _∙_}
 use mathlib.Core.List.{List}

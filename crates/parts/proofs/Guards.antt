@@ -1,4 +1,4 @@
--- What the run-time tests of the cases show, and what the code of layout and window then asks. Assumes nothing.
+-- What the run-time tests of the cases show, and what the code of layout and window then asks.
 use Prim.Native.Nat.{ℕ, _*_, _≤_, _<_}
 use mathlib.Core.Path.{_≡_}
 use mathlib.Core.Bool.{true, false, false≢true}

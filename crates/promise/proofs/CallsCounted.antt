@@ -1,4 +1,4 @@
--- The advance calls left, counted on tallies: each advance takes one off, and the last one finishes the growth. Assumes nothing.
+-- The advance calls left, counted on tallies: each advance takes one off, and the last one finishes the growth.
 use Prim.Native.Nat.{ℕ, suc, _+_, _*_, _≤_, _<_}
 use mathlib.Core.Path.{_≡_, refl, sym, _∙_, ap}
 use mathlib.Core.Bool.{Bool, true, false, cond, not, _&&_, and-false}

@@ -1,4 +1,4 @@
--- The invariant: state, medium and plain volume agree; and each store keeps it, whole or torn. Assumes nothing.
+-- The invariant: state, medium and plain volume agree; and each store keeps it, whole or torn.
 use Prim.Native.Nat.{ℕ, _*_, _≤_, _<_}
 use mathlib.Core.Path.{_≡_, refl, _∙_}
 use mathlib.Core.Bool.{Bool, true, false, cond, _&&_}

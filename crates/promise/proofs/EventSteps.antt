@@ -1,4 +1,4 @@
--- One event keeps the invariant. Assumes nothing.
+-- One event keeps the invariant.
 use Prim.Native.Nat.{ℕ}
 use mathlib.Core.Path.{_≡_, refl, sym, subst}
 use mathlib.Core.Bool.{Bool, true, false, cond, _&&_, true≢false}

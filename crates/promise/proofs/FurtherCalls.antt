@@ -1,5 +1,5 @@
 -- "further advance calls, uncut, with any reads and writes" and flushed between, and refused calls: as many accepted ones as are left finish
--- the growth, and only the last tells so. Assumes nothing.
+-- the growth, and only the last tells so.
 use Prim.Native.Nat.{ℕ, suc, _-_, _<_}
 use mathlib.Core.Path.{_≡_, refl, sym, ap, _∙_, subst}
 use mathlib.Core.Bool.{Bool, true, false, true≢false, and-false, _&&_, not}

@@ -1,4 +1,4 @@
--- The bytes of set blocks stand at their live spots, and what each store and each step of the tally does to that. Assumes nothing.
+-- The bytes of set blocks stand at their live spots, and what each store and each step of the tally does to that.
 use Prim.Native.Nat.{ℕ, suc, _≤_, _<_}
 use mathlib.Core.Path.{_≡_, refl, sym, _∙_, ap, subst}
 use mathlib.Core.Bool.{Bool, true, false, cond, not, _&&_, _||_, true≢false, false≢true, and-false}

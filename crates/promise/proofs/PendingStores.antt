@@ -1,4 +1,4 @@
--- Stores that may not be down: what a cut may leave of them, after each call. Nothing of lists. Assumes nothing.
+-- Stores that may not be down: what a cut may leave of them, after each call. Nothing of lists.
 use Prim.Native.Nat.{ℕ}
 use mathlib.Core.Path.{_≡_, refl, sym, ap, _∙_, subst}
 use mathlib.Core.Bool.{Bool, true, false, cond, _||_, true≢false}

@@ -1,4 +1,4 @@
--- The tally of the state that a call hands back is the tally's own step. Assumes nothing.
+-- The tally of the state that a call hands back is the tally's own step.
 use Prim.Native.Nat.{ℕ, zero, suc, _<_}
 use mathlib.Core.Path.{_≡_, refl, sym, ap, _∙_, fun-ext}
 use mathlib.Core.Bool.{Bool, true, false, cond, _&&_, _||_}

@@ -1,5 +1,4 @@
 -- One call, whole or torn, on any medium that keeps the laws of stores: nothing of lists, of pending stores or of the places of bytes.
--- Assumes nothing.
 use Prim.Native.Nat.{ℕ, _*_, _<_}
 use mathlib.Core.Path.{_≡_, refl, sym, ap, _∙_, subst}
 use mathlib.Core.Bool.{Bool, true, false, cond, _||_, _&&_, true≢false}

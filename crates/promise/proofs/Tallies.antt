@@ -1,4 +1,4 @@
--- What holds of the tally of a sound state, and what the live spots and the targets of its copies are to each other. Assumes nothing.
+-- What holds of the tally of a sound state, and what the live spots and the targets of its copies are to each other.
 use Prim.Native.Nat.{ℕ, _*_, _≤_, _<_}
 use mathlib.Core.Path.{_≡_, refl, sym, _∙_, ap}
 use mathlib.Core.Bool.{Bool, true, false, not, _&&_, false≢true}

@@ -1,4 +1,4 @@
--- Demand 3: `promise` proves `Promise` of `specs/Promise.antt`. Assumes nothing.
+-- Demand 3: `promise` proves `Promise` of `specs/Promise.antt`.
 use Prim.Native.Nat.{ℕ, _<_}
 use mathlib.Core.Path.{_≡_, refl, sym, ap, _∙_, subst}
 use mathlib.Core.Bool.{true, false, false≢true}

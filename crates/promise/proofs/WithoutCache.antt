@@ -1,4 +1,4 @@
--- Document 01's demand 3 from `promise`: `promise-without-cache` proves `PromiseWithoutCache` of `specs/WithoutCache.antt`. Assumes nothing.
+-- Document 01's demand 3 from `promise`: `promise-without-cache` proves `PromiseWithoutCache` of `specs/WithoutCache.antt`.
 use Prim.Native.Nat.{ℕ}
 use mathlib.Core.Path.{_≡_, refl, sym, ap, _∙_}
 use mathlib.Core.Bool.{true, false}

@@ -1,4 +1,4 @@
--- A column read byte by byte: one byte more, and how large its number can be. Assumes nothing.
+-- A column read byte by byte: one byte more, and how large its number can be.
 use Prim.Native.Nat.{ℕ, zero, suc, _+_, _-_, _*_, _^_, _≤_, _<_}
 use mathlib.Core.Path.{_≡_, refl}
 use mathlib.Core.Bool.{true, not, _&&_}

@@ -1,4 +1,4 @@
--- The lengths of the record's parts. Assumes nothing.
+-- The lengths of the record's parts.
 use Prim.Native.Nat.{ℕ, zero, suc, _*_, _/_}
 use mathlib.Core.Path.{_≡_, refl}
 use mathlib.Core.Bool.{Bool}

@@ -1,4 +1,4 @@
--- What the code that reads a record meets, test by test. Assumes nothing.
+-- What the code that reads a record meets, test by test.
 use Prim.Native.Nat.{ℕ, _+_, _-_, _*_, _<_}
 use mathlib.Core.Path.{_≡_, refl, _∙_}
 use mathlib.Core.Bool.{Bool, true, false}

@@ -1,4 +1,4 @@
--- What the tests of `isRecord` say. Assumes nothing.
+-- What the tests of `isRecord` say.
 use Prim.Native.Nat.{ℕ, _+_}
 use mathlib.Core.Path.{_≡_}
 use mathlib.Core.Bool.{Bool, true, false, _&&_}

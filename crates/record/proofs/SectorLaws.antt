@@ -1,4 +1,4 @@
--- The whole record: what was written is read, and what is read is what writing gives. Assumes nothing.
+-- The whole record: what was written is read, and what is read is what writing gives.
 use Prim.Native.Nat.{ℕ, zero, suc, _+_, _*_, _^_, _≤_, _<_}
 use mathlib.Core.Path.{_≡_, refl, ap, sym, _∙_}
 use mathlib.Core.Bool.{Bool, true, false, cond, _||_, false≢true}

@@ -1,4 +1,4 @@
--- The proof of `RecordLaws`. Assumes nothing.
+-- The proof of `RecordLaws`.
 use Rattle.record.specs.Laws.{RecordLaws}
 use Rattle.record.proofs.Lengths.{length-decimal, length-sector}
 use Rattle.record.proofs.ColumnLaws.{column-read, blank-read, column-written, blank-written}

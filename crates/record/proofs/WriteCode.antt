@@ -1,4 +1,4 @@
--- What the writing functions store, turn by turn. Assumes nothing.
+-- What the writing functions store, turn by turn.
 use Prim.Native.Nat.{ℕ, zero, suc, _+_, _-_, _*_, _/_, _≤_, _<_}
 use mathlib.Core.Path.{_≡_, refl, sym, _∙_}
 use mathlib.Core.Bool.{Bool, false, cond}

@@ -1,5 +1,5 @@
 -- Document 01, "Medium, state, record": "Numbers are decimal, right-justified with spaces, no leading zeros, ten columns each".
--- Bytes are numbers here. Assumes nothing.
+-- Bytes are numbers here.
 use Prim.Native.Nat.{ℕ, zero, suc, _+_, _-_, _*_, _/_, _%_}
 use mathlib.Core.Bool.{Bool, cond, not, _&&_}
 use mathlib.Core.List.{List, [], _∷_, _++_}

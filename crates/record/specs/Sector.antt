@@ -1,5 +1,5 @@
 -- Document 01, "Medium, state, record": the 512 bytes of the record, from thirteen numbers and 64 marks, and the reading of
--- them. The numbers are Z, s, t, N[0] to N[7], growing and w, in the order of their columns. Assumes nothing.
+-- them. The numbers are Z, s, t, N[0] to N[7], growing and w, in the order of their columns.
 use Prim.Native.Nat.{ℕ, _+_, _*_}
 use mathlib.Core.Bool.{Bool, true, false, cond, _&&_, _||_}
 use mathlib.Core.List.{List, [], _∷_, _++_}

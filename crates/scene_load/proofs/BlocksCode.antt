@@ -1,4 +1,4 @@
--- What the code on the blocks of one scene meets. Assumes nothing.
+-- What the code on the blocks of one scene meets.
 use Prim.Native.Nat.{ℕ, _+_, _-_, _*_, _≤_, _<_}
 use mathlib.Core.Path.{_≡_, refl, sym, _∙_}
 use mathlib.Core.Bool.{Bool, true, false, cond}

@@ -1,4 +1,4 @@
--- Scenes that are refused, and the load of a list that has one or has none. Assumes nothing.
+-- Scenes that are refused, and the load of a list that has one or has none.
 use Prim.Native.Nat.{ℕ, _+_, _≤_, _<_}
 use mathlib.Core.Path.{_≡_, refl, sym}
 use mathlib.Core.Bool.{Bool, true, false, cond, not}

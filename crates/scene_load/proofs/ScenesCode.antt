@@ -1,4 +1,4 @@
--- What the walk over a list of scenes meets: the load of the first scenes, with one scene more. Assumes nothing.
+-- What the walk over a list of scenes meets: the load of the first scenes, with one scene more.
 use Prim.Native.Nat.{ℕ, suc, _+_, _≤_}
 use mathlib.Core.Path.{_≡_, refl, sym, ap, _∙_}
 use mathlib.Core.Bool.{true, false}

@@ -1,4 +1,4 @@
--- How many blocks of scenes each disk serves. Assumes nothing.
+-- How many blocks of scenes each disk serves.
 use Prim.Native.Nat.{ℕ, _+_, _≤_, _<_}
 use mathlib.Core.Path.{_≡_, refl, _∙_}
 use mathlib.Core.Bool.{true}

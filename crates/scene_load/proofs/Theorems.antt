@@ -1,4 +1,4 @@
--- All laws of the load of a scene list. Assumes nothing.
+-- All laws of the load of a scene list.
 use Prim.Native.Nat.{ℕ, _+_, _≤_, _<_}
 use mathlib.Core.Path.{_≡_, refl}
 use mathlib.Core.Bool.{true, false}

@@ -1,4 +1,4 @@
--- What is proved of the load of a scene list: `LoadLaws`. `proofs/Theorems.antt` has the proof. Assumes nothing.
+-- What is proved of the load of a scene list: `LoadLaws`. `proofs/Theorems.antt` has the proof.
 use Prim.Native.Nat.{ℕ, _+_, _≤_, _<_}
 use mathlib.Core.Path.{_≡_}
 use mathlib.Core.Bool.{true, false}

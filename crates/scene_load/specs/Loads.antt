@@ -1,5 +1,5 @@
 -- Document 02, W2: the load of a scene list. "I hold a lent list of scenes, each a first block and a count, and want to know how many of its
--- blocks each disk serves." Assumes nothing.
+-- blocks each disk serves."
 use Prim.Native.Nat.{ℕ, _+_, _<_}
 use mathlib.Core.Bool.{Bool, cond, not, _&&_, _||_}
 use mathlib.Core.List.{List, [], _∷_}

@@ -1,4 +1,4 @@
--- The load of a list, one scene after another, as the code takes them; and what the code may rest on. Assumes nothing.
+-- The load of a list, one scene after another, as the code takes them; and what the code may rest on.
 use Prim.Native.Nat.{ℕ, _+_, _*_, _^_, _≤_, _<_}
 use mathlib.Core.Path.{_≡_}
 use mathlib.Core.Bool.{Bool, true, false, cond}

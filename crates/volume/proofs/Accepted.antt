@@ -1,4 +1,4 @@
--- What an accepted call knows: the facts that hold where a call's table refuses nothing. Assumes nothing.
+-- What an accepted call knows: the facts that hold where a call's table refuses nothing.
 use Prim.Native.Nat.{ℕ, _≤_, _<_}
 use mathlib.Core.Path.{_≡_, refl}
 use mathlib.Core.Bool.{Bool, true, false, not, _&&_}

@@ -1,4 +1,4 @@
--- What the code of read and write needs. Assumes nothing.
+-- What the code of read and write needs.
 use Prim.Native.Nat.{ℕ, _≤_, _<_}
 use mathlib.Core.Path.{_≡_, refl, _∙_}
 use mathlib.Core.Bool.{Bool, true, false, cond, not}

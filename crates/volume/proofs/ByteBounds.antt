@@ -1,4 +1,4 @@
--- The bytes that a volume needs: within the limits their number does not wrap, and the record is among them. Assumes nothing.
+-- The bytes that a volume needs: within the limits their number does not wrap, and the record is among them.
 use Prim.Native.Nat.{ℕ, _*_, _≤_, _<_, _^_}
 use native.Mathlib.Nat.{mul-le-mul}
 use native.Mathlib.Omega.{arith}

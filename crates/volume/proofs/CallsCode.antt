@@ -1,4 +1,4 @@
--- What the code of format and grow needs, and the replies of calls that store. Assumes nothing.
+-- What the code of format and grow needs, and the replies of calls that store.
 use Prim.Native.Nat.{ℕ, _≤_, _<_, _^_}
 use mathlib.Core.Path.{_≡_}
 use mathlib.Core.Bool.{true}

@@ -1,4 +1,4 @@
--- Blocks that may be copied, and marks that are to be recorded. Assumes nothing.
+-- Blocks that may be copied, and marks that are to be recorded.
 use Prim.Native.Nat.{ℕ, _<_}
 use mathlib.Core.Path.{_≡_, sym, _∙_}
 use mathlib.Core.Bool.{true, false}

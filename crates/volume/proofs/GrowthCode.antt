@@ -1,4 +1,4 @@
--- What the code of copy, checkpoint and advance needs. Assumes nothing.
+-- What the code of copy, checkpoint and advance needs.
 use Prim.Native.Nat.{ℕ, _+_, _-_, _≤_, _<_}
 use mathlib.Core.Path.{_≡_, refl, sym, _∙_}
 use mathlib.Core.Bool.{Bool, true, false, cond, not, _&&_}

@@ -1,4 +1,4 @@
--- What holder answers, return by return. Assumes nothing.
+-- What holder answers, return by return.
 use Prim.Native.Nat.{ℕ}
 use mathlib.Core.Path.{_≡_, refl}
 use mathlib.Core.Bool.{true, false, _||_}

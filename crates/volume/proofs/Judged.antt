@@ -1,4 +1,4 @@
--- An outcome that a table judges: refused with the table's number, or accepted. Assumes nothing.
+-- An outcome that a table judges: refused with the table's number, or accepted.
 use Prim.Native.Nat.{ℕ}
 use mathlib.Core.Path.{_≡_, sym, _∙_}
 use mathlib.Core.Bool.{Bool}

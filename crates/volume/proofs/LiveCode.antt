@@ -1,4 +1,4 @@
--- What the code that looks up open blocks, live spots and calls left of a state meets, at rest and while a growth runs. Assumes nothing.
+-- What the code that looks up open blocks, live spots and calls left of a state meets, at rest and while a growth runs.
 use Prim.Native.Nat.{ℕ, _-_, _*_, _≤_, _<_, _^_}
 use mathlib.Core.Path.{_≡_, refl, sym, ap, _∙_}
 use mathlib.Core.Bool.{Bool, true, false, cond, not, _&&_}

@@ -1,5 +1,5 @@
 -- Looking up the blocks of a sound state: a live spot lies in the medium, address and holder are inverse to each other, and after a
--- finished growth 15 never occurs. Assumes nothing.
+-- finished growth 15 never occurs.
 use Prim.Native.Nat.{ℕ, _≤_, _<_}
 use mathlib.Core.Path.{_≡_, refl, sym, ap, _∙_}
 use mathlib.Core.Bool.{Bool, true, false, cond, not, false≢true}

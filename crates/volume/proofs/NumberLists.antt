@@ -1,4 +1,4 @@
--- The thirteen numbers of a record as a list: each of them, and the state that has them. Assumes nothing.
+-- The thirteen numbers of a record as a list: each of them, and the state that has them.
 use Prim.Native.Nat.{ℕ, zero, suc, _<_}
 use mathlib.Core.Path.{_≡_, sym}
 use mathlib.Core.Bool.{Bool}

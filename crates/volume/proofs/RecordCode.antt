@@ -1,4 +1,4 @@
--- The numbers of a record, written out one by one as the code has them. Assumes nothing.
+-- The numbers of a record, written out one by one as the code has them.
 use Prim.Native.Nat.{ℕ}
 use mathlib.Core.Path.{_≡_, sym, ap}
 use mathlib.Core.List.{List, [], _∷_, _++_}

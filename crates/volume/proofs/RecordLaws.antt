@@ -1,5 +1,5 @@
 -- The record of a sound state reads back as that state with copied set to recorded, and what is read as a sound state is that
--- state's record. Assumes nothing.
+-- state's record.
 use Prim.Native.Nat.{ℕ, _+_, _^_, _≤_, _<_}
 use mathlib.Core.Path.{_≡_, refl, sym, ap, _∙_}
 use mathlib.Core.Bool.{Bool, true, false}

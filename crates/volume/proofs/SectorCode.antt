@@ -1,4 +1,4 @@
--- What code that reads a record sector needs: `from_sector`, and what goes by its reply. Assumes nothing.
+-- What code that reads a record sector needs: `from_sector`, and what goes by its reply.
 use Prim.Native.Nat.{ℕ, _≤_, _<_}
 use mathlib.Core.Path.{_≡_, refl, sym, ap, _∙_}
 use mathlib.Core.Bool.{Bool, true, false, cond, not}

@@ -1,4 +1,4 @@
--- What the test of soundness says: the facts of a sound state, and that they are enough. Assumes nothing.
+-- What the test of soundness says: the facts of a sound state, and that they are enough.
 use Prim.Native.Nat.{ℕ, _%_, _≤_, _<_, _^_}
 use mathlib.Core.Path.{_≡_, refl, ap}
 use mathlib.Core.Bool.{Bool, true, false, not, _&&_, _||_}

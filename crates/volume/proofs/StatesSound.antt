@@ -1,4 +1,4 @@
--- The states that accepted calls hand back are sound. Assumes nothing.
+-- The states that accepted calls hand back are sound.
 use Prim.Native.Nat.{ℕ, zero, suc, _≤_, _<_, _^_}
 use mathlib.Core.Path.{_≡_, refl, _∙_}
 use mathlib.Core.Bool.{Bool, true, false}

@@ -1,4 +1,4 @@
--- What calls store lies in the medium. Assumes nothing.
+-- What calls store lies in the medium.
 use Prim.Native.Nat.{ℕ, _*_, _≤_}
 use mathlib.Core.Path.{_≡_, refl}
 use mathlib.Core.Bool.{Bool, true}

@@ -1,5 +1,5 @@
 -- Document 01, "Calls": the number and the figures that each case of an answer stands for. "A refusal has 0 for every figure beside its
--- number"; the number of an accepted call is 0. Assumes nothing.
+-- number"; the number of an accepted call is 0.
 use Prim.Native.Nat.{ℕ}
 use mathlib.Core.Bool.{Bool, true, false}
 use mathlib.Core.Option.{Option, none, some}

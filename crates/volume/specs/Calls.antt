@@ -1,5 +1,5 @@
 -- Document 01, "Calls" and "Looking up spots", and document 02, W4: for each call the table of its refusals, in the order written, and its
--- effect where none holds: what it hands back, stores and shows. Calls see a medium through its observations. Assumes nothing.
+-- effect where none holds: what it hands back, stores and shows. Calls see a medium through its observations.
 use Prim.Native.Nat.{ℕ}
 use mathlib.Core.Bool.{Bool, true, false, cond, not, _&&_}
 use mathlib.Core.List.{List, [], _∷_}

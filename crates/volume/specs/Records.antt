@@ -1,5 +1,4 @@
 -- Document 01, "The record holds the state with recorded marks only": the record of a state, and the state of a record.
--- Assumes nothing.
 use Prim.Native.Nat.{ℕ}
 use mathlib.Core.Bool.{Bool, _&&_}
 use mathlib.Core.List.{List, [], _∷_, _++_}

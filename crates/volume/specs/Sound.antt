@@ -1,4 +1,4 @@
--- Document 01, "Words and limits" and "A state is sound when". Assumes nothing.
+-- Document 01, "Words and limits" and "A state is sound when".
 use Prim.Native.Nat.{ℕ, _%_, _^_}
 use mathlib.Core.Bool.{Bool, cond, _&&_}
 use mathlib.Core.List.{List}

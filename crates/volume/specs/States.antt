@@ -1,5 +1,5 @@
 -- Document 01, "Medium, state, record": the state, read as a tally, and the states that calls hand back; document 02, W4: what is pending.
--- The array of counts is a list here, a set of marks a word. Assumes nothing.
+-- The array of counts is a list here, a set of marks a word.
 use Prim.Native.Nat.{ℕ, suc}
 use mathlib.Core.Bool.{true, false, cond}
 use mathlib.Core.List.{List}

@@ -1,4 +1,4 @@
--- What the chart of a sound state says: its numbers are whole, and "-" stands where holder says 15. Assumes nothing.
+-- What the chart of a sound state says: its numbers are whole, and "-" stands where holder says 15.
 use Prim.Native.Nat.{ℕ, _+_, _^_, _<_}
 use mathlib.Core.Path.{_≡_, refl, sym, ap, _∙_, fun-ext}
 use mathlib.Core.Bool.{Bool, true, false, cond}

@@ -1,4 +1,4 @@
--- The lengths of the chart's parts. Assumes nothing.
+-- The lengths of the chart's parts.
 use Prim.Native.Nat.{ℕ, _+_, _*_}
 use mathlib.Core.Path.{_≡_, refl}
 use mathlib.Core.List.{List}

@@ -1,4 +1,4 @@
--- What the code of the lines needs. Assumes nothing.
+-- What the code of the lines needs.
 use Prim.Native.Nat.{ℕ, _+_, _-_, _*_, _≤_}
 use mathlib.Core.Path.{_≡_, sym, _∙_}
 use mathlib.Core.List.{List, [], _∷_, _++_, append-nil}

@@ -1,4 +1,4 @@
--- Pages: refusals, and what a page holds with a chart. Assumes nothing.
+-- Pages: refusals, and what a page holds with a chart.
 use Prim.Native.Nat.{ℕ, _≤_}
 use mathlib.Core.Path.{_≡_, refl, sym}
 use mathlib.Core.Bool.{Bool}

@@ -1,4 +1,4 @@
--- What the code of the pages needs. Assumes nothing.
+-- What the code of the pages needs.
 use Prim.Native.Nat.{ℕ, suc, _+_, _-_, _*_, _≤_, _<_}
 use mathlib.Core.Path.{_≡_, sym, ap, _∙_}
 use mathlib.Core.Bool.{true}

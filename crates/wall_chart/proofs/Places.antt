@@ -1,4 +1,4 @@
--- What stands where in a chart. Assumes nothing.
+-- What stands where in a chart.
 use Prim.Native.Nat.{ℕ, zero, suc, _+_, _*_, _≤_, _<_}
 use mathlib.Core.Path.{_≡_, sym, _∙_}
 use mathlib.Core.List.{List, [], _∷_, _++_, append-nil, append-assoc}

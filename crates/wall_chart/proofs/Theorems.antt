@@ -1,4 +1,4 @@
--- `chart-laws`: all of `ChartLaws`. Assumes nothing.
+-- `chart-laws`: all of `ChartLaws`.
 use Rattle.wall_chart.specs.Laws.{ChartLaws}
 use Rattle.wall_chart.proofs.Lengths.{length-chart}
 use Rattle.wall_chart.proofs.Places.{heading-first, disk-number, row-number, cell-of-holder, line-end}

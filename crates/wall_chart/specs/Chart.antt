@@ -1,4 +1,4 @@
--- Document 02, W1: the bytes of the wall chart of a state. Bytes are numbers here. Assumes nothing.
+-- Document 02, W1: the bytes of the wall chart of a state. Bytes are numbers here.
 use Prim.Native.Nat.{ℕ, _+_, _*_}
 use mathlib.Core.List.{List, [], _∷_, _++_}
 use lib.ListN.{replicate}

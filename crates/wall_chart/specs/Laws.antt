@@ -1,4 +1,4 @@
--- What is proved of the chart and of pages filled with it: `ChartLaws`. `proofs/Theorems.antt` has the proof. Assumes nothing.
+-- What is proved of the chart and of pages filled with it: `ChartLaws`. `proofs/Theorems.antt` has the proof.
 use Prim.Native.Nat.{ℕ, _+_, _*_, _≤_, _<_}
 use mathlib.Core.Path.{_≡_}
 use mathlib.Core.Bool.{Bool, true}

@@ -1,5 +1,5 @@
 -- Document 02, W1: a lent page filled with the chart of a state, or of a record's state. "The library fills a lent page, says how much
--- it used and leaves the rest as it was." Assumes nothing.
+-- it used and leaves the rest as it was."
 use Prim.Native.Nat.{ℕ}
 use mathlib.Core.Bool.{Bool, not}
 use mathlib.Core.List.{List, [], _∷_, _++_}

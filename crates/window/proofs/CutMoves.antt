@@ -1,4 +1,4 @@
--- Triangles, 1 + 2 + .. + k: three of them count the moving blocks of a window that is cut off. Assumes nothing.
+-- Triangles, 1 + 2 + .. + k: three of them count the moving blocks of a window that is cut off.
 use Prim.Native.Nat.{ℕ, zero, suc, _+_, _-_, _*_, _≤_, _<_, min}
 use mathlib.Core.Path.{_≡_, refl, ap}
 use native.Mathlib.Nat.{sub-zero, suc-mul, mul-suc, mul-le-mul}

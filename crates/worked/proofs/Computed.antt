@@ -1,5 +1,4 @@
--- A list of events computed once: whether it is lawful, what plain volume and tally are fed, and what is heard of its calls: `computed`. Assumes
--- nothing.
+-- A list of events computed once: whether it is lawful, what plain volume and tally are fed, and what is heard of its calls: `computed`.
 use Prim.Native.Nat.{ℕ}
 use mathlib.Core.Bool.{Bool, true, false, cond, not, _&&_, _||_}
 use mathlib.Core.List.{List, [], _∷_, _++_}

@@ -1,4 +1,4 @@
--- The definitions that a list of events is computed with. Assumes nothing.
+-- The definitions that a list of events is computed with.
 use Rattle.base.specs.Below.{count, every, sum, table, joined, first, lower, lowest}
 use Rattle.base.specs.Refusals.{refusal}
 use Rattle.layout.specs.Growth.{minusMod, moves, partOf, newDisk, diskAfter, movesFrom, oldBlockSpot, addedDisk, addedSpot, spotAfter}

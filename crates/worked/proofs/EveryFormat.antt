@@ -1,4 +1,4 @@
--- Lists that are not lawful, and lists that are, from every accepted format: `not-empty`. Assumes nothing.
+-- Lists that are not lawful, and lists that are, from every accepted format: `not-empty`.
 use Prim.Native.Nat.{ℕ, _*_, _<_}
 use mathlib.Core.Bool.{Bool, true, false, not, _&&_}
 use mathlib.Core.List.{List, [], _∷_}

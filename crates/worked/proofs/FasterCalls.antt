@@ -1,5 +1,5 @@
 -- Stores and restart in a form that computes faster, equal to that of the specs. There each byte that is stored, and each byte of a record that
--- is read, is one more walk along the list. Assumes nothing.
+-- is read, is one more walk along the list.
 use Prim.Native.Nat.{ℕ, _+_}
 use mathlib.Core.Bool.{Bool, true, false, cond, _&&_, false≢true}
 use mathlib.Core.List.{List, [], _∷_, _++_}

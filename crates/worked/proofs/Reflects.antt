@@ -1,4 +1,4 @@
--- Tests that reflect a claim. Assumes nothing.
+-- Tests that reflect a claim.
 use Prim.Native.Nat.{ℕ}
 use mathlib.Core.Bool.{Bool, true, false, not, _&&_, _||_, true≢false, false≢true}
 use mathlib.Core.List.{List, [], _∷_}

@@ -1,4 +1,4 @@
--- The worked list, by computing. Assumes nothing.
+-- The worked list, by computing.
 use Prim.Native.Nat.{ℕ, suc, _-_}
 use mathlib.Core.Bool.{true, false, cond, _&&_}
 use mathlib.Core.List.{List, [], _∷_, _++_}

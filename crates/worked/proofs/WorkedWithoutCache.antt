@@ -1,4 +1,4 @@
--- The worked list for drives that keep no store, by computing. Assumes nothing.
+-- The worked list for drives that keep no store, by computing.
 use Prim.Native.Nat.{ℕ, _-_}
 use mathlib.Core.Bool.{true, false}
 use mathlib.Core.List.{List, [], _∷_, _++_}

@@ -1,4 +1,4 @@
--- Programs that demand 3 shuts out: each breaks the promise at a list that is computed. Assumes nothing.
+-- Programs that demand 3 shuts out: each breaks the promise at a list that is computed.
 use Prim.Native.Nat.{ℕ, _<_}
 use mathlib.Core.Path.{_≡_, refl, sym, ap, _∙_}
 use mathlib.Core.Bool.{true, false, true≢false}

@@ -1,5 +1,5 @@
 -- Checks that demand 3 is not empty: `NotEmpty`. Its proof, `not-empty` in `proofs/Worked.antt`, computes a worked list on drives with a write
--- cache (document 02, W4). Assumes nothing.
+-- cache (document 02, W4).
 use Prim.Native.Nat.{ℕ}
 use mathlib.Core.Path.{_≡_}
 use mathlib.Core.Bool.{true, false}

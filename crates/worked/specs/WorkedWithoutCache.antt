@@ -1,5 +1,5 @@
 -- Checks that document 01's demand 3, the claim for drives that keep no store, is not empty: `WithoutCacheFacts`. Its proof, `worked-without-cache`
--- in `proofs/WorkedWithoutCache.antt`, computes a list with a cut in each kind of store. Assumes nothing.
+-- in `proofs/WorkedWithoutCache.antt`, computes a list with a cut in each kind of store.
 use mathlib.Core.Path.{_≡_}
 use mathlib.Core.Bool.{true, false}
 use mathlib.Core.List.{List, [], _∷_, _++_}

@@ -1,5 +1,5 @@
 -- Programs that demand 3 shuts out (document 01, "What each contract carries" and "Near errors"; document 02, W4), each of them ours but for one
--- call: `ShutOut`. `proofs/WrongPrograms.antt` has the proof: a list, computed, at which each of them breaks the promise. Assumes nothing.
+-- call: `ShutOut`. `proofs/WrongPrograms.antt` has the proof: a list, computed, at which each of them breaks the promise.
 use Prim.Native.Nat.{ℕ}
 use mathlib.Core.Bool.{cond, _||_}
 use mathlib.Core.List.{List, [], _++_}

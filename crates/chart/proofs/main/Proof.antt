@@ -1,4 +1,4 @@
--- `main` meets its contract: what it prints of the page lies in the page. Assumes nothing.
+-- `main` meets its contract: what it prints of the page lies in the page.
 use mathlib.Core.Path.{sym, _∙_}
 use lib.Seq.{length-take-le}
 use borrow.Author.Needs.{needs}

@@ -1,4 +1,4 @@
--- `bytes_needed` meets its contract. Assumes nothing.
+-- `bytes_needed` meets its contract.
 use Prim.Native.Nat.{_*_}
 use mathlib.Core.Path.{refl}
 use native.Mathlib.Omega.{arith}

@@ -1,4 +1,4 @@
--- `copy_all` meets its contract. Assumes nothing.
+-- `copy_all` meets its contract.
 use Prim.Native.Nat.{_-_, _≤_, _<_}
 use mathlib.Core.Path.{_≡_, refl, _∙_}
 use native.Mathlib.Omega.{arith}

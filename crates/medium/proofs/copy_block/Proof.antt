@@ -1,4 +1,4 @@
--- `copy_block` meets its contract. Assumes nothing.
+-- `copy_block` meets its contract.
 use borrow.Author.Needs.{needs}
 use Rattle.medium.specs.Medium.{apply, observe}
 use Rattle.medium.proofs.copy_block.Statement.{statement}

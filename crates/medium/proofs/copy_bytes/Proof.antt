@@ -1,4 +1,4 @@
--- `copy_bytes` meets its contract. Assumes nothing.
+-- `copy_bytes` meets its contract.
 use Prim.Native.Nat.{_+_, _-_, _≤_, _<_}
 use mathlib.Core.Path.{_≡_, refl}
 use native.Mathlib.Omega.{arith}

@@ -1,4 +1,4 @@
--- `fetch_block` meets its contract. Assumes nothing.
+-- `fetch_block` meets its contract.
 use mathlib.Core.Path.{_≡_}
 use lib.ListN.{length}
 use Rattle.medium.specs.Medium.{observe}

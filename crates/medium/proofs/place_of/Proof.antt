@@ -1,4 +1,4 @@
--- `place_of` meets its contract. Assumes nothing.
+-- `place_of` meets its contract.
 use Prim.Native.Nat.{_+_, _*_, _<_, _^_}
 use mathlib.Core.Path.{refl}
 use native.Mathlib.Omega.{arith}

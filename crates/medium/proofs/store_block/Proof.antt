@@ -1,4 +1,4 @@
--- `store_block` meets its contract. Assumes nothing.
+-- `store_block` meets its contract.
 use mathlib.Core.Path.{_≡_}
 use native.Mathlib.Omega.{arith}
 use Rattle.medium.specs.Medium.{place, apply}

@@ -1,4 +1,4 @@
--- `cut_moves` meets its contract. Assumes nothing.
+-- `cut_moves` meets its contract.
 use Prim.Native.Nat.{_+_, _-_}
 use mathlib.Core.Path.{_≡_, refl}
 use native.Mathlib.Omega.{arith}

@@ -1,4 +1,4 @@
--- `later_moves` meets its contract. Assumes nothing.
+-- `later_moves` meets its contract.
 use Prim.Native.Nat.{_+_, _%_}
 use native.Mathlib.Nat.{div-le-self, mod-lt}
 use native.Mathlib.Numerals.{add-one}

@@ -1,4 +1,4 @@
--- `mark_of_spot` meets its contract. Assumes nothing.
+-- `mark_of_spot` meets its contract.
 use Prim.Native.Nat.{_+_, _*_, _≤_}
 use native.Mathlib.Nat.{mod-lt, mul-le-mul}
 use native.Mathlib.Omega.{arith}

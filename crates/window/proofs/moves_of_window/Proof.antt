@@ -1,4 +1,4 @@
--- `moves_of_window` meets its contract. Assumes nothing.
+-- `moves_of_window` meets its contract.
 use Prim.Native.Nat.{_+_, _*_, _<_}
 use mathlib.Core.Path.{_∙_}
 use native.Mathlib.Nat.{suc-mul}

@@ -1,4 +1,4 @@
--- `row_exists` meets its contract. Assumes nothing.
+-- `row_exists` meets its contract.
 use Prim.Native.Nat.{ℕ, _+_, _*_, _/_, _%_, _≤_, _<_}
 use mathlib.Core.Path.{_≡_, sym}
 use mathlib.Core.Bool.{true}

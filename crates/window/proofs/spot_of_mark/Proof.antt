@@ -1,4 +1,4 @@
--- `spot_of_mark` meets its contract. Assumes nothing.
+-- `spot_of_mark` meets its contract.
 use native.Mathlib.Omega.{arith}
 use borrow.Author.Needs.{needs}
 use Rattle.layout.specs.Windows.{spotOfMark}

@@ -1,4 +1,4 @@
--- `triangle` meets its contract. Assumes nothing.
+-- `triangle` meets its contract.
 use native.Mathlib.Omega.{arith}
 use borrow.Author.Needs.{needs}
 use Rattle.window.proofs.CutMoves.{triangle-twice, product-most}

@@ -1,4 +1,4 @@
--- `window_count` meets its contract. Assumes nothing.
+-- `window_count` meets its contract.
 use borrow.Author.Needs.{needs}
 use Rattle.layout.specs.Windows.{windows}
 use Rattle.window.proofs.window_count.Statement.{statement}

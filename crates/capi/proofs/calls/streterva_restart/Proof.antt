@@ -1,4 +1,4 @@
--- `streterva_restart` meets its contract. Assumes nothing.
+-- `streterva_restart` meets its contract.
 use mathlib.Core.Path.{_≡_, refl, sym}
 use mathlib.Core.Bool.{true}
 use borrow.Author.Needs.{needs}

@@ -1,4 +1,4 @@
--- `streterva_soundness` meets its contract. Assumes nothing.
+-- `streterva_soundness` meets its contract.
 use mathlib.Core.Path.{_≡_, refl, sym}
 use mathlib.Core.Bool.{true}
 use mathlib.Core.List.{[]}

@@ -1,4 +1,4 @@
--- `streterva_write` meets its contract. Assumes nothing.
+-- `streterva_write` meets its contract.
 use mathlib.Core.Path.{_≡_, refl, sym, ap}
 use mathlib.Core.Bool.{true}
 use mathlib.Core.List.{[]}

@@ -1,4 +1,4 @@
--- `address_figures` meets its contract. Assumes nothing.
+-- `address_figures` meets its contract.
 use mathlib.Core.Path.{_≡_}
 use lib.ListN.{length}
 use borrow.Author.Needs.{needs}

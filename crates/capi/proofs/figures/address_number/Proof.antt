@@ -1,4 +1,4 @@
--- `address_number` meets its contract. Assumes nothing.
+-- `address_number` meets its contract.
 use borrow.Author.Needs.{needs}
 use Rattle.volume.specs.Answers.{addressNumber}
 use Rattle.capi.proofs.figures.address_number.Statement.{statement}

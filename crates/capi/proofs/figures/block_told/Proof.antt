@@ -1,4 +1,4 @@
--- `block_told` meets its contract. Assumes nothing.
+-- `block_told` meets its contract.
 use borrow.Author.Needs.{needs}
 use Rattle.volume.specs.Answers.{blockTold}
 use Rattle.capi.proofs.figures.block_told.Statement.{statement}

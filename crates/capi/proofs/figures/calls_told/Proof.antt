@@ -1,4 +1,4 @@
--- `calls_told` meets its contract. Assumes nothing.
+-- `calls_told` meets its contract.
 use borrow.Author.Needs.{needs}
 use Rattle.volume.specs.Answers.{callsTold}
 use Rattle.capi.proofs.figures.calls_told.Statement.{statement}

@@ -1,4 +1,4 @@
--- `did_figures` meets its contract. Assumes nothing.
+-- `did_figures` meets its contract.
 use borrow.Author.Needs.{needs}
 use Rattle.capi.specs.Figures.{didFigures}
 use Rattle.capi.proofs.figures.did_figures.Statement.{statement}

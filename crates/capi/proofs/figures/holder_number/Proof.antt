@@ -1,4 +1,4 @@
--- `holder_number` meets its contract. Assumes nothing.
+-- `holder_number` meets its contract.
 use borrow.Author.Needs.{needs}
 use Rattle.volume.specs.Answers.{holderNumber}
 use Rattle.capi.proofs.figures.holder_number.Statement.{statement}

@@ -1,4 +1,4 @@
--- `number` meets its contract. Assumes nothing.
+-- `number` meets its contract.
 use borrow.Author.Needs.{needs}
 use Rattle.volume.specs.Answers.{number}
 use Rattle.capi.proofs.figures.number.Statement.{statement}

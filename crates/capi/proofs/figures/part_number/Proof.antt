@@ -1,4 +1,4 @@
--- `part_number` meets its contract. Assumes nothing.
+-- `part_number` meets its contract.
 use borrow.Author.Needs.{needs}
 use Rattle.capi.specs.Figures.{partNumber}
 use Rattle.capi.proofs.figures.part_number.Statement.{statement}

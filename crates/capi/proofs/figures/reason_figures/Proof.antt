@@ -1,4 +1,4 @@
--- `reason_figures` meets its contract. Assumes nothing.
+-- `reason_figures` meets its contract.
 use borrow.Author.Needs.{needs}
 use Rattle.capi.specs.Figures.{reasonFigures}
 use Rattle.capi.proofs.figures.reason_figures.Statement.{statement}

@@ -1,4 +1,4 @@
--- `streterva_advance` meets its contract. Assumes nothing.
+-- `streterva_advance` meets its contract.
 use mathlib.Core.Path.{_≡_, refl, sym, _∙_}
 use mathlib.Core.Bool.{true}
 use lib.ListN.{length}

@@ -1,4 +1,4 @@
--- `streterva_copy` meets its contract. Assumes nothing.
+-- `streterva_copy` meets its contract.
 use mathlib.Core.Path.{_≡_, refl, sym}
 use mathlib.Core.Bool.{true}
 use lib.ListN.{length}

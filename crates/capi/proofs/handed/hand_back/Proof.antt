@@ -1,4 +1,4 @@
--- `hand_back` meets its contract. Assumes nothing.
+-- `hand_back` meets its contract.
 use borrow.Author.Needs.{needs}
 use Rattle.capi.proofs.WordsCode.{one-set}
 use Rattle.capi.proofs.handed.hand_back.Statement.{statement}

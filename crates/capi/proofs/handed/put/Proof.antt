@@ -1,4 +1,4 @@
--- `put` meets its contract. Assumes nothing.
+-- `put` meets its contract.
 use Prim.Native.Nat.{_-_, _≤_, _<_}
 use mathlib.Core.Path.{_≡_, refl}
 use native.Mathlib.Omega.{arith}

@@ -1,4 +1,4 @@
--- `put_pending` meets its contract. Assumes nothing.
+-- `put_pending` meets its contract.
 use borrow.Author.Needs.{needs}
 use Rattle.capi.proofs.handed.put_pending.Statement.{statement}
 use Rattle.capi.proofs.handed.put_pending.Tie as tie

@@ -1,4 +1,4 @@
--- `put_state` meets its contract. Assumes nothing.
+-- `put_state` meets its contract.
 use mathlib.Core.Path.{_∙_}
 use borrow.Author.Needs.{needs}
 use Rattle.capi.proofs.handed.put_state.Statement.{statement}

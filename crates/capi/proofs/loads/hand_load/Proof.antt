@@ -1,4 +1,4 @@
--- `hand_load` meets its contract. Assumes nothing.
+-- `hand_load` meets its contract.
 use mathlib.Core.Path.{_≡_, refl, sym, _∙_}
 use native.Mathlib.Omega.{arith}
 use lib.ListN.{length, length-set}

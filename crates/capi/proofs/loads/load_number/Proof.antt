@@ -1,4 +1,4 @@
--- `load_number` meets its contract. Assumes nothing.
+-- `load_number` meets its contract.
 use borrow.Author.Needs.{needs}
 use Rattle.scene_load.specs.Loads.{loadNumber}
 use Rattle.capi.proofs.loads.load_number.Statement.{statement}

@@ -1,4 +1,4 @@
--- `place_told` meets its contract. Assumes nothing.
+-- `place_told` meets its contract.
 use borrow.Author.Needs.{needs}
 use Rattle.scene_load.specs.Loads.{placeTold}
 use Rattle.capi.proofs.loads.place_told.Statement.{statement}

@@ -1,4 +1,4 @@
--- `state_or_zeros` meets its contract. Assumes nothing.
+-- `state_or_zeros` meets its contract.
 use mathlib.Core.Path.{_≡_, sym, _∙_}
 use mathlib.Core.Bool.{true, false}
 use borrow.Author.Tests.{not-true, not-false}

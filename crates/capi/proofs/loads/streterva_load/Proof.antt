@@ -1,5 +1,5 @@
 -- `streterva_load` meets its contract: a walk of its code by hand, since it passes on a lent slice of structs. All that it knows of the three
--- functions that it calls is that each meets its contract. The figures are lent to the last of them and not used again. Assumes nothing.
+-- functions that it calls is that each meets its contract. The figures are lent to the last of them and not used again.
 use mathlib.Core.Path.{_≡_, refl, subst}
 use Prim.Native.Nat.{ℕ}
 use mathlib.Core.Bool.{cond}

@@ -1,4 +1,4 @@
--- `is_state` meets its contract. Assumes nothing.
+-- `is_state` meets its contract.
 use borrow.Author.Needs.{needs}
 use borrow.Author.Tests.{eq-eqb, ne-eqb}
 use Rattle.capi.specs.Words.{areState}

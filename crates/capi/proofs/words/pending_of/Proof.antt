@@ -1,4 +1,4 @@
--- `pending_of` meets its contract. Assumes nothing.
+-- `pending_of` meets its contract.
 use mathlib.Core.Path.{refl}
 use Rattle.capi.specs.Words.{pendingFrom}
 use Rattle.capi.proofs.words.pending_of.Statement.{statement}

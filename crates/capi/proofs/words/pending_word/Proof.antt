@@ -1,4 +1,4 @@
--- `pending_word` meets its contract. Assumes nothing.
+-- `pending_word` meets its contract.
 use Rattle.capi.specs.Words.{pendingWord}
 use Rattle.capi.proofs.words.pending_word.Statement.{statement}
 use Rattle.capi.proofs.words.pending_word.Tie as tie

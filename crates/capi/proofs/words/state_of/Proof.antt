@@ -1,4 +1,4 @@
--- `state_of` meets its contract. Assumes nothing.
+-- `state_of` meets its contract.
 use borrow.Author.Needs.{needs}
 use Rattle.capi.specs.Words.{stateFrom}
 use Rattle.capi.proofs.WordLaws.{counts-listed}

@@ -1,4 +1,4 @@
--- `words_of` meets its contract. Assumes nothing.
+-- `words_of` meets its contract.
 use borrow.Author.Needs.{needs}
 use mathlib.Core.Path.{_≡_}
 use lib.ListN.{length}

@@ -1,4 +1,4 @@
--- `added_disk` meets its contract. Assumes nothing.
+-- `added_disk` meets its contract.
 use Prim.Native.Nat.{_+_, _-_, _%_, _<_}
 use mathlib.Core.Path.{_≡_}
 use native.Mathlib.Nat.{mod-lt, mod-eq-of-lt, mod-add-mod}

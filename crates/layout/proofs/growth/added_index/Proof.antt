@@ -1,4 +1,4 @@
--- `added_index` meets its contract. Assumes nothing.
+-- `added_index` meets its contract.
 use Prim.Native.Nat.{_+_, _%_, _<_}
 use native.Mathlib.Nat.{mod-lt}
 use native.Mathlib.Omega.{arith}

@@ -1,4 +1,4 @@
--- `added_spot` meets its contract. Assumes nothing.
+-- `added_spot` meets its contract.
 use native.Mathlib.Nat.{mod-lt}
 use native.Mathlib.Omega.{arith}
 use borrow.Author.Needs.{needs}

@@ -1,4 +1,4 @@
--- `change_of` meets its contract. Assumes nothing.
+-- `change_of` meets its contract.
 use native.Mathlib.Omega.{arith}
 use borrow.Author.Tests.{lt-ltb, le-ltb}
 use borrow.Author.Needs.{needs}

@@ -1,4 +1,4 @@
--- `disk_after` meets its contract. Assumes nothing.
+-- `disk_after` meets its contract.
 use mathlib.Core.Path.{sym, _∙_}
 use native.Mathlib.Nat.{mod-lt}
 use native.Mathlib.Omega.{arith}

@@ -1,4 +1,4 @@
--- `first_fit` meets its contract. Assumes nothing.
+-- `first_fit` meets its contract.
 use Rattle.layout.proofs.growth.first_fit.Statement.{statement}
 use Rattle.layout.proofs.growth.first_fit.Tie as tie
 

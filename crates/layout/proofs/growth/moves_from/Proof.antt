@@ -1,4 +1,4 @@
--- `moves_from` meets its contract. Assumes nothing.
+-- `moves_from` meets its contract.
 use native.Mathlib.Omega.{arith}
 use borrow.Author.Needs.{needs}
 use Rattle.layout.specs.Growth.{movesFrom}

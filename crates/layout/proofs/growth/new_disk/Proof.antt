@@ -1,4 +1,4 @@
--- `new_disk` meets its contract. Assumes nothing.
+-- `new_disk` meets its contract.
 use borrow.Author.Tests.{le-leb, lt-leb}
 use borrow.Author.Needs.{needs}
 use Rattle.layout.specs.Growth.{newDisk}

@@ -1,4 +1,4 @@
--- `old_block_spot` meets its contract. Assumes nothing.
+-- `old_block_spot` meets its contract.
 use borrow.Author.Needs.{needs}
 use Rattle.layout.specs.Growth.{oldBlockSpot}
 use Rattle.layout.proofs.growth.old_block_spot.Statement.{statement}

@@ -1,4 +1,4 @@
--- `old_change` meets its contract. Assumes nothing.
+-- `old_change` meets its contract.
 use borrow.Author.Needs.{needs}
 use Rattle.layout.proofs.growth.old_change.Statement.{statement}
 use Rattle.layout.proofs.growth.old_change.Tie as tie

@@ -1,4 +1,4 @@
--- `old_disk` meets its contract. Assumes nothing.
+-- `old_disk` meets its contract.
 use mathlib.Core.Path.{sym, _∙_}
 use native.Mathlib.Omega.{arith}
 use borrow.Author.Tests.{le-leb, lt-leb}

@@ -1,4 +1,4 @@
--- `part_of` meets its contract. Assumes nothing.
+-- `part_of` meets its contract.
 use borrow.Author.Tests.{le-leb, lt-leb}
 use Rattle.layout.specs.Growth.{partOf}
 use borrow.Author.Needs.{needs}

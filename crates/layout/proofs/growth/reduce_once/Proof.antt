@@ -1,4 +1,4 @@
--- `reduce_once` meets its contract. Assumes nothing.
+-- `reduce_once` meets its contract.
 use mathlib.Core.Path.{sym, _∙_}
 use native.Mathlib.Nat.{mod-eq-of-lt, mod-eq-sub-mod}
 use native.Mathlib.Omega.{arith}

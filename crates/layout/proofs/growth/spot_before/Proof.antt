@@ -1,4 +1,4 @@
--- `spot_before` meets its contract. Assumes nothing.
+-- `spot_before` meets its contract.
 use native.Mathlib.Omega.{arith}
 use borrow.Author.Needs.{needs}
 use Rattle.layout.specs.Growth.{spotBefore}

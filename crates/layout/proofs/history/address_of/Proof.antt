@@ -1,4 +1,4 @@
--- `address_of` meets its contract. The loop's invariant: at and reason are those of the block after k growths, and it is there then. Assumes nothing.
+-- `address_of` meets its contract. The loop's invariant: at and reason are those of the block after k growths, and it is there then.
 use Prim.Native.Nat.{_+_, _-_, _<_, _≤_}
 use mathlib.Core.Path.{_≡_, _∙_}
 use native.Mathlib.Omega.{arith}

@@ -1,4 +1,4 @@
--- `block_at` meets its contract. The loop's invariant: the block at q after k growths is the one that is asked for. Assumes nothing.
+-- `block_at` meets its contract. The loop's invariant: the block at q after k growths is the one that is asked for.
 use Prim.Native.Nat.{_-_, _≤_}
 use mathlib.Core.Path.{_≡_, refl, _∙_}
 use native.Mathlib.Omega.{arith}

@@ -1,4 +1,4 @@
--- `placed_at` meets its contract. Assumes nothing.
+-- `placed_at` meets its contract.
 use Prim.Native.Nat.{_-_, _*_, _≤_}
 use mathlib.Core.Path.{_∙_}
 use native.Mathlib.Nat.{le-refl}

@@ -1,4 +1,4 @@
--- `placed_by` meets its contract. The loop's invariant: the block is not there before growth k. Assumes nothing.
+-- `placed_by` meets its contract. The loop's invariant: the block is not there before growth k.
 use Prim.Native.Nat.{_-_, _<_, _≤_}
 use mathlib.Core.Path.{refl}
 use mathlib.Core.Logic.{inl}

@@ -1,4 +1,4 @@
--- `placed_reason` meets its contract. Assumes nothing.
+-- `placed_reason` meets its contract.
 use native.Mathlib.Omega.{arith}
 use Rattle.layout.specs.Reasons.{placedReason}
 use Rattle.layout.proofs.HistoryCode.{placed-added}

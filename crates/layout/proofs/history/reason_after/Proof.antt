@@ -1,4 +1,4 @@
--- `reason_after` meets its contract. Assumes nothing.
+-- `reason_after` meets its contract.
 use borrow.Author.Needs.{needs}
 use Rattle.layout.specs.Reasons.{reasonAfter}
 use Rattle.layout.proofs.history.reason_after.Statement.{statement}

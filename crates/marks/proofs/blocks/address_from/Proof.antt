@@ -1,4 +1,4 @@
--- `address_from` meets its contract. Assumes nothing.
+-- `address_from` meets its contract.
 use mathlib.Core.Path.{sym, _∙_}
 use borrow.Author.Needs.{needs}
 use borrow.Author.Tests.{not-true, not-false}

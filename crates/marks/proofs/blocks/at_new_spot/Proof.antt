@@ -1,4 +1,4 @@
--- `at_new_spot` meets its contract. Assumes nothing.
+-- `at_new_spot` meets its contract.
 use mathlib.Core.Path.{sym, _∙_}
 use borrow.Author.Needs.{needs}
 use borrow.Author.Tests.{not-true, not-false}

@@ -1,4 +1,4 @@
--- `is_marked` meets its contract. Assumes nothing.
+-- `is_marked` meets its contract.
 use mathlib.Core.Path.{sym, _∙_}
 use borrow.Author.Needs.{needs}
 use borrow.Author.Tests.{not-true, not-false}

@@ -1,4 +1,4 @@
--- `is_marked_at` meets its contract. Assumes nothing.
+-- `is_marked_at` meets its contract.
 use native.Mathlib.Omega.{arith}
 use borrow.Author.Needs.{needs}
 use borrow.Author.Tests.{eq-eqb, ne-eqb}

@@ -1,4 +1,4 @@
--- `is_waiting` meets its contract. Assumes nothing.
+-- `is_waiting` meets its contract.
 use borrow.Author.Needs.{needs}
 use Rattle.marks.proofs.BlocksCode.{waiting-told}
 use Rattle.marks.proofs.blocks.is_waiting.Statement.{statement}

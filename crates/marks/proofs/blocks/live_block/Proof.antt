@@ -1,4 +1,4 @@
--- `live_block` meets its contract. Assumes nothing.
+-- `live_block` meets its contract.
 use Prim.Native.Nat.{_-_, _≤_, _<_}
 use mathlib.Core.Path.{_≡_, refl, _∙_}
 use mathlib.Core.Bool.{false}

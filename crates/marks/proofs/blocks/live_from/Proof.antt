@@ -1,4 +1,4 @@
--- `live_from` meets its contract. Assumes nothing.
+-- `live_from` meets its contract.
 use borrow.Author.Needs.{needs}
 use Rattle.marks.specs.Marks.{liveFrom}
 use Rattle.marks.proofs.blocks.live_from.Statement.{statement}

@@ -1,4 +1,4 @@
--- `live_spot` meets its contract. Assumes nothing.
+-- `live_spot` meets its contract.
 use Prim.Native.Nat.{_<_}
 use mathlib.Core.Logic.{⊎-elim}
 use borrow.Author.Tests.{eq-eqb, ne-eqb}

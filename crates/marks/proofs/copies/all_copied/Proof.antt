@@ -1,4 +1,4 @@
--- `all_copied` meets its contract. Assumes nothing.
+-- `all_copied` meets its contract.
 use borrow.Author.Needs.{needs}
 use Rattle.layout.proofs.NewestCode.{newest-asks}
 use Rattle.marks.proofs.BlocksCode.{ReadGrowth, grows-read}

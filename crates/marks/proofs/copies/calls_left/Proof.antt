@@ -1,4 +1,4 @@
--- `calls_left` meets its contract. Assumes nothing.
+-- `calls_left` meets its contract.
 use Prim.Native.Nat.{_<_}
 use mathlib.Core.Path.{_∙_}
 use mathlib.Core.Logic.{⊎-elim}

@@ -1,4 +1,4 @@
--- `calls_left_by_marks` meets its contract. Assumes nothing.
+-- `calls_left_by_marks` meets its contract.
 use Prim.Native.Nat.{_+_, _*_, _≤_}
 use native.Mathlib.Omega.{arith}
 use borrow.Author.Needs.{needs}

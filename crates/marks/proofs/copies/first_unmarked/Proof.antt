@@ -1,4 +1,4 @@
--- `first_unmarked` meets its contract. Assumes nothing.
+-- `first_unmarked` meets its contract.
 use native.Mathlib.Omega.{arith}
 use lib.Count.{trailing-le}
 use borrow.Author.Needs.{needs}

@@ -1,4 +1,4 @@
--- `moves_now` meets its contract. Assumes nothing.
+-- `moves_now` meets its contract.
 use mathlib.Core.Path.{sym, _∙_}
 use borrow.Author.Needs.{needs}
 use borrow.Author.Tests.{not-true, not-false}

@@ -1,4 +1,4 @@
--- `next_copy` meets its contract. Assumes nothing.
+-- `next_copy` meets its contract.
 use native.Mathlib.Omega.{arith}
 use borrow.Author.Needs.{needs}
 use Rattle.layout.proofs.NewestCode.{newest-asks}

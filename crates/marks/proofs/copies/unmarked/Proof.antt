@@ -1,4 +1,4 @@
--- `unmarked` meets its contract. Assumes nothing.
+-- `unmarked` meets its contract.
 use native.Mathlib.Omega.{arith}
 use lib.Count.{ones-le}
 use borrow.Author.Needs.{needs}

@@ -1,4 +1,4 @@
--- `unset_marks` meets its contract. Assumes nothing.
+-- `unset_marks` meets its contract.
 use mathlib.Core.Path.{ap, _∙_}
 use borrow.Author.Needs.{needs}
 use Rattle.marks.specs.Marks.{difference}

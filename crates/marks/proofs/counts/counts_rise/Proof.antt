@@ -1,4 +1,4 @@
--- `counts_rise` meets its contract. The loop's invariant: the counts passed rise. Assumes nothing.
+-- `counts_rise` meets its contract. The loop's invariant: the counts passed rise.
 use Prim.Native.Nat.{suc, _-_, _≤_}
 use native.Mathlib.Omega.{arith}
 use Rattle.marks.proofs.CountsCode.{Risen, risen-none, risen-next, not-risen, risen-all}

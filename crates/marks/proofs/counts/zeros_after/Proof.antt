@@ -1,4 +1,4 @@
--- `zeros_after` meets its contract. The loop's invariant: the counts passed are zero or not after N[t]. Assumes nothing.
+-- `zeros_after` meets its contract. The loop's invariant: the counts passed are zero or not after N[t].
 use Prim.Native.Nat.{_+_, _-_, _≤_, _<_}
 use mathlib.Core.Path.{_≡_, sym}
 use mathlib.Core.Bool.{true}

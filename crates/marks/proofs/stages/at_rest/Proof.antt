@@ -1,4 +1,4 @@
--- `at_rest` meets its contract. Assumes nothing.
+-- `at_rest` meets its contract.
 use mathlib.Core.Path.{sym, _∙_}
 use borrow.Author.Needs.{needs}
 use borrow.Author.Tests.{eq-eqb, ne-eqb, not-true, not-false}

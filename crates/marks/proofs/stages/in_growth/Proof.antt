@@ -1,4 +1,4 @@
--- `in_growth` meets its contract. Assumes nothing.
+-- `in_growth` meets its contract.
 use Prim.Native.Nat.{ℕ, _<_}
 use mathlib.Core.Path.{_≡_, sym, ap, _∙_}
 use mathlib.Core.Bool.{Bool, not, _&&_}

@@ -1,4 +1,4 @@
--- `cut_marks` meets its contract. The loop's invariant: the word is that of the marks from disk d on. Assumes nothing.
+-- `cut_marks` meets its contract. The loop's invariant: the word is that of the marks from disk d on.
 use Prim.Native.Nat.{_+_, _*_, _-_, _%_, _^_, _≤_, _<_}
 use mathlib.Core.Path.{_≡_}
 use native.Mathlib.Nat.{mul-le-mul, zero-mul}

@@ -1,4 +1,4 @@
--- `disk_marks` meets its contract. Assumes nothing.
+-- `disk_marks` meets its contract.
 use Prim.Native.Nat.{_-_, _<_, min}
 use mathlib.Core.Path.{_≡_, sym}
 use mathlib.Core.Logic.{⊎-elim}

@@ -1,4 +1,4 @@
--- `has_mark` meets its contract. Assumes nothing.
+-- `has_mark` meets its contract.
 use mathlib.Core.Path.{sym}
 use borrow.Author.Needs.{needs}
 use Rattle.base.proofs.Bits.{bit-at}

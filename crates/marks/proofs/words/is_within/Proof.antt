@@ -1,4 +1,4 @@
--- `is_within` meets its contract. Assumes nothing.
+-- `is_within` meets its contract.
 use Rattle.marks.proofs.MarkWords.{within-word}
 use Rattle.marks.proofs.words.is_within.Statement.{statement}
 use Rattle.marks.proofs.words.is_within.Tie as tie

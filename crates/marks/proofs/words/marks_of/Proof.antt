@@ -1,4 +1,4 @@
--- `marks_of` meets its contract. Assumes nothing.
+-- `marks_of` meets its contract.
 use Prim.Native.Nat.{_-_, _≤_, _<_}
 use mathlib.Core.Path.{_≡_, refl}
 use mathlib.Core.Bool.{false}

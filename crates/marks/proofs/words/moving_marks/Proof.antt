@@ -1,4 +1,4 @@
--- `moving_marks` meets its contract. Assumes nothing.
+-- `moving_marks` meets its contract.
 use Prim.Native.Nat.{ℕ, _*_, _<_}
 use native.Mathlib.Nat.{mul-le-mul, le-mul-of-pos-right}
 use native.Mathlib.Omega.{arith}

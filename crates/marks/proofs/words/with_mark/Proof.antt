@@ -1,4 +1,4 @@
--- `with_mark` meets its contract. Assumes nothing.
+-- `with_mark` meets its contract.
 use Prim.Native.Nat.{_^_, _<_}
 use mathlib.Core.Path.{sym, ap, _∙_}
 use lib.Bits.{bitOr, or-lt}

@@ -1,4 +1,4 @@
--- `without` meets its contract. Assumes nothing.
+-- `without` meets its contract.
 use Rattle.marks.proofs.MarkWords.{without-word}
 use Rattle.marks.proofs.words.without.Statement.{statement}
 use Rattle.marks.proofs.words.without.Tie as tie

@@ -1,4 +1,4 @@
--- `word_of` meets its contract. Assumes nothing.
+-- `word_of` meets its contract.
 use Prim.Native.Nat.{_+_, _-_, _*_, _^_, _≤_, _<_}
 use mathlib.Core.Path.{_≡_, _∙_}
 use mathlib.Core.Bool.{false, cond}

@@ -1,4 +1,4 @@
--- `run_cases` meets its contract. Assumes nothing.
+-- `run_cases` meets its contract.
 use Prim.Native.Nat.{_-_, _≤_}
 use lib.ListN.{length}
 use borrow.Author.Needs.{needs}

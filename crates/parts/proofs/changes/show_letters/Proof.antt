@@ -1,4 +1,4 @@
--- `show_letters` meets its contract. Assumes nothing.
+-- `show_letters` meets its contract.
 use Prim.Native.Nat.{_+_, _*_, _-_, _≤_}
 use native.Mathlib.Nat.{mod-lt, mul-le-mul}
 use native.Mathlib.Omega.{arith}

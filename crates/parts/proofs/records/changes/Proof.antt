@@ -1,4 +1,4 @@
--- `changes` meets its contract. The loop's invariant: the total is at most the changes passed. Assumes nothing.
+-- `changes` meets its contract. The loop's invariant: the total is at most the changes passed.
 use Prim.Native.Nat.{_-_, _≤_}
 use mathlib.Core.Logic.{⊎-elim}
 use native.Mathlib.Omega.{arith}

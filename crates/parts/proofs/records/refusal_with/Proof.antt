@@ -1,4 +1,4 @@
--- `refusal_with` meets its contract. Assumes nothing.
+-- `refusal_with` meets its contract.
 use lib.ListN.{length-set}
 use borrow.Author.Needs.{needs}
 use Rattle.parts.proofs.records.refusal_with.Statement.{statement}

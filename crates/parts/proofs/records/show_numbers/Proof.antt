@@ -1,4 +1,4 @@
--- `show_numbers` meets its contract. Assumes nothing.
+-- `show_numbers` meets its contract.
 use Prim.Native.Nat.{_-_, _≤_}
 use borrow.Author.Needs.{needs}
 use Rattle.parts.proofs.records.show_numbers.Statement.{statement}

@@ -1,4 +1,4 @@
--- `show_set` meets its contract. Assumes nothing.
+-- `show_set` meets its contract.
 use Prim.Native.Nat.{_-_, _≤_}
 use borrow.Author.Needs.{needs}
 use Rattle.parts.proofs.records.show_set.Statement.{statement}

@@ -1,4 +1,4 @@
--- `grows` meets its contract. Assumes nothing.
+-- `grows` meets its contract.
 use Prim.Native.Nat.{_-_}
 use native.Mathlib.Omega.{arith}
 use borrow.Author.Tests.{leb-true}

@@ -1,4 +1,4 @@
--- `growth_windows` meets its contract. Assumes nothing.
+-- `growth_windows` meets its contract.
 use Prim.Native.Nat.{_<_}
 use mathlib.Core.Path.{sym, _∙_}
 use native.Mathlib.Nat.{le-refl}

@@ -1,4 +1,4 @@
--- `mark_agrees` meets its contract. Assumes nothing.
+-- `mark_agrees` meets its contract.
 use native.Mathlib.Omega.{arith}
 use borrow.Author.Tests.{not-false}
 use borrow.Author.Needs.{needs}

@@ -1,4 +1,4 @@
--- `marks_found` meets its contract. The loop's invariant: the total is at most the marks passed. Assumes nothing.
+-- `marks_found` meets its contract. The loop's invariant: the total is at most the marks passed.
 use Prim.Native.Nat.{_-_, _≤_}
 use mathlib.Core.Logic.{⊎-elim}
 use native.Mathlib.Omega.{arith}

@@ -1,4 +1,4 @@
--- `show_marks` meets its contract. Assumes nothing.
+-- `show_marks` meets its contract.
 use native.Mathlib.Omega.{arith}
 use borrow.Author.Needs.{needs}
 use Rattle.layout.proofs.NewestCode.{newest-asks}

@@ -1,4 +1,4 @@
--- `window_moves` meets its contract. Assumes nothing.
+-- `window_moves` meets its contract.
 use native.Mathlib.Omega.{arith}
 use borrow.Author.Needs.{needs}
 use Rattle.parts.proofs.windows.window_moves.Statement.{statement}

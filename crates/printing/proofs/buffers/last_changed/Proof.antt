@@ -1,4 +1,4 @@
--- `last_changed` meets its contract. Assumes nothing.
+-- `last_changed` meets its contract.
 use Prim.Native.Nat.{_-_, _≤_}
 use lib.ListN.{length}
 use borrow.Author.Needs.{needs}

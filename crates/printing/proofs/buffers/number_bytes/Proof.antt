@@ -1,4 +1,4 @@
--- `number_bytes` meets its contract. Assumes nothing.
+-- `number_bytes` meets its contract.
 use Prim.Native.Nat.{_-_, _≤_}
 use mathlib.Core.Path.{_≡_}
 use lib.ListN.{length}

@@ -1,4 +1,4 @@
--- `is_blank` meets its contract. Assumes nothing.
+-- `is_blank` meets its contract.
 use Prim.Native.Nat.{_+_, _-_, _≤_}
 use mathlib.Core.Bool.{and-true, and-false}
 use native.Mathlib.Omega.{arith}

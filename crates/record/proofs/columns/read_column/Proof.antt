@@ -1,4 +1,4 @@
--- `read_column` meets its contract. Assumes nothing.
+-- `read_column` meets its contract.
 use Prim.Native.Nat.{_-_, _^_, _≤_}
 use mathlib.Core.Path.{_≡_, refl, sym, _∙_}
 use native.Mathlib.Nat.{pow-le-pow-right}

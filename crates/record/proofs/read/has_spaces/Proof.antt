@@ -1,4 +1,4 @@
--- `has_spaces` meets its contract. The loop's invariant: no other byte is counted where those passed are spaces. Assumes nothing.
+-- `has_spaces` meets its contract. The loop's invariant: no other byte is counted where those passed are spaces.
 use Prim.Native.Nat.{ℕ, _+_, _-_, _≤_}
 use mathlib.Core.Path.{_≡_, refl}
 use mathlib.Core.Bool.{Bool, true, false}

@@ -1,4 +1,4 @@
--- `no_record` meets its contract. Assumes nothing.
+-- `no_record` meets its contract.
 use mathlib.Core.Path.{refl}
 use Rattle.record.specs.Sector.{noRecord}
 use Rattle.record.proofs.read.no_record.Statement.{statement}

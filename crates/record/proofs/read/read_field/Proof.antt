@@ -1,4 +1,4 @@
--- `read_field` meets its contract. Assumes nothing.
+-- `read_field` meets its contract.
 use mathlib.Core.Path.{_≡_, sym, _∙_}
 use borrow.Author.Tests.{not-true, not-false}
 use Rattle.record.specs.declared.Column.{Column}

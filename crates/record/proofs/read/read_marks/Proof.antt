@@ -1,4 +1,4 @@
--- `read_marks` meets its contract. Assumes nothing.
+-- `read_marks` meets its contract.
 use Prim.Native.Nat.{_-_, _≤_, _<_}
 use mathlib.Core.Path.{_≡_, refl}
 use mathlib.Core.Bool.{true, false}

@@ -1,4 +1,4 @@
--- `read_numbers` meets its contract. Assumes nothing.
+-- `read_numbers` meets its contract.
 use Prim.Native.Nat.{_-_, _≤_, _<_}
 use mathlib.Core.Path.{_≡_, refl, sym, ap, _∙_}
 use mathlib.Core.Bool.{true}

@@ -1,4 +1,4 @@
--- `read_record` meets its contract. Assumes nothing.
+-- `read_record` meets its contract.
 use mathlib.Core.Path.{_≡_, sym, ap, _∙_}
 use borrow.Author.Tests.{not-true, not-false}
 use Rattle.base.proofs.Booleans.{clash}

@@ -1,4 +1,4 @@
--- `put_ending` meets its contract. Assumes nothing.
+-- `put_ending` meets its contract.
 use native.Mathlib.Omega.{arith}
 use borrow.Author.Needs.{needs}
 use lib.ListN.{replicate, length-replicate}

@@ -1,4 +1,4 @@
--- `put_field` meets its contract. Assumes nothing.
+-- `put_field` meets its contract.
 use Prim.Native.Nat.{_*_}
 use mathlib.Core.Path.{_≡_, sym, _∙_}
 use mathlib.Core.Bool.{true, false}

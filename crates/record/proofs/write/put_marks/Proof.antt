@@ -1,4 +1,4 @@
--- `put_marks` meets its contract. Assumes nothing.
+-- `put_marks` meets its contract.
 use Prim.Native.Nat.{_+_, _-_, _≤_}
 use mathlib.Core.Path.{_≡_, refl, _∙_}
 use mathlib.Core.Bool.{false}

@@ -1,4 +1,4 @@
--- `write_record` meets its contract. Assumes nothing.
+-- `write_record` meets its contract.
 use borrow.Author.Needs.{needs}
 use Rattle.record.proofs.WriteCode.{sector-parts}
 use Rattle.record.proofs.write.write_record.Statement.{statement}

@@ -1,4 +1,4 @@
--- `empty_load` meets its contract. Assumes nothing.
+-- `empty_load` meets its contract.
 use mathlib.Core.Path.{sym, _∙_}
 use borrow.Author.Needs.{needs}
 use Rattle.scene_load.proofs.ScenesCode.{empty-sound, empty-unsound}

@@ -1,4 +1,4 @@
--- `is_refused` meets its contract. Assumes nothing.
+-- `is_refused` meets its contract.
 use native.Mathlib.Omega.{arith}
 use Rattle.scene_load.proofs.BlocksCode.{late-refused, empty-allowed, many-refused, end-tested}
 use Rattle.scene_load.proofs.blocks.is_refused.Statement.{statement}

@@ -1,4 +1,4 @@
--- `with_blocks` meets its contract. The loop's invariant: the numbers have the blocks passed. Assumes nothing.
+-- `with_blocks` meets its contract. The loop's invariant: the numbers have the blocks passed.
 use Prim.Native.Nat.{_-_, _≤_, _<_}
 use mathlib.Core.Path.{_≡_, ap}
 use native.Mathlib.Omega.{arith}

@@ -1,4 +1,4 @@
--- `with_scene` meets its contract. Assumes nothing.
+-- `with_scene` meets its contract.
 use mathlib.Core.Path.{_≡_, sym, _∙_}
 use mathlib.Core.Bool.{false}
 use borrow.Author.Needs.{needs}

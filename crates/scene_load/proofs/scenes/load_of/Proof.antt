@@ -1,5 +1,5 @@
 -- `load_of` meets its contract: a walk of its code by hand, since it reads a lent slice of structs. All that it knows of `empty_load` and
--- `with_scene` is that each meets its contract. The loop's invariant: the load is that of the scenes taken. Assumes nothing.
+-- `with_scene` is that each meets its contract. The loop's invariant: the load is that of the scenes taken.
 use mathlib.Core.Path.{_≡_, refl, sym, _∙_, subst}
 use mathlib.Core.Bool.{Bool}
 use Prim.Native.Nat.{ℕ, zero, suc, _<_, _^_, _*_, _+_}

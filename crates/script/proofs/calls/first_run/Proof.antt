@@ -1,4 +1,4 @@
--- `first_run` meets its contract. Assumes nothing.
+-- `first_run` meets its contract.
 use Prim.Native.Nat.{_-_, _≤_}
 use lib.ListN.{length}
 use borrow.Author.Needs.{needs}

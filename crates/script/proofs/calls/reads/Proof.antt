@@ -1,4 +1,4 @@
--- `reads` meets its contract. Assumes nothing.
+-- `reads` meets its contract.
 use Prim.Native.Nat.{_-_, _≤_}
 use mathlib.Core.Path.{_≡_}
 use lib.ListN.{length}

@@ -1,4 +1,4 @@
--- `saves` meets its contract. Assumes nothing.
+-- `saves` meets its contract.
 use Prim.Native.Nat.{_-_, _≤_}
 use borrow.Author.Needs.{needs}
 use Rattle.script.proofs.calls.saves.Statement.{statement}

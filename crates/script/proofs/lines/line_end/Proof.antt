@@ -1,4 +1,4 @@
--- `line_end` meets its contract. Assumes nothing.
+-- `line_end` meets its contract.
 use Prim.Native.Nat.{_-_, _≤_}
 use lib.ListN.{length}
 use borrow.Author.Needs.{needs}

@@ -1,4 +1,4 @@
--- `number_at` meets its contract. Assumes nothing.
+-- `number_at` meets its contract.
 use Prim.Native.Nat.{_-_, _≤_}
 use lib.ListN.{length}
 use borrow.Author.Needs.{needs}

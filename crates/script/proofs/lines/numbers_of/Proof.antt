@@ -1,4 +1,4 @@
--- `numbers_of` meets its contract. Assumes nothing.
+-- `numbers_of` meets its contract.
 use Prim.Native.Nat.{_-_, _≤_}
 use mathlib.Core.Path.{_≡_}
 use lib.ListN.{length}

@@ -1,4 +1,4 @@
--- `word_number` meets its contract. Assumes nothing.
+-- `word_number` meets its contract.
 use Prim.Native.Nat.{_-_, _≤_}
 use mathlib.Core.Logic.{⊎-elim}
 use native.Mathlib.Omega.{arith}

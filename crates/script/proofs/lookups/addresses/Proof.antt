@@ -1,4 +1,4 @@
--- `addresses` meets its contract. Assumes nothing.
+-- `addresses` meets its contract.
 use Prim.Native.Nat.{_-_, _≤_}
 use borrow.Author.Needs.{needs}
 use Rattle.script.proofs.lookups.addresses.Statement.{statement}

@@ -1,4 +1,4 @@
--- `blocks_of` meets its contract. Assumes nothing.
+-- `blocks_of` meets its contract.
 use Prim.Native.Nat.{_-_, _≤_}
 use mathlib.Core.Logic.{⊎-elim}
 use native.Mathlib.Omega.{arith}

@@ -1,4 +1,4 @@
--- `run_script` meets its contract. Assumes nothing.
+-- `run_script` meets its contract.
 use Prim.Native.Nat.{_-_, _≤_}
 use lib.ListN.{length}
 use borrow.Author.Needs.{needs}

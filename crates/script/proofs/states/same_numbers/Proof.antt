@@ -1,4 +1,4 @@
--- `same_numbers` meets its contract. Assumes nothing.
+-- `same_numbers` meets its contract.
 use Prim.Native.Nat.{_-_, _≤_}
 use borrow.Author.Needs.{needs}
 use Rattle.script.proofs.states.same_numbers.Statement.{statement}

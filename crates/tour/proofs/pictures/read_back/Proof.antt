@@ -1,4 +1,4 @@
--- `read_back` meets its contract. The loop's invariant: each count is at most the blocks passed. Assumes nothing.
+-- `read_back` meets its contract. The loop's invariant: each count is at most the blocks passed.
 use Prim.Native.Nat.{_-_, _≤_}
 use mathlib.Core.Logic.{⊎-elim}
 use native.Mathlib.Omega.{arith}

@@ -1,4 +1,4 @@
--- `tell` meets its contract. Assumes nothing.
+-- `tell` meets its contract.
 use Prim.Native.Nat.{_-_, _≤_}
 use lib.ListN.{length}
 use borrow.Author.Needs.{needs}

@@ -1,4 +1,4 @@
--- `write_each` meets its contract. The loop's invariant: the count is at most the blocks passed. Assumes nothing.
+-- `write_each` meets its contract. The loop's invariant: the count is at most the blocks passed.
 use Prim.Native.Nat.{_-_, _≤_}
 use mathlib.Core.Path.{_≡_}
 use lib.ListN.{length}

@@ -1,4 +1,4 @@
--- `address` meets its contract. Assumes nothing.
+-- `address` meets its contract.
 use mathlib.Core.Path.{refl, sym, _∙_}
 use borrow.Author.Needs.{needs}
 use Rattle.layout.specs.Tally.{liveAddressOf}

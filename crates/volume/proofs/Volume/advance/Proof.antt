@@ -1,4 +1,4 @@
--- `advance` meets its contract. Assumes nothing.
+-- `advance` meets its contract.
 use mathlib.Core.Path.{refl, sym, _∙_}
 use mathlib.Core.List.{[]}
 use lib.ListN.{length}

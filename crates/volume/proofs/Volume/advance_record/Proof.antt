@@ -1,4 +1,4 @@
--- `advance_record` meets its contract. Assumes nothing.
+-- `advance_record` meets its contract.
 use mathlib.Core.Path.{_≡_, refl, _∙_}
 use mathlib.Core.List.{[]}
 use lib.ListN.{length}

@@ -1,4 +1,4 @@
--- `after_block` meets its contract. Assumes nothing.
+-- `after_block` meets its contract.
 use borrow.Author.Needs.{needs}
 use Rattle.volume.proofs.Volume.after_block.Statement.{statement}
 use Rattle.volume.proofs.Volume.after_block.Tie as tie

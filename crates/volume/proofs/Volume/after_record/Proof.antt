@@ -1,4 +1,4 @@
--- `after_record` meets its contract. Assumes nothing.
+-- `after_record` meets its contract.
 use borrow.Author.Needs.{needs}
 use Rattle.volume.proofs.Volume.after_record.Statement.{statement}
 use Rattle.volume.proofs.Volume.after_record.Tie as tie

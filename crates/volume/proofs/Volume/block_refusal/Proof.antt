@@ -1,4 +1,4 @@
--- `block_refusal` meets its contract. Assumes nothing.
+-- `block_refusal` meets its contract.
 use Rattle.base.specs.Refusals.{refusal}
 use Rattle.volume.proofs.Volume.block_refusal.Statement.{statement}
 use Rattle.volume.proofs.Volume.block_refusal.Tie as tie

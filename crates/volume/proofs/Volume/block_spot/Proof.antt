@@ -1,4 +1,4 @@
--- `block_spot` meets its contract. Assumes nothing.
+-- `block_spot` meets its contract.
 use mathlib.Core.Path.{refl, sym, _∙_}
 use borrow.Author.Needs.{needs}
 use Rattle.volume.proofs.Judged.{found-refused, found-there}

@@ -1,4 +1,4 @@
--- `checkpoint` meets its contract. Assumes nothing.
+-- `checkpoint` meets its contract.
 use mathlib.Core.Path.{refl, sym, _∙_}
 use mathlib.Core.List.{[]}
 use lib.ListN.{length}

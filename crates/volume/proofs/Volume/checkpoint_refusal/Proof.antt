@@ -1,4 +1,4 @@
--- `checkpoint_refusal` meets its contract. Assumes nothing.
+-- `checkpoint_refusal` meets its contract.
 use mathlib.Core.Path.{sym, _∙_}
 use borrow.Author.Needs.{needs}
 use Rattle.volume.proofs.GrowthCode.{checkpoint-refused, checkpoint-left}

@@ -1,4 +1,4 @@
--- `checkpoint_told` meets its contract. Assumes nothing.
+-- `checkpoint_told` meets its contract.
 use borrow.Author.Tests.{eq-eqb, ne-eqb}
 use Rattle.volume.specs.Calls.{checkpointTold}
 use Rattle.volume.proofs.Volume.checkpoint_told.Statement.{statement}

@@ -1,4 +1,4 @@
--- `checkpointed` meets its contract. Assumes nothing.
+-- `checkpointed` meets its contract.
 use mathlib.Core.Path.{_∙_}
 use native.Mathlib.Omega.{arith}
 use borrow.Author.Needs.{needs}

@@ -1,4 +1,4 @@
--- `copy` meets its contract. Assumes nothing.
+-- `copy` meets its contract.
 use mathlib.Core.Path.{_≡_, refl, sym, _∙_}
 use mathlib.Core.List.{[]}
 use lib.ListN.{length}

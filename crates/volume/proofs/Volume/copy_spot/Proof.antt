@@ -1,4 +1,4 @@
--- `copy_spot` meets its contract. Assumes nothing.
+-- `copy_spot` meets its contract.
 use Prim.Native.Nat.{_-_, _<_}
 use mathlib.Core.Path.{_≡_, sym, _∙_}
 use mathlib.Core.Bool.{Bool, true, cond}

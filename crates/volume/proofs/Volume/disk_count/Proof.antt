@@ -1,4 +1,4 @@
--- `disk_count` meets its contract. Assumes nothing.
+-- `disk_count` meets its contract.
 use mathlib.Core.Path.{refl}
 use Rattle.volume.proofs.Volume.disk_count.Statement.{statement}
 use Rattle.volume.proofs.Volume.disk_count.Tie as tie

@@ -1,4 +1,4 @@
--- `disk_count_by` meets its contract. Assumes nothing.
+-- `disk_count_by` meets its contract.
 use mathlib.Core.Path.{_≡_, sym, _∙_}
 use native.Mathlib.Omega.{arith}
 use lib.ListN.{length, List·getD-eq-default}

@@ -1,4 +1,4 @@
--- `flushed` meets its contract. Assumes nothing.
+-- `flushed` meets its contract.
 use mathlib.Core.Path.{_≡_, refl, sym, ap, _∙_}
 use mathlib.Core.Bool.{true, false}
 use mathlib.Core.List.{[]}

@@ -1,4 +1,4 @@
--- `format` meets its contract. Assumes nothing.
+-- `format` meets its contract.
 use mathlib.Core.Path.{_≡_, sym, _∙_}
 use mathlib.Core.List.{[]}
 use lib.ListN.{length}

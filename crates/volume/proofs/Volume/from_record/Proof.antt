@@ -1,4 +1,4 @@
--- `from_record` meets its contract. Assumes nothing.
+-- `from_record` meets its contract.
 use mathlib.Core.Path.{_≡_}
 use lib.ListN.{length}
 use borrow.Author.Needs.{needs}

@@ -1,4 +1,4 @@
--- `from_sector` meets its contract. Assumes nothing.
+-- `from_sector` meets its contract.
 use Prim.Native.Nat.{_≤_}
 use mathlib.Core.Path.{_≡_, refl, sym, _∙_}
 use mathlib.Core.Bool.{true, false}

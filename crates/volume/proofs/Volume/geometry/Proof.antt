@@ -1,4 +1,4 @@
--- `geometry` meets its contract. Assumes nothing.
+-- `geometry` meets its contract.
 use mathlib.Core.Path.{refl}
 use Rattle.volume.specs.States.{geometry}
 use Rattle.volume.proofs.Volume.geometry.Statement.{statement}

@@ -1,4 +1,4 @@
--- `grow` meets its contract. Assumes nothing.
+-- `grow` meets its contract.
 use mathlib.Core.Path.{_≡_, refl, sym, _∙_}
 use mathlib.Core.List.{[]}
 use lib.ListN.{length}

@@ -1,4 +1,4 @@
--- `grow_refusal` meets its contract. Assumes nothing.
+-- `grow_refusal` meets its contract.
 use mathlib.Core.Path.{_≡_, sym, _∙_}
 use mathlib.Core.Bool.{true, false}
 use lib.Dec.{eqb, leb}

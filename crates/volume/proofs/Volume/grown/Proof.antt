@@ -1,4 +1,4 @@
--- `grown` meets its contract. Assumes nothing.
+-- `grown` meets its contract.
 use mathlib.Core.Path.{_∙_}
 use native.Mathlib.Numerals.{add-one}
 use borrow.Author.Needs.{needs}

@@ -1,4 +1,4 @@
--- `growth_refusal` meets its contract. Assumes nothing.
+-- `growth_refusal` meets its contract.
 use mathlib.Core.Path.{_≡_, sym, _∙_}
 use mathlib.Core.Bool.{true}
 use borrow.Author.Needs.{needs}

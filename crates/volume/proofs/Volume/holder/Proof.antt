@@ -1,4 +1,4 @@
--- `holder` meets its contract. Assumes nothing.
+-- `holder` meets its contract.
 use borrow.Author.Needs.{needs}
 use Rattle.volume.proofs.HolderCode.{holder-reply}
 use Rattle.volume.proofs.Volume.holder.Statement.{statement}

@@ -1,4 +1,4 @@
--- `holder_answer` meets its contract. Assumes nothing.
+-- `holder_answer` meets its contract.
 use mathlib.Core.Path.{_≡_, refl, sym, _∙_}
 use mathlib.Core.Bool.{true}
 use borrow.Author.Needs.{needs}

@@ -1,4 +1,4 @@
--- `is_outside` meets its contract. Assumes nothing.
+-- `is_outside` meets its contract.
 use borrow.Author.Needs.{needs}
 use borrow.Author.Tests.{le-leb, lt-leb}
 use Rattle.volume.proofs.Volume.is_outside.Statement.{statement}

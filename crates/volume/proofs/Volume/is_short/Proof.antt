@@ -1,4 +1,4 @@
--- `is_short` meets its contract. Assumes nothing.
+-- `is_short` meets its contract.
 use borrow.Author.Needs.{needs}
 use Rattle.volume.proofs.LiveCode.{bytes-asked, short-told}
 use Rattle.volume.proofs.Volume.is_short.Statement.{statement}

@@ -1,4 +1,4 @@
--- `is_sound` meets its contract. Assumes nothing.
+-- `is_sound` meets its contract.
 use mathlib.Core.Path.{_∙_}
 use borrow.Author.Needs.{needs}
 use Rattle.volume.specs.States.{nonePending, withPending}

@@ -1,4 +1,4 @@
--- `is_sound_by` meets its contract. Assumes nothing.
+-- `is_sound_by` meets its contract.
 use mathlib.Core.Path.{_≡_, _∙_}
 use lib.ListN.{length}
 use borrow.Author.Needs.{needs}

@@ -1,4 +1,4 @@
--- `live_address` meets its contract. Assumes nothing.
+-- `live_address` meets its contract.
 use mathlib.Core.Path.{_∙_}
 use native.Mathlib.Omega.{arith}
 use Rattle.volume.proofs.LiveCode.{rest-asks, rest-address, has-growth, asks-before, newest-asked, address-asks, address-read}

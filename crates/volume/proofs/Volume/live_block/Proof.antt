@@ -1,4 +1,4 @@
--- `live_block` meets its contract. Assumes nothing.
+-- `live_block` meets its contract.
 use mathlib.Core.Path.{_∙_}
 use Rattle.volume.specs.States.{historyOf}
 use Rattle.volume.proofs.LiveCode.{history-limits, rest-block, has-growth, growing-block}

@@ -1,4 +1,4 @@
--- `live_spot` meets its contract. Assumes nothing.
+-- `live_spot` meets its contract.
 use Rattle.volume.proofs.LiveCode.{growing-most, open-asks, spot-known, live-told}
 use Rattle.volume.proofs.Volume.live_spot.Statement.{statement}
 use Rattle.volume.proofs.Volume.live_spot.Tie as tie

@@ -1,4 +1,4 @@
--- `new_state` meets its contract. Assumes nothing.
+-- `new_state` meets its contract.
 use mathlib.Core.Path.{refl}
 use borrow.Author.Needs.{needs}
 use Rattle.volume.specs.States.{newState, nonePending}

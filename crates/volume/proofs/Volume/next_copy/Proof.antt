@@ -1,4 +1,4 @@
--- `next_copy` meets its contract. Assumes nothing.
+-- `next_copy` meets its contract.
 use Rattle.layout.specs.Tally.{movesNow, rankNow, nextBlock}
 use Rattle.layout.specs.Windows.{nextOfWindow}
 use Rattle.volume.specs.States.{historyOf, tallyOf}

@@ -1,4 +1,4 @@
--- `open_blocks` meets its contract. Assumes nothing.
+-- `open_blocks` meets its contract.
 use mathlib.Core.Path.{refl}
 use Rattle.volume.proofs.Volume.open_blocks.Statement.{statement}
 use Rattle.volume.proofs.Volume.open_blocks.Tie as tie

@@ -1,4 +1,4 @@
--- `open_blocks_by` meets its contract. Assumes nothing.
+-- `open_blocks_by` meets its contract.
 use native.Mathlib.Omega.{arith}
 use Rattle.volume.proofs.LiveCode.{growths-below, blocks-most, rest-open, has-growth, old-blocks-most, growing-open}
 use Rattle.volume.proofs.Volume.open_blocks_by.Statement.{statement}

@@ -1,4 +1,4 @@
--- `read` meets its contract. Assumes nothing.
+-- `read` meets its contract.
 use mathlib.Core.Path.{_≡_, refl, sym, _∙_}
 use lib.ListN.{length}
 use borrow.Author.Needs.{needs}

@@ -1,4 +1,4 @@
--- `read_refusal` meets its contract. Assumes nothing.
+-- `read_refusal` meets its contract.
 use mathlib.Core.Path.{_≡_, sym, _∙_}
 use mathlib.Core.Bool.{true, false}
 use borrow.Author.Needs.{needs}

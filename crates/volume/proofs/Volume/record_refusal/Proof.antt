@@ -1,4 +1,4 @@
--- `record_refusal` meets its contract. Assumes nothing.
+-- `record_refusal` meets its contract.
 use Prim.Native.Nat.{ℕ}
 use mathlib.Core.Path.{_≡_, refl, sym, _∙_}
 use mathlib.Core.Bool.{Bool, true, false, cond}

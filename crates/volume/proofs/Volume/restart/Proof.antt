@@ -1,4 +1,4 @@
--- `restart` meets its contract. Assumes nothing.
+-- `restart` meets its contract.
 use mathlib.Core.Path.{_≡_, refl, ap, sym, _∙_}
 use mathlib.Core.Bool.{true, cond}
 use mathlib.Core.List.{[]}

@@ -1,4 +1,4 @@
--- `store_copy` meets its contract. Assumes nothing.
+-- `store_copy` meets its contract.
 use mathlib.Core.Path.{_≡_, _∙_}
 use lib.ListN.{length}
 use borrow.Author.Needs.{needs}

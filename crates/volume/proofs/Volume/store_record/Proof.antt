@@ -1,4 +1,4 @@
--- `store_record` meets its contract. Assumes nothing.
+-- `store_record` meets its contract.
 use mathlib.Core.Path.{_≡_}
 use lib.ListN.{length}
 use borrow.Author.Needs.{needs}

@@ -1,4 +1,4 @@
--- `with_growth` meets its contract. Assumes nothing.
+-- `with_growth` meets its contract.
 use mathlib.Core.Path.{refl}
 use Rattle.volume.specs.States.{withGrowth}
 use Rattle.volume.proofs.Volume.with_growth.Statement.{statement}

@@ -1,4 +1,4 @@
--- `with_mark` meets its contract. Assumes nothing.
+-- `with_mark` meets its contract.
 use borrow.Author.Needs.{needs}
 use Rattle.volume.proofs.Volume.with_mark.Statement.{statement}
 use Rattle.volume.proofs.Volume.with_mark.Tie as tie

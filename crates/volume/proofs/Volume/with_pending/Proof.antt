@@ -1,4 +1,4 @@
--- `with_pending` meets its contract. Assumes nothing.
+-- `with_pending` meets its contract.
 use mathlib.Core.Path.{refl}
 use Rattle.volume.specs.States.{withPending}
 use Rattle.volume.proofs.Volume.with_pending.Statement.{statement}

@@ -1,4 +1,4 @@
--- `write` meets its contract. Assumes nothing.
+-- `write` meets its contract.
 use mathlib.Core.Path.{_≡_, refl, sym, _∙_}
 use lib.ListN.{length}
 use borrow.Author.Needs.{needs}

@@ -1,4 +1,4 @@
--- `write_spot` meets its contract. Assumes nothing.
+-- `write_spot` meets its contract.
 use mathlib.Core.Path.{_≡_, refl, sym, _∙_}
 use mathlib.Core.Bool.{false}
 use mathlib.Core.Logic.{inl, inr}

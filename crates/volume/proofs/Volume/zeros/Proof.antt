@@ -1,4 +1,4 @@
--- `zeros` meets its contract. Assumes nothing.
+-- `zeros` meets its contract.
 use borrow.Author.Needs.{needs}
 use Rattle.volume.specs.States.{zeros}
 use Rattle.volume.proofs.Volume.zeros.Statement.{statement}

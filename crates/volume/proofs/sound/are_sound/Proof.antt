@@ -1,4 +1,4 @@
--- `are_sound` meets its contract. Assumes nothing.
+-- `are_sound` meets its contract.
 use Prim.Native.Nat.{_^_, _<_}
 use mathlib.Core.Path.{_≡_, sym, _∙_}
 use mathlib.Core.Bool.{true, false}

@@ -1,4 +1,4 @@
--- `disks_hold` meets its contract. Assumes nothing.
+-- `disks_hold` meets its contract.
 use borrow.Author.Tests.{le-leb, lt-leb}
 use Rattle.volume.specs.Sound.{disksHold}
 use Rattle.volume.proofs.sound.disks_hold.Statement.{statement}

@@ -1,4 +1,4 @@
--- `rows_hold` meets its contract. Assumes nothing.
+-- `rows_hold` meets its contract.
 use borrow.Author.Tests.{le-leb, lt-leb}
 use Rattle.volume.specs.Sound.{rowsHold}
 use Rattle.volume.proofs.sound.rows_hold.Statement.{statement}

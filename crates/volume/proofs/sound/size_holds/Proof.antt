@@ -1,4 +1,4 @@
--- `size_holds` meets its contract. Assumes nothing.
+-- `size_holds` meets its contract.
 use borrow.Author.Tests.{le-leb, lt-leb}
 use Rattle.volume.specs.Sound.{sizeHolds}
 use Rattle.volume.proofs.sound.size_holds.Statement.{statement}

@@ -1,4 +1,4 @@
--- `stage_holds` meets its contract. Assumes nothing.
+-- `stage_holds` meets its contract.
 use borrow.Author.Needs.{needs}
 use borrow.Author.Tests.{eq-eqb, ne-eqb}
 use Rattle.volume.proofs.sound.stage_holds.Statement.{statement}

@@ -1,4 +1,4 @@
--- `put_cell` meets its contract. Assumes nothing.
+-- `put_cell` meets its contract.
 use mathlib.Core.Path.{_∙_}
 use borrow.Author.Needs.{needs}
 use Rattle.wall_chart.specs.Chart.{dash, cell}

@@ -1,4 +1,4 @@
--- `put_heading_line` meets its contract. Assumes nothing.
+-- `put_heading_line` meets its contract.
 use lib.ListN.{length-set}
 use borrow.Author.Needs.{needs}
 use Rattle.record.specs.Decimal.{columnWidth, decimal}

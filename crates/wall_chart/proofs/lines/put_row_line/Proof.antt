@@ -1,4 +1,4 @@
--- `put_row_line` meets its contract. Assumes nothing.
+-- `put_row_line` meets its contract.
 use native.Mathlib.Omega.{arith}
 use lib.ListN.{length-set}
 use borrow.Author.Needs.{needs}

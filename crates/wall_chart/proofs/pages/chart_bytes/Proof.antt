@@ -1,4 +1,4 @@
--- `chart_bytes` meets its contract. Assumes nothing.
+-- `chart_bytes` meets its contract.
 use Prim.Native.Nat.{_+_, _*_}
 use mathlib.Core.Path.{_≡_}
 use native.Mathlib.Omega.{arith}

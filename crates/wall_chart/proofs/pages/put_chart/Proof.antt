@@ -1,4 +1,4 @@
--- `put_chart` meets its contract. Assumes nothing.
+-- `put_chart` meets its contract.
 use mathlib.Core.Path.{refl}
 use borrow.Author.Needs.{needs}
 use Rattle.wall_chart.specs.Pages.{untouched, withChart}

@@ -1,4 +1,4 @@
--- `put_chart_of_record` meets its contract. Assumes nothing.
+-- `put_chart_of_record` meets its contract.
 use mathlib.Core.Path.{_≡_, refl, ap}
 use borrow.Author.Needs.{needs}
 use Rattle.medium.specs.Medium.{observe}

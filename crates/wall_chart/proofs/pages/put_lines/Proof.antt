@@ -1,4 +1,4 @@
--- `put_lines` meets its contract. Assumes nothing.
+-- `put_lines` meets its contract.
 use Prim.Native.Nat.{_+_, _*_, _≤_}
 use mathlib.Core.Path.{_≡_, sym, _∙_}
 use native.Mathlib.Omega.{arith}

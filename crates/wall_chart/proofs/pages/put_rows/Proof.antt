@@ -1,4 +1,4 @@
--- `put_rows` meets its contract. Assumes nothing.
+-- `put_rows` meets its contract.
 use Prim.Native.Nat.{_-_, _+_, _*_, _≤_}
 use mathlib.Core.Path.{_≡_, refl, sym, _∙_}
 use native.Mathlib.Omega.{arith}
