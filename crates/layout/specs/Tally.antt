@@ -11,7 +11,7 @@ use Rattle.layout.specs.declared.Spot.{Spot}
 use Rattle.layout.specs.History.{diskCount, earlier, oldCount, addedCount, spotOf, blockAt}
 use Rattle.layout.specs.Live.{atNewSpot, liveSpot, liveBlock}
 use Rattle.layout.specs.Reasons.{reasonOf}
-use Rattle.layout.specs.Windows.{windows, windowOf, movingIn, markOf, nextToCopy, areCopied, callsLeft}
+use Rattle.layout.specs.Windows.{windows, oldSpot, windowOf, movingIn, markOf, nextToCopy, areCopied, callsLeft}
 
 -- whether a growth runs
 pub data Mode : Type 0 where
@@ -79,7 +79,11 @@ movesNow t x = movingIn (t .rows) (t .counts) (t .window) x
 unfoldable pub rankNow : (t : Tally) (x : ℕ) → ℕ
 rankNow t x = markOf (t .rows) (t .counts) x
 
--- the spot that a copy of x is stored to: the new one
+-- the spot that a copy of x takes its bytes from, the old one, and the one that it is stored to, the new one: "It stores the old spot's bytes at
+-- the new one"
+unfoldable pub sourceOf : (t : Tally) (x : ℕ) → Spot
+sourceOf t x = oldSpot (t .rows) (t .counts) x
+
 unfoldable pub targetOf : (t : Tally) (x : ℕ) → Spot
 targetOf t x = spotOf (t .rows) (t .counts) x
 
