@@ -5,20 +5,22 @@
  * and words here are their own: a block is an address in the volume, a row is a position on one disk, a spot is a disk
  * and a row.
  *
- * Answers. Every function returns 0 when it accepts the call, or else the number of the refusal (enum streterva_refusal).
- * Tests are made in the order given at each function, and the first that fails gives the number. A refused call changes
- * nothing in the medium, the state and the piece, and sets every figure to 0, all but the place that load tells with 17;
- * format and restart, refused, also set the state to zeros.
+ * Answers. Every function returns 0 when it accepts the call, or else the number of the refusal (enum
+ * streterva_refusal). Tests are made in the order given at each function, and the first that fails gives the number. A
+ * refused call changes nothing in the medium, the state and the piece, with one exception: format and restart, refused,
+ * set the state to zeros. It sets every figure to 0, all but the place that load tells with 17.
  *
- * Slices. A buffer is lent for the call as a pointer and, directly after it, the number of its elements: bytes for a medium or
- * a piece, words of 64 bits for a state or figures, scenes for a list of them. The pointer must be valid for that many
- * elements, and aligned for them. A state has exactly STRETERVA_STATE_WORDS words and figures have exactly the number told at
- * the function. Any other number is refused with STRETERVA_WRONG_LENGTH, before all other tests, and then nothing at all is
- * touched, figures and state included. A medium that is too short is refused with 2, a piece that is not one block long with 4,
- * a list that is too long with 17.
+ * Slices. A buffer is lent for the call as a pointer and, directly after it, the number of its elements: bytes for a
+ * medium or a piece, words of 64 bits for a state or figures, scenes for a list of them. The pointer must be valid for
+ * that many elements, and aligned for them; with 0 elements it may be NULL. A state has exactly
+ * STRETERVA_STATE_WORDS words and figures have exactly the number told at the function. Any other number is refused
+ * with STRETERVA_WRONG_LENGTH, before all other tests, and then nothing at all is touched, figures and state included.
+ * A medium that is too short is refused with 2, a piece that is not one block long with 4, a list that is too long with
+ * 17.
  *
- * No overlap. No two buffers of one call may overlap, unless the call only reads both. Calls may run at the same time if no
- * buffer that one of them writes is lent to another.
+ * No overlap. No two buffers of one call may overlap, unless the call only reads both. Calls may run at the same time
+ * if nothing that one of them writes is read or written by another: states, pieces, figures, and of a medium the bytes
+ * named under "Medium" below.
  *
  * State. It is plain data that the caller keeps; the library keeps nothing between calls. The last word tells what is
  * pending and is at most 3: with a greater one the words are no state, which is refused as a wrong length is. All other
@@ -27,8 +29,22 @@
  * the state that the last accepted call left for it, never with one of another medium or an older copy. The library
  * cannot tell these apart.
  *
- * Medium. One buffer: the record in bytes 0 to 511, then spot (d, b) at byte 512 + (d * rows + b) * size. Bytes beyond the last
- * disk are never touched. A call stores to one place at most, the record or one spot.
+ * Medium. One buffer: the record in bytes 0 to 511, then spot (d, b) at byte 512 + (d * rows + b) * size. Bytes beyond
+ * the last disk are never touched. A call stores to one place at most, the record or one spot:
+ *
+ *   call         reads of the medium           writes of the medium
+ *   format       nothing                       the record
+ *   restart      the record                    nothing
+ *   grow         nothing                       the record
+ *   copy         the block's old spot          its new spot, on an added disk
+ *   checkpoint   nothing                       the record
+ *   advance      a spot of an old disk         a spot of an added disk, or (it reads nothing then) the record
+ *   write        nothing                       the block's live spot, which address tells
+ *   read         the block's live spot         nothing
+ *
+ * A refused call reads and writes nothing of it, but restart reads the record. A caller with several threads may lock
+ * these bytes instead of the whole medium, beside the state: a state that a call may change belongs to it alone for the
+ * call.
  *
  * Pending stores. Drives with a write cache may keep stores and put them down in any order, so a store is pending until
  * the caller tells by streterva_flushed that all earlier stores are down. On such drives:
@@ -71,12 +87,14 @@ extern "C" {
 #define STRETERVA_ANONYMOUS
 #endif
 
-/* Limits of a volume. A block size is a multiple of STRETERVA_SIZE_STEP, from one step to STRETERVA_MOST_SIZE. */
+/* Limits of a volume. A block size is also a multiple of STRETERVA_SIZE_STEP. */
+#define STRETERVA_LEAST_DISKS 1
 #define STRETERVA_MOST_DISKS 16
 #define STRETERVA_MOST_GROWTHS 7
 #define STRETERVA_LEAST_ROWS 1
 #define STRETERVA_MOST_ROWS 1000000
 #define STRETERVA_SIZE_STEP 512
+#define STRETERVA_LEAST_SIZE 512
 #define STRETERVA_MOST_SIZE 65536
 
 /* Bytes of the record, at the start of the medium. */
@@ -85,7 +103,7 @@ extern "C" {
 /* Words of a state. */
 #define STRETERVA_STATE_WORDS 16
 
-/* Numbers of figures. The first is for restart, grow, copy and checkpoint: figure 0 is the number of advance calls left. */
+/* Numbers of figures. The first is for restart, grow, copy and checkpoint: figure 0 is the advance calls left. */
 #define STRETERVA_LEFT_FIGURES 1
 #define STRETERVA_ADVANCE_FIGURES 4
 #define STRETERVA_ADDRESS_FIGURES 5
@@ -129,7 +147,7 @@ typedef struct streterva_scene {
 
 STRETERVA_ASSERT(sizeof(streterva_scene) == 16, "a scene is 2 words of 64 bits");
 
-/* What a function returns. */
+/* What a function returns. 16, for a page that is too short, is the wall chart's: no function here has it. */
 enum streterva_refusal {
     STRETERVA_ACCEPTED = 0,
     STRETERVA_NOT_SOUND = 1,           /* the state is not sound */
@@ -190,12 +208,20 @@ enum streterva_part { STRETERVA_HEAD = 1, STRETERVA_BODY = 2, STRETERVA_TAIL = 3
 /* Places of the figures of load. */
 enum streterva_load_figure {
     STRETERVA_LOAD_PLACE = 0, /* refused with 17: the place of the first such scene, counted from 0; else 0 */
-    STRETERVA_LOAD_SERVED = 1 /* at STRETERVA_LOAD_SERVED + d: the blocks that disk d serves, 0 when it does not exist */
+    STRETERVA_LOAD_SERVED = 1 /* at STRETERVA_LOAD_SERVED + d: the blocks that disk d serves, 0 if there is none */
 };
 
-/* The bytes that a medium needs for this block size, these rows and this number of disks, all within the limits. */
+/*
+ * The bytes that a medium needs for this block size, these rows and this number of disks. Within the limits it is far
+ * from the largest number; outside them it is the largest number, UINT64_MAX, where it would be more than that.
+ */
 static inline uint64_t streterva_medium_bytes(uint64_t size, uint64_t rows, uint64_t disks)
 {
+    const uint64_t most = UINT64_MAX - STRETERVA_RECORD_BYTES;
+    if (size == 0 || rows == 0 || disks == 0)
+        return STRETERVA_RECORD_BYTES;
+    if (rows > most / disks || size > most / (disks * rows))
+        return UINT64_MAX;
     return STRETERVA_RECORD_BYTES + disks * rows * size;
 }
 
@@ -228,8 +254,8 @@ uint64_t streterva_grow(uint64_t *state, size_t state_words, uint8_t *medium, si
                         uint64_t *figures, size_t figures_words);
 
 /*
- * Copy: stores a moving block of window w at its new spot too and sets its copied mark. The block is read at its old spot, and
- * cannot be written, until a checkpoint records the copy.
+ * Copy: stores a moving block of window w at its new spot too and sets its copied mark. The block is read at its old
+ * spot, and cannot be written, until a checkpoint records the copy.
  * Refuses: 1; 2; 5; 3; 10; 11; 19.
  * Figures (1): advance calls left.
  * Refused, it leaves the state as it was.
@@ -238,8 +264,9 @@ uint64_t streterva_copy(uint64_t *state, size_t state_words, uint8_t *medium, si
                         uint64_t *figures, size_t figures_words);
 
 /*
- * Checkpoint: stores the record with every copied block recorded; these are then read and written at their new spots. When
- * all moving blocks of window w are recorded, that same store goes on to the next window or, after the last, ends the growth.
+ * Checkpoint: stores the record with every copied block recorded; these are then read and written at their new spots.
+ * When all moving blocks of window w are recorded, that same store goes on to the next window or, after the last, ends
+ * the growth.
  * Refuses: 1; 2; 5; 12; 19; 18.
  * Figures (1): advance calls left, 0 when the growth is ended.
  * Refused, it leaves the state as it was.
@@ -248,8 +275,8 @@ uint64_t streterva_checkpoint(uint64_t *state, size_t state_words, uint8_t *medi
                               uint64_t *figures, size_t figures_words);
 
 /*
- * Advance: takes the growth one step. It copies the block with the lowest mark of window w that is not copied or, when all
- * are, does the checkpoint. Flushed and refused calls in between change nothing in the number of calls left.
+ * Advance: takes the growth one step. It copies the block with the lowest mark of window w that is not copied or, when
+ * all are, does the checkpoint. Flushed and refused calls in between change nothing in the number of calls left.
  * Refuses: 1; 2; 5; 19; 18, only where it would do the checkpoint.
  * Figures (4): enum streterva_advance_figure.
  * Refused, it leaves the state as it was.
@@ -297,9 +324,9 @@ uint64_t streterva_holder(const uint64_t *state, size_t state_words, uint64_t di
                           size_t figures_words);
 
 /*
- * Load: tells how many of the blocks that the scenes name each disk serves, by their live spots. A block named by two scenes
- * counts twice. The state and the scenes never change.
- * Refuses: 1; 17, a scene reaches past the open blocks or stands after the first 65,536, where one of 0 blocks is refused too.
+ * Load: tells how many of the blocks that the scenes name each disk serves, by their live spots. A block named by two
+ * scenes counts twice. The state and the scenes never change.
+ * Refuses: 1; 17, a scene reaches past the open blocks or stands after the first 65,536 (there with 0 blocks too).
  * Figures (17): enum streterva_load_figure.
  */
 uint64_t streterva_load(const uint64_t *state, size_t state_words, const streterva_scene *scenes, size_t scenes_count,

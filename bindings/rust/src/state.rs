@@ -18,6 +18,8 @@ pub struct State {
 
 /// The limits of a volume, and the numbers in a state.
 impl State {
+    /// The fewest disks of a volume.
+    pub const LEAST_DISKS: u64 = 1;
     /// The most disks of a volume.
     pub const MOST_DISKS: u64 = 16;
     /// The most growths of a volume.
@@ -26,14 +28,17 @@ impl State {
     pub const LEAST_ROWS: u64 = 1;
     /// The most rows on each disk.
     pub const MOST_ROWS: u64 = 1_000_000;
-    /// The bytes in a block are a multiple of this, and at least this.
+    /// The bytes in a block are a multiple of this.
     pub const SIZE_STEP: u64 = 512;
+    /// The fewest bytes in a block.
+    pub const LEAST_SIZE: u64 = 512;
     /// The most bytes in a block.
     pub const MOST_SIZE: u64 = 65_536;
     /// The bytes of the record, at the start of the medium.
     pub const RECORD_BYTES: usize = 512;
 
-    /// The bytes that a medium needs for blocks of `size` bytes, `rows` rows on each disk and `disks` disks.
+    /// The bytes that a medium needs for blocks of `size` bytes, `rows` rows on each disk and `disks` disks. Outside the
+    /// limits it is the largest number where it would be more than that.
     pub const fn medium_bytes(size: u64, rows: u64, disks: u64) -> usize {
         let blocks = disks.saturating_mul(rows);
         blocks

@@ -155,6 +155,24 @@ fn format_refuses() {
 }
 
 #[test]
+fn limits() {
+    let bytes = State::medium_bytes(State::LEAST_SIZE, State::LEAST_ROWS, State::LEAST_DISKS);
+    let mut least = vec![0; bytes];
+    assert_eq!(bytes, 1024);
+    assert!(State::format(
+        &mut least,
+        State::LEAST_SIZE,
+        State::LEAST_ROWS,
+        State::LEAST_DISKS
+    )
+    .is_ok());
+    assert_eq!(State::medium_bytes(0, u64::MAX, u64::MAX), 512);
+    assert_eq!(State::medium_bytes(1, 1 << 32, 1 << 32), usize::MAX);
+    assert_eq!(State::medium_bytes(1, 1, u64::MAX - 512), usize::MAX);
+    assert_eq!(State::medium_bytes(1, 1, u64::MAX - 513), usize::MAX - 1);
+}
+
+#[test]
 fn layout_cases() {
     let (mut medium, mut volume) = three_disks();
     assert_eq!(grow(&mut volume, &mut medium, 5), 7);

@@ -1,0 +1,348 @@
+/*
+ * Calls every function of the header from C, accepted and refused. The medium's pages are closed to the process but for
+ * those that the header says a call reads or writes, so a call that touches another byte ends the test with a signal.
+ * Blocks are one page long and the record is the end of the page before them, so that each spot is a page.
+ * Exits with 1 at the first difference.
+ */
+#define _DEFAULT_SOURCE
+#include "streterva.h"
+
+#include <stdio.h>
+#include <stdlib.h>
+#include <string.h>
+#include <sys/mman.h>
+#include <unistd.h>
+
+enum { SIZE = 4096, ROWS = 5, OLD_DISKS = 3, NEW_DISKS = 5, SPARE = 2, PAGES = 1 + NEW_DISKS * ROWS + SPARE };
+
+static streterva_state state;
+static uint8_t *pages;  /* the record's page, then a page for each spot, then spare ones */
+static uint8_t *medium; /* from the record on */
+static const size_t medium_bytes = STRETERVA_RECORD_BYTES + (size_t)(PAGES - 1) * SIZE;
+static uint64_t figures[STRETERVA_LOAD_FIGURES];
+static uint8_t piece[SIZE];
+static unsigned calls;
+
+static void expect(const char *what, uint64_t got, uint64_t wanted)
+{
+    calls++;
+    if (got == wanted)
+        return;
+    printf("%s: %llu, expected %llu\n", what, (unsigned long long)got, (unsigned long long)wanted);
+    exit(1);
+}
+
+static void protect(size_t page, size_t count, int allowed)
+{
+    if (mprotect(pages + page * SIZE, count * SIZE, allowed) != 0) {
+        perror("mprotect");
+        exit(1);
+    }
+}
+
+/* ---- which pages a call may touch */
+
+static void close_all(void)
+{
+    protect(0, PAGES, PROT_NONE);
+}
+
+static void open_record(int allowed)
+{
+    close_all();
+    protect(0, 1, allowed);
+}
+
+static size_t page_of(uint64_t disk, uint64_t row)
+{
+    return 1 + (size_t)(disk * ROWS + row);
+}
+
+/* Address touches no medium at all. */
+static size_t live_page(uint64_t block)
+{
+    uint64_t at[STRETERVA_ADDRESS_FIGURES];
+    expect("address", streterva_address(state.words, STRETERVA_STATE_WORDS, block, at, STRETERVA_ADDRESS_FIGURES), 0);
+    return page_of(at[STRETERVA_ADDRESS_DISK], at[STRETERVA_ADDRESS_ROW]);
+}
+
+static void open_live(uint64_t block, int allowed)
+{
+    close_all();
+    protect(live_page(block), 1, allowed);
+}
+
+/* A copy: so many pages to be read, and the added disks to be written. */
+static void open_copy(size_t page, size_t count)
+{
+    close_all();
+    protect(page, count, PROT_READ);
+    protect(page_of(OLD_DISKS, 0), (NEW_DISKS - OLD_DISKS) * ROWS, PROT_READ | PROT_WRITE);
+}
+
+/* ---- the calls */
+
+static uint64_t format(size_t bytes, uint64_t size)
+{
+    return streterva_format(state.words, STRETERVA_STATE_WORDS, medium, bytes, size, ROWS, OLD_DISKS);
+}
+
+static uint64_t restart(size_t bytes)
+{
+    return streterva_restart(state.words, STRETERVA_STATE_WORDS, medium, bytes, figures, STRETERVA_LEFT_FIGURES);
+}
+
+static uint64_t grow(size_t bytes, uint64_t count)
+{
+    return streterva_grow(state.words, STRETERVA_STATE_WORDS, medium, bytes, count, figures, STRETERVA_LEFT_FIGURES);
+}
+
+static uint64_t copy(size_t bytes, uint64_t block)
+{
+    return streterva_copy(state.words, STRETERVA_STATE_WORDS, medium, bytes, block, figures, STRETERVA_LEFT_FIGURES);
+}
+
+static uint64_t checkpoint(size_t bytes)
+{
+    return streterva_checkpoint(state.words, STRETERVA_STATE_WORDS, medium, bytes, figures, STRETERVA_LEFT_FIGURES);
+}
+
+static uint64_t advance(size_t bytes)
+{
+    return streterva_advance(state.words, STRETERVA_STATE_WORDS, medium, bytes, figures, STRETERVA_ADVANCE_FIGURES);
+}
+
+static uint64_t write_block(size_t bytes, uint64_t block, size_t piece_bytes)
+{
+    return streterva_write(state.words, STRETERVA_STATE_WORDS, medium, bytes, block, piece, piece_bytes);
+}
+
+static uint64_t read_block(size_t bytes, uint64_t block, size_t piece_bytes)
+{
+    return streterva_read(state.words, STRETERVA_STATE_WORDS, medium, bytes, block, piece, piece_bytes);
+}
+
+static uint64_t holder(uint64_t disk, uint64_t row)
+{
+    return streterva_holder(state.words, STRETERVA_STATE_WORDS, disk, row, figures, STRETERVA_HOLDER_FIGURES);
+}
+
+static uint64_t load(uint64_t first, uint64_t count)
+{
+    const streterva_scene scene = {first, count};
+    return streterva_load(state.words, STRETERVA_STATE_WORDS, &scene, 1, figures, STRETERVA_LOAD_FIGURES);
+}
+
+static void flushed(void)
+{
+    expect("flushed", streterva_flushed(state.words, STRETERVA_STATE_WORDS), 0);
+}
+
+/* ---- what is tested */
+
+/* A call with state or figures of another length: 100, and neither of them nor the medium is touched. */
+static void wrong_lengths(void)
+{
+    const streterva_state kept = state;
+    uint64_t *words = state.words;
+    const size_t n = STRETERVA_STATE_WORDS, wrong = STRETERVA_WRONG_LENGTH;
+    close_all();
+    memset(figures, 0x77, sizeof figures);
+    expect("format", streterva_format(words, n - 1, medium, medium_bytes, SIZE, ROWS, OLD_DISKS), wrong);
+    expect("restart", streterva_restart(words, n, medium, medium_bytes, figures, 0), wrong);
+    expect("grow", streterva_grow(words, n + 1, medium, medium_bytes, NEW_DISKS, figures, 1), wrong);
+    expect("copy", streterva_copy(words, n, medium, medium_bytes, 0, figures, 2), wrong);
+    expect("checkpoint", streterva_checkpoint(words, 0, medium, medium_bytes, figures, 1), wrong);
+    expect("advance", streterva_advance(words, n, medium, medium_bytes, figures, 1), wrong);
+    expect("write", streterva_write(words, 1, medium, medium_bytes, 0, piece, SIZE), wrong);
+    expect("read", streterva_read(words, 1, medium, medium_bytes, 0, piece, SIZE), wrong);
+    expect("address", streterva_address(words, n, 0, figures, 4), wrong);
+    expect("holder", streterva_holder(words, n, 0, 0, figures, 2), wrong);
+    expect("load", streterva_load(words, n, NULL, 0, figures, 16), wrong);
+    expect("flushed", streterva_flushed(words, n - 1), wrong);
+    expect("soundness", streterva_soundness(words, n - 1), wrong);
+    expect("the state", (uint64_t)memcmp(&kept, &state, sizeof kept), 0);
+    for (size_t i = 0; i < STRETERVA_LOAD_FIGURES; i++)
+        expect("a figure", figures[i], UINT64_C(0x7777777777777777));
+}
+
+/* Nothing to point at: a pointer may be NULL where its length is 0. */
+static void null_pointers(void)
+{
+    const streterva_state kept = state;
+    uint64_t *words = state.words;
+    const size_t n = STRETERVA_STATE_WORDS;
+    uint64_t none[STRETERVA_STATE_WORDS];
+    expect("soundness", streterva_soundness(NULL, 0), STRETERVA_WRONG_LENGTH);
+    expect("flushed", streterva_flushed(NULL, 0), STRETERVA_WRONG_LENGTH);
+    expect("restart", streterva_restart(none, n, NULL, 0, figures, 1), STRETERVA_MEDIUM_TOO_SHORT);
+    expect("format", streterva_format(none, n, NULL, 0, SIZE, ROWS, OLD_DISKS), STRETERVA_MEDIUM_TOO_SHORT);
+    expect("grow", streterva_grow(words, n, NULL, 0, NEW_DISKS, figures, 1), STRETERVA_MEDIUM_TOO_SHORT);
+    expect("advance", streterva_advance(words, n, NULL, 0, figures, 4), STRETERVA_MEDIUM_TOO_SHORT);
+    expect("read", streterva_read(words, n, NULL, 0, 0, NULL, 0), STRETERVA_MEDIUM_TOO_SHORT);
+    expect("read", streterva_read(words, n, medium, medium_bytes, 0, NULL, 0), STRETERVA_PIECE_SIZE);
+    expect("write", streterva_write(words, n, medium, medium_bytes, 0, NULL, 0), STRETERVA_PIECE_SIZE);
+    expect("address", streterva_address(words, n, 0, NULL, 0), STRETERVA_WRONG_LENGTH);
+    expect("load", streterva_load(words, n, NULL, 0, figures, STRETERVA_LOAD_FIGURES), 0);
+    expect("the state", (uint64_t)memcmp(&kept, &state, sizeof kept), 0);
+}
+
+/* Refused on a medium of which no byte may be touched; the state stays, and the figures are 0. */
+static void refusals_at_rest(void)
+{
+    const streterva_state kept = state;
+    const size_t need = (size_t)streterva_medium_bytes(SIZE, ROWS, OLD_DISKS);
+    close_all();
+    memset(figures, 0x77, sizeof figures);
+    expect("grow", grow(medium_bytes, OLD_DISKS), STRETERVA_OUTSIDE_LIMITS);
+    expect("the figure of grow", figures[0], 0);
+    expect("grow", grow(need, NEW_DISKS), STRETERVA_MEDIUM_TOO_SHORT);
+    expect("copy", copy(medium_bytes, 0), STRETERVA_NOT_GROWING);
+    expect("checkpoint", checkpoint(medium_bytes), STRETERVA_NOT_GROWING);
+    expect("advance", advance(medium_bytes), STRETERVA_NOT_GROWING);
+    expect("write", write_block(need - 1, 0, SIZE), STRETERVA_MEDIUM_TOO_SHORT);
+    expect("write", write_block(medium_bytes, OLD_DISKS * ROWS, SIZE), STRETERVA_BLOCK_NOT_OPEN);
+    expect("read", read_block(medium_bytes, OLD_DISKS * ROWS, SIZE), STRETERVA_BLOCK_NOT_OPEN);
+    expect("read", read_block(medium_bytes, 0, SIZE - 1), STRETERVA_PIECE_SIZE);
+    expect("holder", holder(OLD_DISKS, 0), STRETERVA_NO_SUCH_SPOT);
+    expect("load", load(0, OLD_DISKS * ROWS + 1), STRETERVA_SCENE_REFUSED);
+    expect("the state", (uint64_t)memcmp(&kept, &state, sizeof kept), 0);
+}
+
+/* The exception: a refused format or restart sets the state to zeros. A state that is not sound is refused with 1. */
+static void zeros(void)
+{
+    const streterva_state kept = state, zero = {.words = {0}};
+    close_all();
+    expect("format", format(medium_bytes, SIZE + 1), STRETERVA_OUTSIDE_LIMITS);
+    expect("the state", (uint64_t)memcmp(&zero, &state, sizeof zero), 0);
+    expect("soundness", streterva_soundness(state.words, STRETERVA_STATE_WORDS), STRETERVA_NOT_SOUND);
+    expect("flushed", streterva_flushed(state.words, STRETERVA_STATE_WORDS), STRETERVA_NOT_SOUND);
+    expect("read", read_block(medium_bytes, 0, SIZE), STRETERVA_NOT_SOUND);
+    state = kept;
+    expect("restart", restart(STRETERVA_RECORD_BYTES - 1), STRETERVA_MEDIUM_TOO_SHORT);
+    expect("the state", (uint64_t)memcmp(&zero, &state, sizeof zero), 0);
+    open_record(PROT_READ);
+    expect("restart", restart(STRETERVA_RECORD_BYTES), STRETERVA_MEDIUM_TOO_SHORT);
+    expect("the state", (uint64_t)memcmp(&zero, &state, sizeof zero), 0);
+    state = kept;
+    expect("soundness", streterva_soundness(state.words, STRETERVA_STATE_WORDS), 0);
+}
+
+/* Writes a block and reads it back, each with its live spot alone. */
+static void save(uint64_t block, uint8_t byte)
+{
+    memset(piece, byte, SIZE);
+    open_live(block, PROT_READ | PROT_WRITE);
+    expect("write", write_block(medium_bytes, block, SIZE), 0);
+    flushed();
+}
+
+static void check(uint64_t block, uint8_t byte)
+{
+    memset(piece, 0, SIZE);
+    open_live(block, PROT_READ);
+    expect("read", read_block(medium_bytes, block, SIZE), 0);
+    for (size_t i = 0; i < SIZE; i++)
+        expect("a byte read", piece[i], byte);
+}
+
+/* From 3 disks to 5: a copy and a checkpoint, then advance calls, to the one that finishes. */
+static void growth(void)
+{
+    open_record(PROT_READ | PROT_WRITE);
+    expect("grow", grow(medium_bytes, NEW_DISKS), 0);
+    uint64_t left = figures[0];
+    flushed();
+    close_all();
+    expect("copy", copy(medium_bytes, 1), STRETERVA_NOT_MOVING);
+    expect("checkpoint", checkpoint(medium_bytes), STRETERVA_NOTHING_TO_RECORD);
+    open_copy(live_page(0), 1);
+    expect("copy", copy(medium_bytes, 0), 0);
+    expect("calls left", figures[0], --left);
+    close_all();
+    expect("copy", copy(medium_bytes, 0), STRETERVA_ALREADY_COPIED);
+    expect("write", write_block(medium_bytes, 0, SIZE), STRETERVA_COPY_NOT_RECORDED);
+    expect("checkpoint", checkpoint(medium_bytes), STRETERVA_FLUSH_BLOCKS);
+    flushed();
+    open_record(PROT_READ | PROT_WRITE);
+    expect("checkpoint", checkpoint(medium_bytes), 0);
+    close_all();
+    expect("advance", advance(medium_bytes), STRETERVA_FLUSH_RECORD);
+    while (left > 0) {
+        flushed();
+        open_copy(page_of(0, 0), OLD_DISKS * ROWS);
+        if (left == 1)
+            open_record(PROT_READ | PROT_WRITE);
+        expect("advance", advance(medium_bytes), 0);
+        expect("calls left", figures[STRETERVA_ADVANCE_LEFT], --left);
+        expect("finished", figures[STRETERVA_ADVANCE_DID] == STRETERVA_FINISHED, left == 0);
+    }
+    flushed();
+}
+
+/* Every spot has one block, whose address it is, and all of them are the load of one scene. */
+static void look_ups(void)
+{
+    close_all();
+    for (uint64_t disk = 0; disk < NEW_DISKS; disk++)
+        for (uint64_t row = 0; row < ROWS; row++) {
+            expect("holder", holder(disk, row), 0);
+            expect("the page of its block", live_page(figures[0]), page_of(disk, row));
+        }
+    expect("load", load(0, NEW_DISKS * ROWS), 0);
+    for (uint64_t disk = 0; disk < STRETERVA_MOST_DISKS; disk++)
+        expect("a disk's blocks", figures[STRETERVA_LOAD_SERVED + disk], disk < NEW_DISKS ? ROWS : 0);
+}
+
+/* The bytes of a medium, also where they would not fit into 64 bits. */
+static void medium_sizes(void)
+{
+    const uint64_t most = UINT64_MAX;
+    expect("bytes", streterva_medium_bytes(512, 5, 3), 512 + 15 * 512);
+    expect("bytes", streterva_medium_bytes(STRETERVA_MOST_SIZE, STRETERVA_MOST_ROWS, STRETERVA_MOST_DISKS),
+           UINT64_C(1048576000512));
+    expect("bytes", streterva_medium_bytes(STRETERVA_LEAST_SIZE, STRETERVA_LEAST_ROWS, STRETERVA_LEAST_DISKS), 1024);
+    expect("bytes", streterva_medium_bytes(0, most, most), 512);
+    expect("bytes", streterva_medium_bytes(most, 0, most), 512);
+    expect("bytes", streterva_medium_bytes(most, most, most), most);
+    expect("bytes", streterva_medium_bytes(1, UINT64_C(1) << 32, UINT64_C(1) << 32), most);
+    expect("bytes", streterva_medium_bytes(1, 1, most - 512), most);
+    expect("bytes", streterva_medium_bytes(1, 1, most - 513), most - 1);
+    expect("bytes", streterva_medium_bytes(512, UINT64_C(1) << 55, 1), most);
+}
+
+int main(void)
+{
+    if (sysconf(_SC_PAGESIZE) != SIZE) {
+        printf("pages are not %d bytes\n", SIZE);
+        return 1;
+    }
+    pages = mmap(NULL, (size_t)PAGES * SIZE, PROT_NONE, MAP_PRIVATE | MAP_ANONYMOUS, -1, 0);
+    if (pages == MAP_FAILED) {
+        perror("mmap");
+        return 1;
+    }
+    medium = pages + SIZE - STRETERVA_RECORD_BYTES;
+
+    medium_sizes();
+    open_record(PROT_READ | PROT_WRITE);
+    expect("format", format(medium_bytes, SIZE), 0);
+    close_all();
+    expect("write", write_block(medium_bytes, 0, SIZE), STRETERVA_FLUSH_RECORD);
+    flushed();
+    wrong_lengths();
+    null_pointers();
+    refusals_at_rest();
+    zeros();
+    for (uint64_t block = 0; block < OLD_DISKS * ROWS; block++)
+        save(block, (uint8_t)(block + 1));
+    growth();
+    open_record(PROT_READ);
+    expect("restart", restart(medium_bytes), 0);
+    for (uint64_t block = 0; block < OLD_DISKS * ROWS; block++)
+        check(block, (uint8_t)(block + 1));
+    look_ups();
+    printf("calls and values compared: %u\n", calls);
+    return 0;
+}
