@@ -3,6 +3,7 @@ use Prim.Native.Nat.{ℕ, _*_, _<_}
 use mathlib.Core.Path.{_≡_, refl, ap, subst}
 use mathlib.Core.Bool.{Bool, true, false, cond, true≢false}
 use mathlib.Core.List.{List}
+use mathlib.Core.Logic.{_⊎_, inl, inr}
 use mathlib.Core.Option.{some}
 use Rattle.layout.specs.History.{diskCount, earlier, oldCount, spotOf, blockAt}
 use Rattle.layout.specs.Windows.{oldSpot}
@@ -10,6 +11,7 @@ use Rattle.layout.specs.Live.{atNewSpot, liveSpot}
 use Rattle.layout.specs.Reasons.{reasonOf}
 use Rattle.layout.specs.Tally.{Mode, notGrowing, growing, isRunning, Tally, openBlocks, movedBlocks, liveSpotOf, liveBlockOf, growthsOf, liveReasonOf}
 use Rattle.layout.specs.Laws.{Bijection, LiveSpots, ReasonTrue, LookUps}
+use Rattle.base.proofs.Booleans.{cond-cases}
 use Rattle.layout.proofs.Bijection.{spot-injective}
 
 -- the reasons told of all blocks of a history are true
@@ -36,6 +38,7 @@ module _ (s : ℕ) (h : List ℕ) (w : ℕ) (copied recorded : ℕ → Bool) whe
             subst (λ (y : ℕ). (y < diskCount h * s) × (spotOf s h y ≡ p)) i (B .block-within p k, B .spot-of-block p k);
         each-spot-taken = λ m p e. true≢false cc;
         live-growths = λ x. refl;
+        all-or-earlier = λ x. inl refl;
         live-reason = R;
       }
 
@@ -53,6 +56,8 @@ module _ (s : ℕ) (h : List ℕ) (w : ℕ) (copied recorded : ℕ → Bool) whe
         live-of-block = L .live-of-block;
         each-spot-taken = λ e p f. true≢false e;
         live-growths = λ x. spot-of-choice (atNewSpot s h (movedBlocks (tally growing)) x) x;
+        all-or-earlier = λ x.
+            cond-cases (λ g. (g ≡ h) ⊎ (g ≡ earlier h)) (atNewSpot s h (movedBlocks (tally growing)) x) (λ e. inl refl) (λ e. inr refl);
         live-reason = λ x. R (atNewSpot s h (movedBlocks (tally growing)) x) x;
       }
 

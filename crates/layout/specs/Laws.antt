@@ -4,7 +4,7 @@ use Prim.Native.Nat.{ℕ, suc, _+_, _-_, _*_, _%_, _≤_, _<_}
 use mathlib.Core.Path.{_≡_}
 use mathlib.Core.Bool.{Bool, true, false, not, _&&_}
 use mathlib.Core.List.{List}
-use mathlib.Core.Logic.{_≢_}
+use mathlib.Core.Logic.{_≢_, _⊎_}
 use mathlib.Core.Option.{none, some}
 use lib.ListN.{length}
 use Rattle.layout.specs.declared.Part.{Part}
@@ -131,8 +131,9 @@ pub record LookUps (t : Tally) : Type 0 where
       → (x < openBlocks t) × (liveSpotOf t x ≡ p)
   -- "After a finished growth 15 never occurs."
   pub each-spot-taken : isRunning (t .mode) ≡ false → (p : Spot) → liveBlockOf t p ≢ none
-  -- the live spot is the one that the growths told of give it
+  -- the live spot is the one that the growths told of give it, all or all but the newest
   pub live-growths : (x : ℕ) → liveSpotOf t x ≡ spotOf (t .rows) (growthsOf t x) x
+  pub all-or-earlier : (x : ℕ) → (growthsOf t x ≡ t .counts) ⊎ (growthsOf t x ≡ earlier (t .counts))
   -- "the live spot and why it is there": the reason told is true of those growths
   pub live-reason : (x : ℕ) → x < openBlocks t → ReasonTrue (t .rows) (growthsOf t x) x (liveReasonOf t x)
 
