@@ -1,5 +1,5 @@
 #!/usr/bin/env python3
-"""The test of every_line_fails, on logs that rt leaves of a small crate with three edits."""
+"""The test of every_line_fails, on logs that rt leaves of a small crate with four edits."""
 import os
 import subprocess
 import sys
@@ -66,6 +66,15 @@ pub tell-spec : {M : Type 1} → statement M
 tell-spec = tie.close (tie.spec returns returns-2)
 '''
 
+LAWS = '''use mathlib.Core.Path.{_≡_, refl}
+use mathlib.Core.Bool.{true}
+use Rattle.small.specs.Numbers.{told}
+
+pub told-one : told true ≡ 1
+unfolding told
+told-one = refl
+'''
+
 # A constant, a number, an argument, and two numbers that change places: all are wrong.
 ALL_WRONG = '''file: src/lib.rt
 old: const MOST: usize = 9;
@@ -103,12 +112,25 @@ new: told flag = cond flag 2 1
 fails: tell
 '''
 
+# Definition and code are wrong alike: the function is proved, and a law refuses them.
+BOTH_WRONG = '''file: specs/Numbers.antt
+old: told flag = cond flag 1 2
+new: told flag = cond flag 3 2
+fails: Laws.antt:told-one
+file: src/lib.rt
+old: return 1;
+new: return 3;
+proved: tell
+'''
+
 FILES = {
     'crates.txt': 'small:\n',
     'crates/small/src/lib.rt': CODE,
     'crates/small/specs/Lib.antt': 'pub mod Numbers\n',
     'crates/small/specs/Numbers.antt': SPECS,
     'crates/small/proofs/tell/Proof.antt': PROOF,
+    'crates/small/proofs/Lib.antt': 'pub mod Laws\n',
+    'crates/small/proofs/Laws.antt': LAWS,
 }
 
 
@@ -123,7 +145,7 @@ class EveryLineFails(unittest.TestCase):
         cls.root = cls.folder.name
         for path, text in FILES.items():
             cls.write(path, text)
-        cls.put_edits(all_wrong=ALL_WRONG, one_harmless=ONE_HARMLESS, definition=DEFINITION)
+        cls.put_edits(all_wrong=ALL_WRONG, one_harmless=ONE_HARMLESS, definition=DEFINITION, both_wrong=BOTH_WRONG)
         cls.rt = subprocess.run(['rt', 'must-fail'], cwd=cls.root, capture_output=True, text=True)
 
     @classmethod
@@ -163,13 +185,23 @@ class EveryLineFails(unittest.TestCase):
 
     def test_rt_is_content(self):
         self.assertEqual(self.rt.returncode, 0, self.rt.stdout)
-        self.assertIn('3 must-fail edits refused', self.rt.stdout)
+        self.assertIn('4 must-fail edits refused', self.rt.stdout)
 
     def test_all_wrong(self):
         self.assertEqual(self.judge(all_wrong=ALL_WRONG, definition=DEFINITION), (0, [
             'small: 2 edits, 5 wrong lines seen to fail',
             '2 edits, 5 wrong lines seen to fail, 0 not',
         ]))
+
+    def test_code_that_follows_a_wrong_definition(self):
+        self.assertEqual(self.judge(both_wrong=BOTH_WRONG), (0, [
+            'small: 1 edits, 1 wrong lines seen to fail',
+            '1 edits, 1 wrong lines seen to fail, 0 not',
+        ]))
+        self.assert_told(['it changes code and definitions'], both_wrong=BOTH_WRONG.replace('proved: tell\n', ''))
+        self.assert_told(['names another function'], both_wrong=BOTH_WRONG.replace('proved: tell', 'proved: first'))
+        self.assert_told(['none is not proved'], both_wrong=BOTH_WRONG.replace('proved: tell', 'proved: tell none'))
+        self.assert_told(['no code beside'], definition=DEFINITION.replace('fails: tell', 'proved: tell'))
 
     def test_a_harmless_line(self):
         self.assertEqual(self.judge(one_harmless=ONE_HARMLESS), (1, [
