@@ -4,7 +4,7 @@ use mathlib.Core.Path.{_≡_}
 use mathlib.Core.Bool.{Bool, true, false}
 use mathlib.Core.List.{List, []}
 use mathlib.Core.Logic.{_≢_}
-use mathlib.Core.Option.{none}
+use mathlib.Core.Option.{none, some}
 use lib.ListN.{length, getD}
 use Rattle.base.specs.Refusals.{refusal}
 use Rattle.layout.specs.declared.Spot.{Spot}
@@ -12,8 +12,8 @@ use Rattle.layout.specs.History.{oldCount, addedCount}
 use Rattle.layout.specs.Laws.{LookUps}
 use Rattle.layout.specs.Limits.{Limits}
 use Rattle.layout.specs.Reasons.{growthTold}
-use Rattle.layout.specs.Tally.{liveSpotOf, movesNow}
-use Rattle.layout.specs.Windows.{windows, oldSpot, movingIn}
+use Rattle.layout.specs.Tally.{liveSpotOf, movesNow, sourceOf, nextBlock}
+use Rattle.layout.specs.Windows.{windows, movingIn}
 use Rattle.marks.specs.Marks.{markCount, within}
 use Rattle.marks.specs.Words.{marksOf}
 use Rattle.medium.specs.Medium.{recordBytes, Observations, observe, noStore, StoreFits}
@@ -124,9 +124,11 @@ pub record VolumeLaws : Type 0 where
   pub flushed-refuses : (v : Volume) → Refuses (flushedTable v) v [] (flushedOutcome v)
   pub address-refuses : (v : Volume) (x : ℕ) → AddressRefuses v x
   pub holder-refuses : (v : Volume) (p : Spot) → HolderRefuses v p
-  -- a block that is copied lives at its old spot
+  -- a block that is copied lives at its old spot: one that copy accepts, and the one that advance copies
   pub copy-source : (v : Volume) (x byteCount : ℕ) → refusal (copyTable v x byteCount) ≡ 0
-      → liveSpotOf (tallyOf v) x ≡ oldSpot (v .rows) (historyOf v) x
+      → liveSpotOf (tallyOf v) x ≡ sourceOf (tallyOf v) x
+  pub advance-source : (v : Volume) (x byteCount : ℕ) → refusal (advanceTable v byteCount) ≡ 0 → nextBlock (tallyOf v) ≡ some x
+      → liveSpotOf (tallyOf v) x ≡ sourceOf (tallyOf v) x
   -- 12 is given exactly where copied equals recorded
   pub no-copy-waiting : (v : Volume) → sound v ≡ true → within (marksOf (v .copied)) (marksOf (v .recorded)) ≡ true → v .copied ≡ v .recorded
   -- address and holder are inverse to each other in every stage of a growth, and after a finished one 15 never occurs
