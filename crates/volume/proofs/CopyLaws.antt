@@ -1,24 +1,23 @@
 -- Blocks that may be copied, and marks that are to be recorded.
 use Prim.Native.Nat.{ℕ, _<_}
-use mathlib.Core.Path.{_≡_, sym, _∙_}
-use mathlib.Core.Bool.{true, false}
+use mathlib.Core.Path.{_≡_, refl, sym, ap}
+use mathlib.Core.Bool.{Bool, true, false, not, _&&_}
 use mathlib.Core.Logic.{_≢_}
 use mathlib.Core.Option.{some}
 use native.Mathlib.Omega.{arith}
 use lib.Dec.{eqb}
-use borrow.Author.Tests.{eqb-true, eqb-false, ne-eqb, le-ltb}
+use borrow.Author.Tests.{eqb-true, eq-eqb, ne-eqb, le-ltb}
 use Rattle.base.specs.Refusals.{refusal}
 use Rattle.base.proofs.Booleans.{and-left, and-right, clash, by-test}
 use Rattle.layout.specs.Live.{atNewSpot, liveSpot}
-use Rattle.layout.specs.Tally.{openBlocks, recordedBy, movedBlocks, liveSpotOf, movesNow, sourceOf, nextBlock}
-use Rattle.layout.specs.Windows.{moving, windowOf, movingIn}
+use Rattle.layout.specs.Tally.{openBlocks, recordedBy, movedBlocks, liveSpotOf, waiting, movesNow, sourceOf, nextBlock}
+use Rattle.layout.specs.Windows.{moving, windowOf, movingIn, markedBlocks}
 use Rattle.layout.proofs.NextBlocks.{moving-in-old, next-some}
-use Rattle.marks.specs.Marks.{within}
-use Rattle.marks.proofs.MarkSets.{marked-within}
+use Rattle.marks.proofs.MarkSets.{marked-within, within-marked}
 use Rattle.marks.proofs.MarkWords.{words-both}
 use Rattle.volume.specs.declared.Volume.{Volume}
-use Rattle.volume.specs.Calls.{copyTable, advanceTable}
-use Rattle.volume.specs.Sound.{sound}
+use Rattle.volume.specs.Calls.{copyTable, nothingToRecord, advanceTable}
+use Rattle.volume.specs.Sound.{movingOf, sound}
 use Rattle.volume.specs.States.{historyOf, modeOf, tallyOf}
 use Rattle.volume.proofs.Accepted.{AdvanceFacts, CopyFacts, copy-accepted, advance-accepted}
 use Rattle.volume.proofs.SoundLaws.{sound-facts, some-old}
@@ -76,11 +75,29 @@ advance-source v x byteCount e n = lives-at-source v x byteCount (next-facts v x
 
 -- ---- no copy waits to be recorded
 
-pub no-copy-waiting : (v : Volume) → sound v ≡ true → within (marksOf (v .copied)) (marksOf (v .recorded)) ≡ true → v .copied ≡ v .recorded
-no-copy-waiting v e w =
+-- copied and not recorded
+idle : (a b : Bool) → a ≡ b → (a && not b) ≡ false
+idle true b e = rw (sym e)
+idle false b e = refl
+
+not-idle : (a b : Bool) → (a && not b) ≡ false → a ≡ true → b ≡ true
+not-idle true true e f = refl
+not-idle true false e f = clash refl e
+not-idle false b e f = clash f refl
+
+pub no-copy-waiting : (v : Volume) → sound v ≡ true → v .growing ≢ 0
+    → (nothingToRecord v ≡ true → (x : ℕ) → waiting (tallyOf v) x ≡ false) × (((x : ℕ) → waiting (tallyOf v) x ≡ false) → nothingToRecord v ≡ true)
+unfolding waiting tallyOf modeOf movingOf
+no-copy-waiting v e runs =
     let f = sound-facts v e in
-    by-test (eqb (v .growing) 0)
-    (λ t. let r = f .at-rest (eqb-true (v .growing) 0 t) in r .none-copied ∙ sym (r .none-recorded))
-    (λ t.
-    words-both (v .copied) (v .recorded) (f .copied-fits) (f .recorded-fits) w
-    (f .while-growing (eqb-false (v .growing) 0 t) .recorded-copied))
+    let g = f .while-growing runs in
+    let copied = v .copied in
+    let recorded = v .recorded in (
+      (λ t x. rw (ne-eqb (v .growing) 0 runs) (idle _ _ (ap (λ (marks : ℕ). markedBlocks (v .rows) (historyOf v) (v .window) (marksOf marks) x) (eqb-true copied recorded t)))),
+      (λ w.
+          eq-eqb copied recorded
+          (words-both copied recorded (f .copied-fits) (f .recorded-fits)
+          (within-marked (v .rows) (historyOf v) (f .limits) (some-old v e runs) (v .window) (marksOf copied) (marksOf recorded) (g .copied-moving)
+          (λ x. not-idle _ _ (rw (ne-eqb (v .growing) 0 runs) at (w x))))
+          (g .recorded-copied))),
+    )

@@ -12,7 +12,7 @@ use Rattle.layout.specs.History.{oldCount, addedCount}
 use Rattle.layout.specs.Laws.{LookUps}
 use Rattle.layout.specs.Limits.{Limits}
 use Rattle.layout.specs.Reasons.{growthTold}
-use Rattle.layout.specs.Tally.{liveSpotOf, movesNow, sourceOf, nextBlock}
+use Rattle.layout.specs.Tally.{liveSpotOf, waiting, movesNow, sourceOf, nextBlock}
 use Rattle.layout.specs.Windows.{windows, movingIn}
 use Rattle.marks.specs.Marks.{markCount, within}
 use Rattle.marks.specs.Words.{marksOf}
@@ -20,7 +20,7 @@ use Rattle.medium.specs.Medium.{recordBytes, Observations, observe, noStore, St
 use Rattle.volume.specs.declared.Pending.{Pending}
 use Rattle.volume.specs.declared.Volume.{Volume}
 use Rattle.volume.specs.Answers.{number, callsTold, blockCopied, partCopied, addressNumber, spotTold, reasonTold, partTold, holderNumber, blockTold}
-use Rattle.volume.specs.Calls.{Outcome, formatTable, formatOutcome, restartTable, restartOutcome, sectorTable, sectorOutcome, growTable, growOutcome, writeTable, writeOutcome, readTable, readOutcome, copyTable, copyOutcome, checkpointTable, checkpointOutcome, advanceTable, advanceOutcome, flushedTable, flushedOutcome, addressTable, addressReply, holderTable, holderReply}
+use Rattle.volume.specs.Calls.{Outcome, formatTable, formatOutcome, restartTable, restartOutcome, sectorTable, sectorOutcome, growTable, growOutcome, writeTable, writeOutcome, readTable, readOutcome, copyTable, copyOutcome, nothingToRecord, checkpointTable, checkpointOutcome, advanceTable, advanceOutcome, flushedTable, flushedOutcome, addressTable, addressReply, holderTable, holderReply}
 use Rattle.volume.specs.Records.{recordOf, stateRead, isSoundRecord}
 use Rattle.volume.specs.Sound.{sizeStep, mostSize, movingOf, sound}
 use Rattle.volume.specs.States.{geometry, historyOf, tallyOf, newState, zeros, grown, withPending, recordedOnly, withCopy, checkpointed}
@@ -129,8 +129,9 @@ pub record VolumeLaws : Type 0 where
       → liveSpotOf (tallyOf v) x ≡ sourceOf (tallyOf v) x
   pub advance-source : (v : Volume) (x byteCount : ℕ) → refusal (advanceTable v byteCount) ≡ 0 → nextBlock (tallyOf v) ≡ some x
       → liveSpotOf (tallyOf v) x ≡ sourceOf (tallyOf v) x
-  -- 12 is given exactly where copied equals recorded
-  pub no-copy-waiting : (v : Volume) → sound v ≡ true → within (marksOf (v .copied)) (marksOf (v .recorded)) ≡ true → v .copied ≡ v .recorded
+  -- while a growth runs, 12's test holds exactly where no copy waits to be recorded
+  pub no-copy-waiting : (v : Volume) → sound v ≡ true → v .growing ≢ 0
+      → (nothingToRecord v ≡ true → (x : ℕ) → waiting (tallyOf v) x ≡ false) × (((x : ℕ) → waiting (tallyOf v) x ≡ false) → nothingToRecord v ≡ true)
   -- address and holder are inverse to each other in every stage of a growth, and after a finished one 15 never occurs
   pub look-ups : (v : Volume) → sound v ≡ true → LookUps (tallyOf v)
   pub holder-of-address : (v : Volume) (x : ℕ) → addressNumber (addressReply v x .answer) ≡ 0
