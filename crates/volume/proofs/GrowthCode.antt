@@ -27,7 +27,7 @@ use Rattle.marks.specs.Marks.{markCount, asNextCopy}
 use Rattle.marks.specs.Words.{marksOf}
 use Rattle.marks.proofs.MarkSets.{marks-law}
 use Rattle.medium.specs.declared.Geometry.{Geometry}
-use Rattle.medium.specs.Medium.{mostCopied, bytesNeeded, Observations, observe, recordStore, blockStore, apply, Inside}
+use Rattle.medium.specs.Medium.{mostSize, bytesNeeded, Observations, observe, recordStore, blockStore, apply, Inside}
 use Rattle.volume.specs.declared.Advanced.{Advanced}
 use Rattle.volume.specs.declared.Advanced.the-variants.{Copied}
 use Rattle.volume.specs.declared.Answer.the-variants.{Told}
@@ -139,7 +139,7 @@ module _ (v : Volume) (x len : ℕ) (f : CopyFacts v x len) where
   -- what copying it from its old spot to its new one requires
   pub copy-asks : (k : Geometry) → k ≡ geometry v
       → (from to : Spot) → from ≡ oldSpot (v .rows) (historyOf v) x → to ≡ spotOf (v .rows) (countsNow v) x
-      → ((0 < k .size) × (k .size ≤ mostCopied)) × (Inside k len from × Inside k len to)
+      → ((0 < k .size) × (k .size ≤ mostSize)) × (Inside k len from × Inside k len to)
   unfolding geometry sourceOf targetOf tallyOf historyOf
   copy-asks k same from to a b =
       let g = f .advances in

@@ -16,14 +16,15 @@ use Rattle.layout.specs.Tally.{liveSpotOf, waiting, movesNow, sourceOf, nextBlo
 use Rattle.layout.specs.Windows.{windows, movingIn}
 use Rattle.marks.specs.Marks.{markCount, within}
 use Rattle.marks.specs.Words.{marksOf}
-use Rattle.medium.specs.Medium.{recordBytes, Observations, observe, noStore, StoreFits}
+use Rattle.medium.specs.declared.Geometry.{Geometry}
+use Rattle.medium.specs.Medium.{recordBytes, mostSize, bytesNeeded, Observations, observe, noStore, StoreFits}
 use Rattle.volume.specs.declared.Pending.{Pending}
 use Rattle.volume.specs.declared.Volume.{Volume}
 use Rattle.volume.specs.Answers.{number, callsTold, blockCopied, partCopied, addressNumber, spotTold, reasonTold, partTold, holderNumber, blockTold}
 use Rattle.volume.specs.Calls.{Outcome, formatTable, formatOutcome, restartTable, restartOutcome, sectorTable, sectorOutcome, growTable, growOutcome, writeTable, writeOutcome, readTable, readOutcome, copyTable, copyOutcome, nothingToRecord, checkpointTable, checkpointOutcome, advanceTable, advanceOutcome, flushedTable, flushedOutcome, addressTable, addressReply, holderTable, holderReply}
 use Rattle.volume.specs.Records.{recordOf, stateRead, isSoundRecord}
-use Rattle.volume.specs.Sound.{sizeStep, mostSize, movingOf, sound}
-use Rattle.volume.specs.States.{geometry, historyOf, tallyOf, newState, zeros, grown, withPending, recordedOnly, withCopy, checkpointed}
+use Rattle.volume.specs.Sound.{sizeStep, leastSize, movingOf, sound}
+use Rattle.volume.specs.States.{geometry, historyOf, disks, tallyOf, newState, zeros, grown, withPending, recordedOnly, withCopy, checkpointed}
 
 -- ---- what a sound state is
 
@@ -44,13 +45,19 @@ pub record SoundFacts (v : Volume) : Type 0 where
   pub counts-length : length (v .counts) ≡ 8
   pub recorded-fits : v .recorded < 2 ^ markCount
   pub copied-fits : v .copied < 2 ^ markCount
-  pub size-least : sizeStep ≤ v .size
+  pub size-least : leastSize ≤ v .size
   pub size-most : v .size ≤ mostSize
   pub size-steps : v .size % sizeStep ≡ 0
   pub limits : Limits (v .rows) (historyOf v)
   pub zeros-after : (i : ℕ) → i < 8 → v .growths < i → getD (v .counts) i 0 ≡ 0
   pub at-rest : v .growing ≡ 0 → RestFacts v
   pub while-growing : v .growing ≢ 0 → GrowthFacts v
+
+-- ---- what a call stores
+
+-- its store lies in the bytes of the record and the disks
+abbrev pub InDisks : (v : Volume) (out : Outcome) → Type 0
+InDisks v out = StoreFits (geometry v) (bytesNeeded (geometry v) (disks v)) (out .store)
 
 -- ---- what a refusal is
 
@@ -101,14 +108,14 @@ pub record VolumeLaws : Type 0 where
   pub checkpointed-sound : (v : Volume) → sound v ≡ true → v .growing ≢ 0 → sound (checkpointed v) ≡ true
   -- what is pending is no part of soundness: both may be
   pub pending-sound : (v : Volume) (p : Pending) → sound (withPending v p) ≡ sound v
-  -- what is stored lies in the medium; a copy stores bytes of that medium
-  pub format-fits : (z s n : ℕ) (o : Observations) → StoreFits (record { size = z; rows = s }) (o .byteCount) (formatOutcome z s n o .store)
-  pub grow-fits : (v : Volume) (count : ℕ) (o : Observations) → StoreFits (geometry v) (o .byteCount) (growOutcome v count o .store)
-  pub write-fits : (v : Volume) (x : ℕ) (piece : List ℕ) (o : Observations)
-      → StoreFits (geometry v) (o .byteCount) (writeOutcome v x piece o .store)
-  pub copy-fits : (v : Volume) (x : ℕ) (m : List ℕ) → StoreFits (geometry v) (length m) (copyOutcome v x (observe m) .store)
-  pub checkpoint-fits : (v : Volume) (o : Observations) → StoreFits (geometry v) (o .byteCount) (checkpointOutcome v o .store)
-  pub advance-fits : (v : Volume) (m : List ℕ) → StoreFits (geometry v) (length m) (advanceOutcome v (observe m) .store)
+  -- what is stored lies in the bytes of the disks; a copy stores bytes of the medium that it sees
+  pub format-fits : (z s n : ℕ) (o : Observations)
+      → (let g : Geometry = record { size = z; rows = s } in StoreFits g (bytesNeeded g n) (formatOutcome z s n o .store))
+  pub grow-fits : (v : Volume) (count : ℕ) (o : Observations) → InDisks v (growOutcome v count o)
+  pub write-fits : (v : Volume) (x : ℕ) (piece : List ℕ) (o : Observations) → InDisks v (writeOutcome v x piece o)
+  pub copy-fits : (v : Volume) (x : ℕ) (m : List ℕ) → InDisks v (copyOutcome v x (observe m))
+  pub checkpoint-fits : (v : Volume) (o : Observations) → InDisks v (checkpointOutcome v o)
+  pub advance-fits : (v : Volume) (m : List ℕ) → InDisks v (advanceOutcome v (observe m))
   -- refusals
   pub format-refuses : (z s n : ℕ) (o : Observations) → Refuses (formatTable z s n (o .byteCount)) zeros [] (formatOutcome z s n o)
   pub restart-refuses : (o : Observations) → Refuses (restartTable o) zeros [] (restartOutcome o)
