@@ -1,11 +1,14 @@
 -- The laws of the layout: `layout-laws` proves all of `LayoutLaws` in `specs/Laws.antt`.
-use Prim.Native.Nat.{ℕ, _+_, _-_, _<_}
+use Prim.Native.Nat.{ℕ, _+_, _-_, _*_, _<_}
 use mathlib.Core.Path.{_≡_, refl, _∙_, ap}
 use mathlib.Core.Bool.{Bool, true, false}
 use mathlib.Core.List.{List, [], _∷_, _++_, map}
 use native.Mathlib.Omega.{arith}
 use lib.ListN.{length, take, drop}
+use borrow.Author.Tests.{le-leb}
 use Rattle.base.specs.Below.{count}
+use Rattle.base.proofs.Booleans.{and-both}
+use Rattle.layout.specs.declared.Reason.{Reason}
 use Rattle.layout.specs.Growth.{minusMod, moves, partOf, newDisk, diskAfter, movesFrom, oldBlockSpot, addedDisk, addedSpot, spotAfter, changeOf, addedIndex, oldDisk, diskBefore, spotBefore, blockAfter}
 use Rattle.layout.specs.declared.Spot.{Spot}
 use Rattle.layout.specs.History.{Within, diskCount, earlier, oldCount, addedCount, rising, spotOf, blockAt}
@@ -13,16 +16,16 @@ use Rattle.layout.specs.Windows.{windows, windowOfRow, oldSpot, moving, 
 use Rattle.layout.specs.Limits.{Limits}
 use Rattle.layout.specs.Reasons.{reasonAfter, reasonOf}
 use Rattle.layout.specs.Tally.{Tally, isRunning, movedBlocks}
-use Rattle.layout.specs.Laws.{RemainderOf, Bijection, Moving, LiveSpots, Marks, MarksFit, Counts, LookUps, AddedAt, ReasonTrue, LayoutLaws}
+use Rattle.layout.specs.Laws.{RemainderOf, Bijection, Moving, LiveSpots, Marks, MarksFit, Counts, LookUps, AddedAt, HeadBeforeTail, ReasonTrue, LayoutLaws}
 use Rattle.layout.specs.Cases.{TableHolds, table, worked}
 use Rattle.layout.proofs.Histories.{rising-up}
 use Rattle.layout.proofs.Remainder.{remainder}
 use Rattle.layout.proofs.Bijection.{bijection}
 use Rattle.layout.proofs.NewestGrowth.{moving-law}
 use Rattle.layout.proofs.LiveSpots.{live-law}
-use Rattle.layout.proofs.LookUps.{look-ups-law}
+use Rattle.layout.proofs.LookUps.{LiveReasons, look-ups-law}
 use Rattle.layout.proofs.AddedBlocks.{added-law}
-use Rattle.layout.proofs.ReasonsTrue.{reasons-law}
+use Rattle.layout.proofs.ReasonsTrue.{reasons-law, only-reason-law, live-reasons-law}
 use Rattle.layout.proofs.MarkBlocks.{marks-law}
 use Rattle.layout.proofs.MoveCounts.{counts-law}
 use Rattle.layout.proofs.WindowsCode.{marks-most}
@@ -70,6 +73,10 @@ module _ (s : ℕ) (h : List ℕ) (r : rising h ≡ true) (g : 0 < oldCount h) w
   pub live-spots : (moved : ℕ → Bool) → LiveSpots s h moved
   live-spots moved = has-growth (λ k. LiveSpots s k moved) (λ c m k q. live-law s c m k q moved) h r g
 
+  live-reasons : LiveReasons s h
+  unfolding oldCount earlier diskCount
+  live-reasons = has-growth (LiveReasons s) (live-reasons-law s) h r g
+
   pub marks-and-blocks : Marks s h
   marks-and-blocks = has-growth (Marks s) (marks-law s) h r g
 
@@ -80,10 +87,18 @@ module _ (s : ℕ) (h : List ℕ) (r : rising h ≡ true) (g : 0 < oldCount h) w
 pub marks-fit : (s : ℕ) (h : List ℕ) → Limits s h → 0 < oldCount h → MarksFit h
 marks-fit s h a g = marks-most (oldCount h) (addedCount h) (omega (arith, disks-sum s h (a .rise) g, a .disks-most))
 
--- a tally's live spots, whether a growth runs or not
+-- the reason that is told of a block is true, and no other is
+pub reason-true : (s : ℕ) (h : List ℕ) (x : ℕ) → rising h ≡ true → x < diskCount h * s → ReasonTrue s h x (reasonOf s h x)
+reason-true = reasons-law
+
+pub only-reason : (s : ℕ) (h : List ℕ) (x : ℕ) → rising h ≡ true → (q r : Reason) → ReasonTrue s h x q → ReasonTrue s h x r → q ≡ r
+only-reason = only-reason-law
+
+-- a tally's live spots and why blocks are there, whether a growth runs or not
 pub look-ups : (t : Tally) → rising (t .counts) ≡ true → (isRunning (t .mode) ≡ true → 0 < oldCount (t .counts)) → LookUps t
 look-ups t r g =
-    look-ups-law t (spots-and-blocks (t .rows) (t .counts) r) (λ e. live-spots (t .rows) (t .counts) r (g e) (movedBlocks t))
+    look-ups-law t (spots-and-blocks (t .rows) (t .counts) r) (λ x. reason-true (t .rows) (t .counts) x r)
+    (λ e. (live-spots (t .rows) (t .counts) r (g e) (movedBlocks t), live-reasons (t .rows) (t .counts) r (g e)))
 
 -- which spots have a block that the newest growth added, no growth running
 pub added-blocks : (t : Tally) → rising (t .counts) ≡ true → 0 < oldCount (t .counts) → isRunning (t .mode) ≡ false
@@ -95,9 +110,14 @@ added-blocks t r g e =
     (λ c m h q. added-law (t .rows) c m h q (t .window) (t .copied) (t .recorded) (t .mode) e)
     (t .counts) r g
 
--- the reason that is told of a block is true
-pub reason-true : (s : ℕ) (h : List ℕ) (x : ℕ) → rising h ≡ true → ReasonTrue s h x
-reason-true = reasons-law
+-- with as many disks added as there were, a row that fits head and tail is told as head
+pub head-before-tail : (m : ℕ) → HeadBeforeTail m
+unfolding partOf moves
+head-before-tail m =
+    record {
+      head-told = λ b1 h t. rw (le-leb m m (omega arith), le-leb b1 (m - 1) h);
+      both-fit = λ d0 k. (m - 1, omega arith, omega arith, and-both (le-leb d0 (m - 1) (omega arith)) (le-leb (m - 1) (d0 + m - 1) (omega arith)));
+    }
 
 -- L1 to L4, the blocks that one growth moved
 moved-cases : map worked (take 4 table) ≡ take 4 table
@@ -119,6 +139,7 @@ layout-laws =
       remainder-true = remainder-true;
       spots-and-blocks = spots-and-blocks;
       moving-blocks = moving-blocks;
+      head-before-tail = head-before-tail;
       live-spots = live-spots;
       marks-and-blocks = marks-and-blocks;
       marks-fit = marks-fit;
@@ -126,5 +147,6 @@ layout-laws =
       look-ups = look-ups;
       added-blocks = added-blocks;
       reason-true = reason-true;
+      only-reason = only-reason;
       layout-cases = layout-cases;
     }

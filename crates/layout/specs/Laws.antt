@@ -4,17 +4,21 @@ use Prim.Native.Nat.{ℕ, suc, _+_, _-_, _*_, _%_, _≤_, _<_}
 use mathlib.Core.Path.{_≡_}
 use mathlib.Core.Bool.{Bool, true, false, not, _&&_}
 use mathlib.Core.List.{List}
-use mathlib.Core.Logic.{_≢_}
+use mathlib.Core.Logic.{_≢_, _⊎_}
 use mathlib.Core.Option.{none, some}
 use lib.ListN.{length}
+use Rattle.layout.specs.declared.Part.{Part}
+use Rattle.layout.specs.declared.Part.the-variants.{Head}
+use Rattle.layout.specs.declared.Reason.{Reason}
+use Rattle.layout.specs.declared.Reason.the-variants.{SetOut, AddedBy, MovedBy}
 use Rattle.layout.specs.declared.Spot.{Spot}
 use Rattle.base.specs.Below.{count}
-use Rattle.layout.specs.Growth.{minusMod, addedIndex, spotBefore}
+use Rattle.layout.specs.Growth.{minusMod, moves, partOf, addedIndex, spotBefore}
 use Rattle.layout.specs.History.{diskCount, earlier, oldCount, addedCount, rising, Within, spotOf, blockAt}
-use Rattle.layout.specs.Windows.{windows, rowExists, oldSpot, moving, windowOf, markOf, blockOfMark, markedBlocks, movesOfWindow, uncopied, callsLeft, cutMoves, laterMoves, callsLeftByMarks}
+use Rattle.layout.specs.Windows.{windows, rowExists, oldSpot, moving, windowOf, markOf, blockOfMark, markedBlocks, partMoved, movesOfWindow, uncopied, callsLeft, cutMoves, laterMoves, callsLeftByMarks}
 use Rattle.layout.specs.Live.{liveSpot, liveBlock}
-use Rattle.layout.specs.Reasons.{reasonOf, growthTold, firstGrowths}
-use Rattle.layout.specs.Tally.{Tally, isRunning, openBlocks, liveSpotOf, liveBlockOf, growthsOf}
+use Rattle.layout.specs.Reasons.{reasonOf, firstGrowths}
+use Rattle.layout.specs.Tally.{Tally, isRunning, openBlocks, liveSpotOf, liveBlockOf, growthsOf, liveReasonOf}
 use Rattle.layout.specs.Limits.{Limits}
 use Rattle.layout.specs.Cases.{TableHolds}
 
@@ -36,6 +40,13 @@ pub record Moving (s : ℕ) (h : List ℕ) : Type 0 where
   pub same-row : (x : ℕ) → x < oldCount h * s → spotOf s h x .row ≡ oldSpot s h x .row
   pub to-added-disk : (x : ℕ) → moving s h x ≡ true → (oldCount h ≤ spotOf s h x .disk) × (spotOf s h x .disk < diskCount h)
   pub stays : (x : ℕ) → x < oldCount h * s → moving s h x ≡ false → spotOf s h x ≡ oldSpot s h x
+
+-- a growth from m disks by m more: head, "b1 ≤ n-1", and tail, "b1 ≥ m-1", both fit a row
+pub record HeadBeforeTail (m : ℕ) : Type 0 where
+  -- "first rule that fits", head before tail: "Reading tail before head when m = n: the disk is right, the part told is wrong"
+  pub head-told : (b1 : ℕ) → b1 ≤ m - 1 → m - 1 ≤ b1 → partOf m m b1 ≡ Head
+  -- there is such a row, and on each old disk its block moves
+  pub both-fit : (d0 : ℕ) → d0 < m → (b1 : ℕ) × (b1 ≤ m - 1) × (m - 1 ≤ b1) × (moves m d0 b1 ≡ true)
 
 -- while the newest growth runs, whichever blocks have been moved
 pub record LiveSpots (s : ℕ) (h : List ℕ) (moved : ℕ → Bool) : Type 0 where
@@ -75,6 +86,42 @@ pub record Counts (s : ℕ) (h : List ℕ) : Type 0 where
   pub calls-by-marks : (w : ℕ) (marks : List Bool)
       → callsLeft s h w (markedBlocks s h w marks) ≡ callsLeftByMarks (oldCount h) (addedCount h) s w marks
 
+-- Why a block is at its spot: "set out at format or added, by the last growth that placed it, or moved there, as head, body or tail, by the last
+-- growth that moved it". N[k] is the disk count of the first k growths.
+
+-- no growth after growth k has changed the spot of x
+unfoldable pub UnchangedSince : (s : ℕ) (h : List ℕ) (x k : ℕ) → Type 0
+UnchangedSince s h x k = (j : ℕ) → k ≤ j → j < length h → spotOf s (firstGrowths j h) x ≡ spotOf s h x
+
+-- "Growths are told by number, 1 to t"
+abbrev pub IsGrowth : (h : List ℕ) (k : ℕ) → Type 0
+IsGrowth h k = (0 < k) × (k < length h)
+
+-- "set out at format": x < N[0]·s
+pub record SetOutTrue (s : ℕ) (h : List ℕ) (x : ℕ) : Type 0 where
+  pub there-at-format : x < diskCount (firstGrowths 0 h) * s
+  pub unchanged : UnchangedSince s h x 0
+
+-- "added, by the last growth that placed it", growth k: N[k-1]·s ≤ x < N[k]·s
+pub record AddedTrue (s : ℕ) (h : List ℕ) (x k : ℕ) : Type 0 where
+  pub growth-made : IsGrowth h k
+  pub added-from : diskCount (firstGrowths (k - 1) h) * s ≤ x
+  pub added-below : x < diskCount (firstGrowths k h) * s
+  pub unchanged : UnchangedSince s h x k
+
+-- "moved there, as head, body or tail, by the last growth that moved it", growth k
+pub record MovedTrue (s : ℕ) (h : List ℕ) (x k : ℕ) (part : Part) : Type 0 where
+  pub growth-made : IsGrowth h k
+  pub moved : moving s (firstGrowths k h) x ≡ true
+  pub its-part : partMoved s (firstGrowths k h) x ≡ part
+  pub unchanged : UnchangedSince s h x k
+
+-- this is why x is at its spot
+unfoldable pub ReasonTrue : (s : ℕ) (h : List ℕ) (x : ℕ) (r : Reason) → Type 0
+ReasonTrue s h x SetOut = SetOutTrue s h x
+ReasonTrue s h x (AddedBy k) = AddedTrue s h x k
+ReasonTrue s h x (MovedBy k part) = MovedTrue s h x k part
+
 -- a tally's live spots, whether a growth runs or not: the block at a spot is the inverse of a block's live spot
 pub record LookUps (t : Tally) : Type 0 where
   pub live-within : (x : ℕ) → x < openBlocks t → Within (t .rows) (t .counts) (liveSpotOf t x)
@@ -84,8 +131,11 @@ pub record LookUps (t : Tally) : Type 0 where
       → (x < openBlocks t) × (liveSpotOf t x ≡ p)
   -- "After a finished growth 15 never occurs."
   pub each-spot-taken : isRunning (t .mode) ≡ false → (p : Spot) → liveBlockOf t p ≢ none
-  -- the live spot is the one that the growths told of give it
+  -- the live spot is the one that the growths told of give it, all or all but the newest
   pub live-growths : (x : ℕ) → liveSpotOf t x ≡ spotOf (t .rows) (growthsOf t x) x
+  pub all-or-earlier : (x : ℕ) → (growthsOf t x ≡ t .counts) ⊎ (growthsOf t x ≡ earlier (t .counts))
+  -- "the live spot and why it is there": the reason told is true of those growths
+  pub live-reason : (x : ℕ) → x < openBlocks t → ReasonTrue (t .rows) (growthsOf t x) x (liveReasonOf t x)
 
 -- x is an added block, "m·s ≤ x < (m+n)·s", and lives at p
 pub record AddedThere (t : Tally) (p : Spot) (m n x : ℕ) : Type 0 where
@@ -111,18 +161,13 @@ AddedAt t p =
     let n = addedCount (t .counts) in
     AddedBlocks t p m n (addedIndex m n (p .disk) (p .row .0))
 
--- the reason that is told: the block is where the growth told put it, and no later one has changed that
-pub record ReasonTrue (s : ℕ) (h : List ℕ) (x : ℕ) : Type 0 where
-  pub growth-made : growthTold (reasonOf s h x) < length h
-  pub since-then : (j : ℕ) → growthTold (reasonOf s h x) ≤ j → j < length h → spotOf s (firstGrowths j h) x ≡ spotOf s h x
-  pub told-of-it : reasonOf s h x ≡ reasonOf s (firstGrowths (growthTold (reasonOf s h x)) h) x
-
 -- All laws. A history has a growth where its old disks are more than 0.
 pub record LayoutLaws : Type 0 where
   -- the remainder of b-(n-1) is the true one, also for b < n-1
   pub remainder-true : (m n b : ℕ) → 0 < n → RemainderOf b (n - 1) (m + n) (minusMod b (n - 1) (m + n))
   pub spots-and-blocks : (s : ℕ) (h : List ℕ) → rising h ≡ true → Bijection s h
   pub moving-blocks : (s : ℕ) (h : List ℕ) → rising h ≡ true → 0 < oldCount h → Moving s h
+  pub head-before-tail : (m : ℕ) → HeadBeforeTail m
   pub live-spots : (s : ℕ) (h : List ℕ) → rising h ≡ true → 0 < oldCount h → (moved : ℕ → Bool) → LiveSpots s h moved
   pub marks-and-blocks : (s : ℕ) (h : List ℕ) → rising h ≡ true → 0 < oldCount h → Marks s h
   pub marks-fit : (s : ℕ) (h : List ℕ) → Limits s h → 0 < oldCount h → MarksFit h
@@ -130,6 +175,8 @@ pub record LayoutLaws : Type 0 where
   pub look-ups : (t : Tally) → rising (t .counts) ≡ true → (isRunning (t .mode) ≡ true → 0 < oldCount (t .counts)) → LookUps t
   pub added-blocks : (t : Tally) → rising (t .counts) ≡ true → 0 < oldCount (t .counts) → isRunning (t .mode) ≡ false
       → (p : Spot) → Within (t .rows) (t .counts) p → AddedAt t p
-  pub reason-true : (s : ℕ) (h : List ℕ) (x : ℕ) → rising h ≡ true → ReasonTrue s h x
+  pub reason-true : (s : ℕ) (h : List ℕ) (x : ℕ) → rising h ≡ true → x < diskCount h * s → ReasonTrue s h x (reasonOf s h x)
+  -- the three exclude each other, and no other growth or part is true
+  pub only-reason : (s : ℕ) (h : List ℕ) (x : ℕ) → rising h ≡ true → (q r : Reason) → ReasonTrue s h x q → ReasonTrue s h x r → q ≡ r
   -- L1 to L12
   pub layout-cases : TableHolds

@@ -54,6 +54,12 @@ pub blank-field-read : (bytes : List ℕ) (t i : ℕ) (c d : Column) → c ≡ r
 unfolding readField
 blank-field-read bytes t i c d h e f = rw (e, ← f, h, lent-width i)
 
+-- what the else of a `let Column::Blank` knows
+pub no-blank : (c : Column) → (tagOf the-type c ≡ 0) ⊎ (tagOf the-type c ≡ 2) → NotANumber ≡ blankAsZero c
+no-blank (Number n) o = refl
+no-blank Blank o = ⊎-elim (λ e. absurd (omega arith)) (λ e. absurd (omega arith)) o
+no-blank NotANumber o = refl
+
 -- ---- the numbers
 
 -- what the else of a `let Column::Number(..)` knows

@@ -22,11 +22,10 @@ fn read_field(bytes: &[u8], t: usize, i: usize) -> Column
     if !is_blank(t, i) {
         return found;
     }
-    match found {
-        Column::Number(_) => Column::NotANumber,
-        Column::Blank => Column::Number(0),
-        Column::NotANumber => Column::NotANumber,
-    }
+    let Column::Blank = found else {
+        return Column::NotANumber;
+    };
+    Column::Number(0)
 }
 
 // The thirteen numbers.

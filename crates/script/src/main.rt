@@ -14,10 +14,13 @@ mod states;
 
 use printing::text;
 
+// The length of the buffer that standard input is read into. One that is full need not have all of it.
+const BUFFER_LENGTH: usize = 65_536;
+
 fn main() {
-    let mut space = [0u8; 65_536];
+    let mut space = [0u8; BUFFER_LENGTH];
     let got = io::read_full(0, &mut space);
-    if 65_536 <= got {
+    if BUFFER_LENGTH <= got {
         text(b"at most 65,535 bytes are read\n");
         return;
     }

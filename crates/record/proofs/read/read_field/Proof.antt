@@ -1,9 +1,9 @@
 -- `read_field` meets its contract.
-use mathlib.Core.Path.{_≡_, sym, _∙_}
+use mathlib.Core.Path.{_≡_, refl, sym, _∙_}
 use borrow.Author.Tests.{not-true, not-false}
 use Rattle.record.specs.declared.Column.{Column}
 use Rattle.record.specs.Sector.{blankAsZero, readField}
-use Rattle.record.proofs.ReadCode.{field-read, blank-field-read}
+use Rattle.record.proofs.ReadCode.{field-read, blank-field-read, no-blank}
 use borrow.Author.Needs.{needs}
 use Rattle.record.proofs.read.read_field.Statement.{statement}
 use Rattle.record.proofs.read.read_field.Tie as tie
@@ -37,12 +37,6 @@ returns c =
 enum-told : tie.Need-enum-told
 enum-told c = search needs
 
-enum-told-2 : tie.Need-enum-told-2
-enum-told-2 c = search needs
-
-enum-told-3 : tie.Need-enum-told-3
-enum-told-3 c = search needs
-
 has-to-be-blank : (c : tie.Else1) (d : Column) → c .before .before .read-column .result ≡ d
     → let a = c .before .before .before .before .before .args in blankAsZero d ≡ readField (a .bytes .now) (a .t) (a .i)
 has-to-be-blank c d e =
@@ -50,13 +44,10 @@ has-to-be-blank c d e =
     blank-field-read _ (a .t) (a .i) _ d (c .before .before .read-column .ensures) (sym (c .before .is-blank .ensures) ∙ not-false _ (c .if1 .left)) e
 
 returns-2 : tie.Need-returns-2
-returns-2 c = has-to-be-blank (c .before .before) _ (c .enum-told .given .1)
+returns-2 c = no-blank (c .before .before .before .read-column .result) (c .match .keys2) ∙ has-to-be-blank (c .before) _ refl
 
 returns-3 : tie.Need-returns-3
-returns-3 c = has-to-be-blank (c .before .before) _ (c .enum-told2 .given .1)
-
-returns-4 : tie.Need-returns-4
-returns-4 c = has-to-be-blank (c .before .before) _ (c .enum-told3 .given .1)
+returns-3 c = has-to-be-blank (c .before .before) _ (c .enum-told .given .1)
 
 pub read-field-spec : {M : Type 1} → statement M
 read-field-spec =
@@ -71,8 +62,5 @@ read-field-spec =
     is-blank-requires
     returns
     enum-told
-    enum-told-2
-    enum-told-3
     returns-2
-    returns-3
-    returns-4)
+    returns-3)
