@@ -75,15 +75,14 @@ advance-source v x byteCount e n = lives-at-source v x byteCount (next-facts v x
 
 -- ---- no copy waits to be recorded
 
--- copied and not recorded
-idle : (a b : Bool) → a ≡ b → (a && not b) ≡ false
-idle true b e = rw (sym e)
-idle false b e = refl
+both-or-neither : (a b : Bool) → a ≡ b → (a && not b) ≡ false
+both-or-neither true b e = rw (sym e)
+both-or-neither false b e = refl
 
-not-idle : (a b : Bool) → (a && not b) ≡ false → a ≡ true → b ≡ true
-not-idle true true e f = refl
-not-idle true false e f = clash refl e
-not-idle false b e f = clash f refl
+implied : (a b : Bool) → (a && not b) ≡ false → a ≡ true → b ≡ true
+implied true true e f = refl
+implied true false e f = clash refl e
+implied false b e f = clash f refl
 
 pub no-copy-waiting : (v : Volume) → sound v ≡ true → v .growing ≢ 0
     → (nothingToRecord v ≡ true → (x : ℕ) → waiting (tallyOf v) x ≡ false) × (((x : ℕ) → waiting (tallyOf v) x ≡ false) → nothingToRecord v ≡ true)
@@ -93,11 +92,11 @@ no-copy-waiting v e runs =
     let g = f .while-growing runs in
     let copied = v .copied in
     let recorded = v .recorded in (
-      (λ t x. rw (ne-eqb (v .growing) 0 runs) (idle _ _ (ap (λ (marks : ℕ). markedBlocks (v .rows) (historyOf v) (v .window) (marksOf marks) x) (eqb-true copied recorded t)))),
+      (λ t x. rw (ne-eqb (v .growing) 0 runs) (both-or-neither _ _ (ap (λ (marks : ℕ). markedBlocks (v .rows) (historyOf v) (v .window) (marksOf marks) x) (eqb-true copied recorded t)))),
       (λ w.
           eq-eqb copied recorded
           (words-both copied recorded (f .copied-fits) (f .recorded-fits)
           (within-marked (v .rows) (historyOf v) (f .limits) (some-old v e runs) (v .window) (marksOf copied) (marksOf recorded) (g .copied-moving)
-          (λ x. not-idle _ _ (rw (ne-eqb (v .growing) 0 runs) at (w x))))
+          (λ x. implied _ _ (rw (ne-eqb (v .growing) 0 runs) at (w x))))
           (g .recorded-copied))),
     )

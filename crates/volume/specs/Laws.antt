@@ -3,21 +3,26 @@ use Prim.Native.Nat.{ℕ, _%_, _≤_, _<_, _^_}
 use mathlib.Core.Path.{_≡_}
 use mathlib.Core.Bool.{Bool, true, false}
 use mathlib.Core.List.{List, []}
-use mathlib.Core.Logic.{_≢_}
+use mathlib.Core.Logic.{_≢_, _⊎_}
 use mathlib.Core.Option.{none, some}
 use lib.ListN.{length, getD}
 use Rattle.base.specs.Refusals.{refusal}
+use Rattle.layout.specs.declared.Block.{Block}
+use Rattle.layout.specs.declared.Part.{Part}
+use Rattle.layout.specs.declared.Reason.the-variants.{MovedBy}
 use Rattle.layout.specs.declared.Spot.{Spot}
 use Rattle.layout.specs.History.{oldCount, addedCount}
-use Rattle.layout.specs.Laws.{LookUps}
+use Rattle.layout.specs.Laws.{ReasonTrue, LookUps}
 use Rattle.layout.specs.Limits.{Limits}
 use Rattle.layout.specs.Reasons.{growthTold}
-use Rattle.layout.specs.Tally.{liveSpotOf, waiting, movesNow, sourceOf, nextBlock}
+use Rattle.layout.specs.Tally.{isRunning, movedBlocks, liveSpotOf, growthsOf, waiting, movesNow, sourceOf, nextBlock}
 use Rattle.layout.specs.Windows.{windows, movingIn}
 use Rattle.marks.specs.Marks.{markCount, within}
 use Rattle.marks.specs.Words.{marksOf}
 use Rattle.medium.specs.declared.Geometry.{Geometry}
 use Rattle.medium.specs.Medium.{recordBytes, mostSize, bytesNeeded, Observations, observe, noStore, StoreFits}
+use Rattle.volume.specs.declared.Advanced.the-variants.{Copied}
+use Rattle.volume.specs.declared.Answer.the-variants.{Told}
 use Rattle.volume.specs.declared.Pending.{Pending}
 use Rattle.volume.specs.declared.Volume.{Volume}
 use Rattle.volume.specs.Answers.{number, callsTold, blockCopied, partCopied, addressNumber, spotTold, reasonTold, partTold, holderNumber, blockTold}
@@ -52,6 +57,15 @@ pub record SoundFacts (v : Volume) : Type 0 where
   pub zeros-after : (i : ℕ) → i < 8 → v .growths < i → getD (v .counts) i 0 ≡ 0
   pub at-rest : v .growing ≡ 0 → RestFacts v
   pub while-growing : v .growing ≢ 0 → GrowthFacts v
+
+-- ---- a copy that is recorded
+
+-- u has the rows and the counts of v, and block x is where the newest growth moved it: that growth is finished, or the copy is recorded
+pub record RecordsCopy (v u : Volume) (x : ℕ) : Type 0 where
+  pub is-sound : sound u ≡ true
+  pub same-rows : u .rows ≡ v .rows
+  pub same-history : historyOf u ≡ historyOf v
+  pub recorded : (isRunning (tallyOf u .mode) ≡ false) ⊎ (movedBlocks (tallyOf u) x ≡ true)
 
 -- ---- what a call stores
 
@@ -139,6 +153,14 @@ pub record VolumeLaws : Type 0 where
   -- while a growth runs, 12's test holds exactly where no copy waits to be recorded
   pub no-copy-waiting : (v : Volume) → sound v ≡ true → v .growing ≢ 0
       → (nothingToRecord v ≡ true → (x : ℕ) → waiting (tallyOf v) x ≡ false) × (((x : ℕ) → waiting (tallyOf v) x ≡ false) → nothingToRecord v ≡ true)
+  -- the part that advance tells of a block is the part that address tells once the copy is recorded, and the next checkpoint records it
+  pub part-told : (v u : Volume) (o : Observations) (x : Block) (part : Part) (n : ℕ) → advanceOutcome v o .reply .answer ≡ Told (Copied x part) n
+      → RecordsCopy v u (x .0) → reasonTold (addressReply u (x .0) .answer) ≡ MovedBy (v .growths) part
+  pub part-recorded : (v : Volume) (o : Observations) (x : Block) (part : Part) (n : ℕ) → advanceOutcome v o .reply .answer ≡ Told (Copied x part) n
+      → RecordsCopy v (checkpointed (withCopy v (x .0))) (x .0)
+  -- the reason that address tells is true of the growths that made the live spot
+  pub address-reason : (v : Volume) (x : ℕ) → addressNumber (addressReply v x .answer) ≡ 0
+      → ReasonTrue (v .rows) (growthsOf (tallyOf v) x) x (reasonTold (addressReply v x .answer))
   -- address and holder are inverse to each other in every stage of a growth, and after a finished one 15 never occurs
   pub look-ups : (v : Volume) → sound v ≡ true → LookUps (tallyOf v)
   pub holder-of-address : (v : Volume) (x : ℕ) → addressNumber (addressReply v x .answer) ≡ 0
