@@ -132,6 +132,27 @@ module _ (s : ℕ) (h : List ℕ) (l : Limits s h) (g : 0 < oldCount h) where
       let m = and-left (movingIn s h w x) (getD a (markOf s h x) false) f in
       and-both m (within-use a b e (markOf s h x) (its-mark w x m .0) (and-right (movingIn s h w x) (getD a (markOf s h x) false) f))
 
+  -- each of them is that of a moving block of the window
+  its-block : (w j : ℕ) → j < markCount → getD (movingMarks (oldCount h) (addedCount h) s w) j false ≡ true
+      → (x : ℕ) × (movingIn s h w x ≡ true) × (markOf s h x ≡ j)
+  unfolding movingIn
+  its-block w j k e =
+      let t : movingAt (oldCount h) (addedCount h) s w j ≡ true = sym (moving-at (oldCount h) (addedCount h) s w j k) ∙ e in
+      let below = ltb-true j (oldCount h * addedCount h) (and-left _ (rowExists (oldCount h) (addedCount h) s w j) t) in
+      let b = marks-law .mark-moves w j below (and-right (ltb j (oldCount h * addedCount h)) _ t) in
+      let x = blockOfMark s h w j in
+      (x, and-both (b .0) (eq-eqb (windowOf s h x) w (b .1)), b .2)
+
+  -- the other way, for marks of moving blocks of the window
+  pub within-marked : (w : ℕ) (a b : List Bool) → within a (movingMarks (oldCount h) (addedCount h) s w) ≡ true
+      → ((x : ℕ) → markedBlocks s h w a x ≡ true → markedBlocks s h w b x ≡ true) → within a b ≡ true
+  unfolding markedBlocks
+  within-marked w a b e f =
+      within-make a b
+      (λ j k t.
+      let q = its-block w j k (within-use a _ e j k t) in
+      rw (q .2) at (and-right (movingIn s h w (q .0)) _ (f (q .0) (and-both (q .1) (rw (q .2) t)))))
+
   -- where all of them are set, each moving block of the window is marked
   pub all-marked : (w : ℕ) (marks : List Bool) → within (movingMarks (oldCount h) (addedCount h) s w) marks ≡ true
       → (x : ℕ) → movingIn s h w x ≡ true → markedBlocks s h w marks x ≡ true
@@ -143,16 +164,11 @@ module _ (s : ℕ) (h : List ℕ) (l : Limits s h) (g : 0 < oldCount h) where
   -- where one of them is not set, a moving block of the window is not marked
   pub one-unmarked : (w : ℕ) (marks : List Bool) → within (movingMarks (oldCount h) (addedCount h) s w) marks ≡ false
       → (x : ℕ) × (movingIn s h w x ≡ true) × (markedBlocks s h w marks x ≡ false)
-  unfolding movingIn markedBlocks
+  unfolding markedBlocks
   one-unmarked w marks e =
       let r = within-fails (movingMarks (oldCount h) (addedCount h) s w) marks e in
-      let j = r .0 in
-      let t : movingAt (oldCount h) (addedCount h) s w j ≡ true = sym (moving-at (oldCount h) (addedCount h) s w j (r .1)) ∙ r .2 in
-      let below = ltb-true j (oldCount h * addedCount h) (and-left _ (rowExists (oldCount h) (addedCount h) s w j) t) in
-      let b = marks-law .mark-moves w j below (and-right (ltb j (oldCount h * addedCount h)) _ t) in
-      let x = blockOfMark s h w j in
-      let f : (moving s h x && eqb (windowOf s h x) w) ≡ true = and-both (b .0) (eq-eqb (windowOf s h x) w (b .1)) in
-      (x, f, rw (f, b .2, r .3))
+      let q = its-block w (r .0) (r .1) (r .2) in
+      (q .0, q .1, rw (q .1, q .2, r .3))
 
   -- all of them are set exactly where all moving blocks of the window are marked
   pub all-by-marks : (w : ℕ) (marks : List Bool)

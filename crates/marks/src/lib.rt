@@ -25,7 +25,6 @@ use layout::Spot;
 pub use stages::at_rest;
 pub use stages::in_growth;
 pub use words::has_mark;
-pub use words::is_within;
 pub use words::marks_of;
 pub use words::with_mark;
 pub use words::word_of;

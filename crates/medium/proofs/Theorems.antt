@@ -1,5 +1,5 @@
 -- The laws of stores, as `specs/Laws.antt` states them.
-use Prim.Native.Nat.{ℕ}
+use Prim.Native.Nat.{ℕ, _≤_}
 use mathlib.Core.Path.{_≡_, refl, subst, _∙_}
 use mathlib.Core.List.{List}
 use mathlib.Core.Logic.{inl, inr}
@@ -33,6 +33,12 @@ stored g (blockStore p bytes) m f = record {
     | inr h ↦ part-kept m bytes (place g p) (place g q) (g .size) (inr h)
   ];
 }
+
+fits-longer : (g : Geometry) (n len : ℕ) (s : Store) → n ≤ len → StoreFits g n s → StoreFits g len s
+unfolding StoreFits
+fits-longer g n len noStore h f = tt
+fits-longer g n len (recordStore sector) h f = (f .0, omega (arith, f .1))
+fits-longer g n len (blockStore p bytes) h f = (record { row = f .0 .row; fits = omega (arith, f .0 .fits) }, f .1)
 
 beyond-kept : (g : Geometry) (n : ℕ) (s : Store) (m : List ℕ) → StoreFits g n s → drop n (apply g s m) ≡ drop n m
 unfolding apply StoreFits
@@ -78,6 +84,7 @@ medium-laws = record {
   disjoint = disjoint;
   inside = inside;
   stored = stored;
+  fits-longer = fits-longer;
   beyond-kept = beyond-kept;
   cut-stored = λ g s l m f c. stored g (cutStore s l) m (cut-fits g (length m) s l f c);
   cut-other-than-record = cut-other-than-record;

@@ -41,6 +41,8 @@ pub record MediumLaws : Type 0 where
   -- a spot of the disks lies in the bytes that they need
   pub inside : (g : Geometry) (disks : ℕ) (p : Spot) → p .disk < disks → p .row .0 < g .rows → Inside g (bytesNeeded g disks) p
   pub stored : (g : Geometry) (s : Store) (m : List ℕ) → StoreFits g (length m) s → Stored g s (observe m) (observe (apply g s m))
+  -- a store in the first n bytes lies in a medium that has as many
+  pub fits-longer : (g : Geometry) (n len : ℕ) (s : Store) → n ≤ len → StoreFits g n s → StoreFits g len s
   -- "Bytes beyond the last disk are never touched", with n = bytesNeeded g disks
   pub beyond-kept : (g : Geometry) (n : ℕ) (s : Store) (m : List ℕ) → StoreFits g n s → drop n (apply g s m) ≡ drop n m
   -- the same for a store that was cut; and where the store was not to the record or a spot, what is left of it is not

@@ -7,7 +7,7 @@ ghost use mathlib.Core.Path.{_≡_};
 ghost use Prim.Native.Nat.{_+_, _≤_, _<_, _^_};
 ghost use lib.ListN.{length, take, drop};
 ghost use lib.Seq.{sets};
-ghost use Rattle.medium.specs.Medium.{mostCopied, place, bytesNeeded, observe, blockStore, apply, Inside};
+ghost use Rattle.medium.specs.Medium.{mostSize, place, bytesNeeded, observe, blockStore, apply, Inside};
 use layout::Spot;
 
 // Document 01's Z and s: the bytes in a block, and the rows on each disk.
@@ -34,18 +34,18 @@ fn place_of(g: Geometry, p: Spot) -> usize
     512 + (p.disk * g.rows + p.row.0) * g.size
 }
 
-// The bytes of the local array that a copy passes through.
-const MOST_COPIED: usize = 65_536;
+// The most bytes in a block, and so of the local array that a copy passes through.
+pub const MOST_SIZE: usize = 65_536;
 
 // Copies all of src to dst. Two loops, through a local array: of these the compiler makes one memmove, and the array is
 // gone. Of a single loop it can't, since it does not know that src and dst are apart.
 fn copy_all(src: &[u8], dst: &mut [u8])
-    requires { ⌜ length (now src) ≤ mostCopied ⌝ }
+    requires { ⌜ length (now src) ≤ mostSize ⌝ }
     requires { ⌜ length (now src) ≡ length (now dst) ⌝ }
     ensures { λ _. ⌜ now (dst .exit) ≡ now (src .entry) ⌝ }
 {
     let n = src.len();
-    let mut held = [0u8; MOST_COPIED];
+    let mut held = [0u8; MOST_SIZE];
     let mut i = 0;
     while i < n {
         held[i] = src[i];
@@ -60,7 +60,7 @@ fn copy_all(src: &[u8], dst: &mut [u8])
 
 // Stores a piece at a spot.
 pub fn store_block(medium: &mut [u8], g: Geometry, p: Spot, piece: &[u8])
-    requires { ⌜ (0 < g .size) × (g .size ≤ mostCopied) ⌝ }
+    requires { ⌜ (0 < g .size) × (g .size ≤ mostSize) ⌝ }
     requires { ⌜ Inside g (length (now medium)) p ⌝ }
     requires { ⌜ length (now piece) ≡ g .size ⌝ }
     ensures { λ _. ⌜ now (medium .exit) ≡ apply g (blockStore p (now (piece .entry))) (now (medium .entry)) ⌝ }
@@ -72,7 +72,7 @@ pub fn store_block(medium: &mut [u8], g: Geometry, p: Spot, piece: &[u8])
 
 // Fills a piece from a spot.
 pub fn fetch_block(medium: &[u8], g: Geometry, p: Spot, piece: &mut [u8])
-    requires { ⌜ (0 < g .size) × (g .size ≤ mostCopied) ⌝ }
+    requires { ⌜ (0 < g .size) × (g .size ≤ mostSize) ⌝ }
     requires { ⌜ Inside g (length (now medium)) p ⌝ }
     requires { ⌜ length (now piece) ≡ g .size ⌝ }
     ensures { λ _. ⌜ now (piece .exit) ≡ observe (now (medium .entry)) .bytesAt g p ⌝ }
@@ -84,12 +84,12 @@ pub fn fetch_block(medium: &[u8], g: Geometry, p: Spot, piece: &mut [u8])
 
 // Copies n bytes from one place of the medium to another; two loops for the same reason.
 fn copy_bytes(medium: &mut [u8], from: usize, to: usize, n: usize)
-    requires { ⌜ n ≤ mostCopied ⌝ }
+    requires { ⌜ n ≤ mostSize ⌝ }
     requires { ⌜ from + n ≤ length (now medium) ⌝ }
     requires { ⌜ to + n ≤ length (now medium) ⌝ }
     ensures { λ _. ⌜ now (medium .exit) ≡ sets (now (medium .entry)) to (take n (drop from (now (medium .entry)))) ⌝ }
 {
-    let mut held = [0u8; MOST_COPIED];
+    let mut held = [0u8; MOST_SIZE];
     let mut i = 0;
     while i < n {
         held[i] = medium[from + i];
@@ -104,7 +104,7 @@ fn copy_bytes(medium: &mut [u8], from: usize, to: usize, n: usize)
 
 // Copies the block at one spot to another.
 pub fn copy_block(medium: &mut [u8], g: Geometry, from: Spot, to: Spot)
-    requires { ⌜ (0 < g .size) × (g .size ≤ mostCopied) ⌝ }
+    requires { ⌜ (0 < g .size) × (g .size ≤ mostSize) ⌝ }
     requires { ⌜ Inside g (length (now medium)) from ⌝ }
     requires { ⌜ Inside g (length (now medium)) to ⌝ }
     ensures { λ _. ⌜ now (medium .exit) ≡ apply g (blockStore to (observe (now (medium .entry)) .bytesAt g from)) (now (medium .entry)) ⌝ }

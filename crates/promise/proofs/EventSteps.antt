@@ -14,24 +14,17 @@ use Rattle.medium.specs.Medium.{Observations, observe, Store, noStore, StoreFit
 use Rattle.medium.proofs.Theorems.{medium-laws}
 use Rattle.volume.specs.declared.Volume.{Volume}
 use Rattle.volume.specs.Answers.{number, accepted, reported}
-use Rattle.volume.specs.Calls.{Outcome, refused, doing, reporting, restartTable, restartEffect, restartOutcome, readTable, readEffect, readOutcome, flushedTable, flushedEffect, flushedOutcome}
+use Rattle.volume.specs.Calls.{Outcome, refused, doing, reporting, restartTable, restartEffect, restartOutcome, flushedTable, flushedEffect, flushedOutcome}
 use Rattle.volume.specs.States.{geometry, nonePending, pendingWith, withPending, withGrowth, recordedOnly, zeros}
 use Rattle.volume.proofs.Judged.{judged-cases, accepted-when}
-use Rattle.volume.proofs.StoresFit.{Sized, sized, sized-copy-fits, sized-advance-fits}
-use Rattle.volume.proofs.Theorems.{volume-laws}
+use Rattle.volume.proofs.StoresFit.{FitsDisks, grow-fits, write-fits, read-fits, Sized, sized, copy-fits, checkpoint-fits, advance-fits}
 use Rattle.promise.specs.Calls.{Call, grow, copy, checkpoint, advance, write, read, restart, flushed, settles, CutLeft, sameRecord, recordOld, recordNew, ended}
 use Rattle.promise.specs.Lists.{callOutcome, Event, runs, cut, Drives, System, up, down, drivesOf, memoryOf, mediumOf, cutLeft, later, outcome, drivesAfter, storesAt, after, Allowed, fed, heard}
 use Rattle.promise.specs.Model.{noBlock, leaving, stepOf, unset, withSave, stepped, accepting, CachedModel, nothingPending, withStep, following, withCall, leftModel, afterCut, modelOr, modelAfter}
 use Rattle.promise.proofs.Steps.{Down, up-down, up-pending, Judgement, is-refused, has-effect, restart-found, restart-up, call-judged}
 use Rattle.promise.proofs.PendingStores.{seen, Live, not-yet, record-pending, blocks-pending, Safe, live-settled, after-call, leftAfter, cut-in, cut-between}
 
--- ---- what is stored lies in the medium; read, restart and flushed store nothing
-
-read-fits : (v : Volume) (x : ℕ) (piece : List ℕ) (o : Observations) → StoreFits (geometry v) (o .byteCount) (readOutcome v x piece o .store)
-unfolding readOutcome readEffect doing refused StoreFits
-read-fits v x piece o =
-    judged-cases (λ (out : Outcome). StoreFits (geometry v) (o .byteCount) (out .store)) (readTable v x (length piece) (o .byteCount))
-    (λ n. refused v n piece) _ (λ _. tt) (λ _. tt)
+-- ---- what is stored lies in the bytes of the disks and in the medium; restart and flushed store nothing
 
 restart-stores : (o : Observations) → restartOutcome o .store ≡ noStore
 unfolding restartOutcome restartEffect reporting refused
@@ -43,20 +36,20 @@ unfolding flushedOutcome flushedEffect doing refused
 flushed-stores v =
     judged-cases (λ (out : Outcome). out .store ≡ noStore) (flushedTable v) (λ n. refused v n []) _ (λ _. refl) (λ _. refl)
 
-nothing-fits : (g : Geometry) (n : ℕ) (store : Store) → store ≡ noStore → StoreFits g n store
+nothing-fits : (v : Volume) (o : Observations) (out : Outcome) → out .store ≡ noStore → FitsDisks v o out
 unfolding StoreFits
-nothing-fits g n store e = rw e tt
+nothing-fits v o out e = rw e (tt, tt)
 
-pub call-fits : (c : Call) (v : Volume) (o : Observations) → Sized (geometry v) o → StoreFits (geometry v) (o .byteCount) (callOutcome c v o .store)
+pub call-fits : (c : Call) (v : Volume) (o : Observations) → Sized (geometry v) o → FitsDisks v o (callOutcome c v o)
 unfolding callOutcome
-call-fits (grow count) v o s = volume-laws .grow-fits v count o
-call-fits (copy x) v o s = sized-copy-fits v x o s
-call-fits checkpoint v o s = volume-laws .checkpoint-fits v o
-call-fits advance v o s = sized-advance-fits v o s
-call-fits (write x piece) v o s = volume-laws .write-fits v x piece o
+call-fits (grow count) v o s = grow-fits v count o
+call-fits (copy x) v o s = copy-fits v x o s
+call-fits checkpoint v o s = checkpoint-fits v o
+call-fits advance v o s = advance-fits v o s
+call-fits (write x piece) v o s = write-fits v x piece o
 call-fits (read x piece) v o s = read-fits v x piece o
-call-fits restart v o s = nothing-fits _ _ _ (restart-stores o)
-call-fits flushed v o s = nothing-fits _ _ _ (flushed-stores v)
+call-fits restart v o s = nothing-fits v o (restartOutcome o) (restart-stores o)
+call-fits flushed v o s = nothing-fits v o (flushedOutcome v) (flushed-stores v)
 
 -- a call after which nothing is pending is restart or flushed
 pub settling-stores : (c : Call) (v : Volume) (o : Observations) → settles c ≡ true → callOutcome c v o .store ≡ noStore
@@ -100,7 +93,7 @@ module _ (sure : Bool) (g : Geometry) (v : Volume) (d : Drives) (k : CachedModel
   fits-here : (c : Call) → StoreFits g (length (seen d)) (callOutcome c v (observe (seen d)) .store)
   fits-here c =
       subst (λ (h : Geometry). StoreFits h (length (seen d)) (callOutcome c v (observe (seen d)) .store)) (i .up .same-geometry)
-      (unfold observe in call-fits c v (observe (seen d)) (sized (geometry v) (seen d)))
+      (unfold observe in call-fits c v (observe (seen d)) (sized (geometry v) (seen d)) .1)
 
   pub call-live : (c : Call) → settles c ≡ false → Comes c (seen d) (callOutcome c v (observe (seen d)))
   call-live c s =

@@ -7,7 +7,7 @@ use mathlib.Core.Logic.{_≢_}
 use native.Mathlib.Decide.{ℕ-discrete}
 use native.Mathlib.Omega.{arith}
 use lib.Dec.{eqb}
-use lib.ListN.{length, getD, set, replicate, length-replicate, length-set}
+use lib.ListN.{length, getD, set, replicate, length-replicate}
 use lib.Seq.{getD-set-same, getD-set-other}
 use borrow.Author.Tests.{eqb-true, eq-eqb, ne-eqb}
 use Rattle.base.proofs.Booleans.{and-left, and-right, by-test, clash}
@@ -22,13 +22,13 @@ use Rattle.volume.specs.declared.Volume.{Volume}
 use Rattle.volume.specs.Sound.{sound}
 use Rattle.volume.specs.States.{historyOf, modeOf, tallyOf, newState, withPending, withGrowth, grown, recordedOnly, withCopy, checkpointed}
 use Rattle.volume.proofs.SoundLaws.{some-old}
-use Rattle.volume.proofs.StatesSound.{history-same}
+use Rattle.volume.proofs.StatesSound.{history-same, copied-marks}
 use Rattle.volume.proofs.Theorems.{volume-laws}
 use Rattle.promise.specs.Model.{noBlock, startTally, grownTally, withBlocks, copiedTally, nextWindowTally, finishedTally, recordedTally, restartedTally}
 use Rattle.promise.proofs.Tallies.{Running, Resting, Stage, running, resting}
 use Rattle.marks.specs.Words.{marksOf}
 use Rattle.base.proofs.Bits.{bits-length}
-use Rattle.marks.proofs.MarkWords.{no-marks, marks-of-word}
+use Rattle.marks.proofs.MarkWords.{no-marks}
 
 -- ---- marks, read as blocks
 
@@ -133,10 +133,8 @@ pub tally-copied : (v : Volume) (x : ℕ) → sound v ≡ true → v .growing �
 unfolding tallyOf withCopy withGrowth historyOf copiedTally withBlocks movesNow
 tally-copied v x s on moves =
     let f = volume-laws .sound-facts v s in
-    let more : List Bool = set (marksOf (v .copied)) (markOf (v .rows) (historyOf v) x) true in
-    let l : length more ≡ markCount = length-set (marksOf (v .copied)) (markOf (v .rows) (historyOf v) x) true ∙ bits-length 64 (v .copied) in
     ap (λ (copied : ℕ → Bool). withBlocks (tallyOf v) copied (tallyOf v .recorded))
-    (ap (markedBlocks (v .rows) (historyOf v) (v .window)) (marks-of-word more l)
+    (ap (markedBlocks (v .rows) (historyOf v) (v .window)) (copied-marks v x)
     ∙ fun-ext
     (marked-one (v .rows) (historyOf v) (f .limits) (some-old v s on) (v .window) x moves (marksOf (v .copied)) (bits-length 64 (v .copied))))
 

@@ -17,7 +17,7 @@ use Rattle.volume.specs.Answers.{number, accepted}
 use Rattle.volume.specs.Calls.{Outcome, refused, doing, tooShort, formatTable, formatEffect, formatOutcome, readTable, readEffect, readOutcome}
 use Rattle.volume.specs.States.{geometry, tallyOf, pendingWith, withPending, newState, zeros}
 use Rattle.volume.proofs.Judged.{judged-cases}
-use Rattle.volume.proofs.Theorems.{volume-laws}
+use Rattle.volume.proofs.StoresFit.{format-fits}
 use Rattle.promise.specs.Calls.{Call, advance, read, restart, flushed, settles, isAdvance}
 use Rattle.promise.specs.Lists.{callOutcome, Event, runs, cut, Drives, System, up, down, mediumOf, memoryOf, outcome, isAccepted, after, Allowed, fed, heard, afterAll, NoEarlyCut, Lawful, fedAll, lastReported, IsUp, AllFurther, finishedTold}
 use Rattle.promise.specs.Model.{leaving, stepOf, Model, startModel, CachedModel, nothingPending, modelAfter, modelled}
@@ -127,7 +127,7 @@ module _ (a : Start) where
   pub start : accepted (formatted a .reply .answer) ≡ true
       → Live false startGeometry (formatted a .reply .state) (record { landed = a .medium; pending = placed (geometry (formatted a .reply .state)) (formatted a .store) ∷ [] }) (nothingPending (startModel (a .rows) (a .disks))) none
   unfolding formatted observe
-  start = format-starts (volume-laws .format-fits (a .size) (a .rows) (a .disks) (observe (a .medium)))
+  start = format-starts (format-fits (a .size) (a .rows) (a .disks) (observe (a .medium)) .1)
 
 -- ---- a read of an open block into a piece of its size
 

@@ -2,7 +2,7 @@
 use Prim.Native.Nat.{ℕ, _≤_, _<_}
 use mathlib.Core.Path.{_≡_, refl}
 use mathlib.Core.Bool.{Bool, true, false, not, _&&_}
-use mathlib.Core.List.{List, [], _∷_}
+use mathlib.Core.List.{List, [], _∷_, _++_}
 use mathlib.Core.Logic.{_≢_}
 use mathlib.Core.Option.{Option, none, some}
 use native.Mathlib.Omega.{arith}
@@ -15,16 +15,14 @@ use Rattle.layout.specs.declared.Spot.{Spot}
 use Rattle.layout.specs.History.{Within}
 use Rattle.layout.specs.Limits.{mostDisks, mostGrowths}
 use Rattle.layout.specs.Tally.{openBlocks, liveBlockOf, waiting, movesNow, nextBlock}
-use Rattle.marks.specs.Marks.{within}
 use Rattle.medium.specs.declared.Geometry.{Geometry}
 use Rattle.medium.specs.Medium.{recordBytes, bytesNeeded, Observations}
 use Rattle.volume.specs.declared.Volume.{Volume}
-use Rattle.volume.specs.Calls.{tooShort, formatTable, restartTable, sectorTable, growTable, writeTable, readTable, copyTable, checkpointTable, advanceTable, growthTable, addressTable, holderTable, isNone}
+use Rattle.volume.specs.Calls.{tooShort, formatTable, restartTable, sectorTable, growTable, writeTable, readTable, copyTable, nothingToRecord, checkpointTable, advanceTable, growthTable, addressTable, holderTable, isNone}
 use Rattle.volume.specs.Records.{stateRead, isSoundRecord}
 use Rattle.volume.specs.Sound.{sizeHolds, rowsHold, disksHold, sound}
 use Rattle.volume.specs.States.{geometry, historyOf, disks, tallyOf}
 use Rattle.volume.proofs.SoundLaws.{sound-limits, growths-of-limits}
-use Rattle.marks.specs.Words.{marksOf}
 
 long-enough : (g : Geometry) (n len : ℕ) → tooShort g n len ≡ false → bytesNeeded g n ≤ len
 unfolding tooShort
@@ -66,7 +64,6 @@ restart-accepted o e =
     }
 
 pub sector-accepted : (o : Observations) → refusal (sectorTable o) ≡ 0 → (recordBytes ≤ o .byteCount) × (isSoundRecord (o .sector) ≡ true)
-unfolding sectorTable restartTable
 sector-accepted o e =
     let a = passed 2 (ltb (o .byteCount) recordBytes) _ (omega arith) e in
     (ltb-false (o .byteCount) recordBytes (a .0), held 13 (isSoundRecord (o .sector)) [] (omega arith) (a .1) .0)
@@ -161,11 +158,8 @@ pub record CopyFacts (v : Volume) (x len : ℕ) : Type 0 where
   pub moves : movesNow (tallyOf v) x ≡ true
   pub not-copied : tallyOf v .copied x ≡ false
 
-abbrev afterGrowing : (v : Volume) (len : ℕ) (table : List (ℕ × Bool)) → List (ℕ × Bool)
-afterGrowing v len table = (1, not (sound v)) ∷ (2, tooShort (geometry v) (disks v) len) ∷ (5, eqb (v .growing) 0) ∷ table
-
--- the tests of an advance, whatever comes after them
-advance-tests : (v : Volume) (len : ℕ) (table : List (ℕ × Bool)) → refusal (afterGrowing v len table) ≡ 0 → AdvanceFacts v len × (refusal table ≡ 0)
+-- the tests that copy, checkpoint and advance share, whatever comes after them
+advance-tests : (v : Volume) (len : ℕ) (table : List (ℕ × Bool)) → refusal (growthTable v len ++ table) ≡ 0 → AdvanceFacts v len × (refusal table ≡ 0)
 advance-tests v len table e =
     let a = held 1 (sound v) _ (omega arith) e in
     let b = passed 2 (tooShort (geometry v) (disks v) len) _ (omega arith) (a .1) in
@@ -174,9 +168,7 @@ advance-tests v len table e =
       c .1,
     )
 
--- the tests that copy, checkpoint and advance share
 pub growth-accepted : (v : Volume) (len : ℕ) → refusal (growthTable v len) ≡ 0 → AdvanceFacts v len
-unfolding growthTable advanceTable
 growth-accepted v len e = advance-tests v len [] e .0
 
 -- a record store is pending, or is due with block stores pending: in neither case is it accepted
@@ -189,11 +181,11 @@ advance-accepted v len e =
     (a .0, b .0, passed 18 (isNone (nextBlock (tallyOf v)) && v .pending .blocks) [] (omega arith) (b .1) .0)
 
 pub checkpoint-accepted : (v : Volume) (len : ℕ) → refusal (checkpointTable v len) ≡ 0
-    → AdvanceFacts v len × (within (marksOf (v .copied)) (marksOf (v .recorded)) ≡ false) × (v .pending .records ≡ false) × (v .pending .blocks ≡ false)
+    → AdvanceFacts v len × (nothingToRecord v ≡ false) × (v .pending .records ≡ false) × (v .pending .blocks ≡ false)
 unfolding checkpointTable
 checkpoint-accepted v len e =
     let a = advance-tests v len _ e in
-    let b = passed 12 (within (marksOf (v .copied)) (marksOf (v .recorded))) _ (omega arith) (a .1) in
+    let b = passed 12 (nothingToRecord v) _ (omega arith) (a .1) in
     let c = passed 19 (v .pending .records) _ (omega arith) (b .1) in
     (a .0, b .0, c .0, passed 18 (v .pending .blocks) [] (omega arith) (c .1) .0)
 

@@ -9,7 +9,7 @@ use Rattle.base.specs.Refusals.{refusal}
 use Rattle.layout.specs.declared.Spot.{Spot}
 use Rattle.layout.specs.Tally.{openBlocks, liveSpotOf, waiting}
 use Rattle.medium.specs.declared.Geometry.{Geometry}
-use Rattle.medium.specs.Medium.{mostCopied, Inside}
+use Rattle.medium.specs.Medium.{mostSize, Inside}
 use Rattle.volume.specs.declared.Volume.{Volume}
 use Rattle.volume.specs.Calls.{judged, tooShort, readTable, blockRows, writeTable}
 use Rattle.volume.specs.Sound.{sound}
@@ -21,7 +21,7 @@ use Rattle.volume.proofs.SoundLaws.{sound-facts}
 
 -- what storing and fetching a piece at the live spot require
 pub piece-fits : (v : Volume) (x n len : ℕ) → ReadFacts v x n len → (g : Geometry) → g ≡ geometry v → (p : Spot) → p ≡ liveSpotOf (tallyOf v) x
-    → ((0 < g .size) × (g .size ≤ mostCopied)) × (Inside g len p × (n ≡ g .size))
+    → ((0 < g .size) × (g .size ≤ mostSize)) × (Inside g len p × (n ≡ g .size))
 unfolding geometry
 piece-fits v x n len f g same p e =
     let size = sound-facts v (f .is-sound) in

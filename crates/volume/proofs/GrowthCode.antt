@@ -2,7 +2,7 @@
 use Prim.Native.Nat.{ℕ, _+_, _-_, _≤_, _<_}
 use mathlib.Core.Path.{_≡_, refl, sym, _∙_}
 use mathlib.Core.Bool.{Bool, true, false, cond, not, _&&_}
-use mathlib.Core.List.{List}
+use mathlib.Core.List.{List, _∷_, _++_}
 use mathlib.Core.Logic.{_≢_}
 use mathlib.Core.Option.{Option, none, some}
 use native.Mathlib.Numerals.{add-one}
@@ -11,40 +11,38 @@ use lib.Dec.{eqb, leb}
 use borrow.Author.Tests.{le-leb, lt-leb, le-ltb, eq-eqb, ne-eqb}
 use Rattle.base.specs.Refusals.{refusal}
 use Rattle.base.proofs.Booleans.{and-left}
+use Rattle.base.proofs.Refusals.{refused-first, passed-first}
 use Rattle.layout.specs.declared.Block.{Block}
 use Rattle.layout.specs.declared.GrowthDisks.{GrowthDisks}
 use Rattle.layout.specs.declared.Part.{Part}
 use Rattle.layout.specs.declared.Spot.{Spot}
-use Rattle.layout.specs.History.{history, oldCount, addedCount, newestGrowth, spotOf}
+use Rattle.layout.specs.History.{oldCount, addedCount, newestGrowth, spotOf}
 use Rattle.layout.specs.Limits.{mostRows}
-use Rattle.layout.specs.Tally.{openBlocks, liveSpotOf, callsLeftOf, movesNow, targetOf, nextBlock, windowFull, lastWindow}
+use Rattle.layout.specs.Tally.{openBlocks, callsLeftOf, movesNow, sourceOf, targetOf, nextBlock, windowFull, lastWindow}
 use Rattle.layout.specs.Windows.{windows, oldSpot, moving, windowOf, movingIn, markOf, markedBlocks, partMoved, allCopied}
 use Rattle.layout.proofs.Theorems.{some-added, marks-fit}
 use Rattle.layout.proofs.WindowsCode.{windows-most}
 use Rattle.marks.specs.declared.NextCopy.the-variants.{CopyOf, AllCopied}
-use Rattle.marks.specs.Marks.{markCount, within, asNextCopy}
+use Rattle.marks.specs.Marks.{markCount, asNextCopy}
 use Rattle.marks.specs.Words.{marksOf}
-use Rattle.marks.proofs.BlocksCode.{history-before}
 use Rattle.marks.proofs.MarkSets.{marks-law}
 use Rattle.medium.specs.declared.Geometry.{Geometry}
-use Rattle.medium.specs.Medium.{mostCopied, bytesNeeded, Observations, observe, recordStore, blockStore, apply, Inside}
+use Rattle.medium.specs.Medium.{mostSize, bytesNeeded, Observations, observe, recordStore, blockStore, apply, Inside}
 use Rattle.volume.specs.declared.Advanced.{Advanced}
 use Rattle.volume.specs.declared.Advanced.the-variants.{Copied}
 use Rattle.volume.specs.declared.Answer.the-variants.{Told}
 use Rattle.volume.specs.declared.Reply.{Reply}
 use Rattle.volume.specs.declared.Volume.{Volume}
-use Rattle.volume.specs.Calls.{Outcome, telling, judged, isNone, tooShort, blockRows, recordRows, copyTable, copyStore, checkpointTable, checkpointStore, advanceTable, growthTable, checkpointTold, advancing, advanceEffect}
+use Rattle.volume.specs.Calls.{Outcome, telling, isNone, tooShort, blockRows, recordRows, copyTable, copyStore, nothingToRecord, checkpointTable, checkpointStore, advanceTable, growthTable, checkpointTold, advancing, advanceEffect}
 use Rattle.volume.specs.Records.{recordOf}
 use Rattle.volume.specs.Sound.{sound}
 use Rattle.volume.specs.States.{geometry, historyOf, disks, tallyOf, withPending, recordPending, blockPending, pendingWith, withGrowth, withMark, withCopy, checkpointed}
 use Rattle.volume.proofs.Accepted.{AdvanceFacts, CopyFacts}
 use Rattle.volume.proofs.CallsCode.{record-stored, tell-made}
-use Rattle.volume.proofs.CopyLaws.{moves-open, source-spot}
-use Rattle.volume.proofs.Judged.{refused-when, accepted-when}
-use Rattle.volume.proofs.LiveCode.{countsNow, history-limits, has-growth}
-use Rattle.volume.proofs.LookUpLaws.{live-inside}
+use Rattle.volume.proofs.CopyLaws.{moves-open}
+use Rattle.volume.proofs.LiveCode.{countsNow, history-limits}
 use Rattle.volume.proofs.SoundLaws.{sound-facts, some-old}
-use Rattle.volume.proofs.StoresFit.{copy-inside}
+use Rattle.volume.proofs.StoresFit.{source-inside, copy-inside}
 
 -- the copied blocks, as the code tests them
 abbrev markedNow : (v : Volume) (x : ℕ) → Bool
@@ -55,49 +53,43 @@ moves-told : (v : Volume) (x : ℕ) → movingIn (v .rows) (countsNow v) (v .win
 unfolding movesNow tallyOf historyOf
 moves-told v x = refl
 
--- ---- refusals: the tables of a copy, a checkpoint and an advance are the tests that they share, and more tests
+-- ---- refusals: the tables of a copy, a checkpoint and an advance are the tests that they share with more behind them
 
 module _ (v : Volume) (len : ℕ) where
-  more-tests : (rest : ℕ)
-      → cond (not (sound v)) 1 (cond (tooShort (geometry v) (disks v) len) 2 (cond (eqb (v .growing) 0) 5 rest))
-      ≡ judged (growthTable v len) (λ k. k) rest
-  unfolding growthTable advanceTable refusal
-  more-tests rest = by (not (sound v)) (tooShort (geometry v) (disks v) len) (eqb (v .growing) 0)
-    where
-      by : (a b c : Bool)
-          → _≡_ {A = ℕ} (cond a 1 (cond b 2 (cond c 5 rest)))
-          (cond (eqb (cond a 1 (cond b 2 (cond c 5 0))) 0) rest (cond a 1 (cond b 2 (cond c 5 0))))
-      by true b c = refl
-      by false true c = refl
-      by false false true = refl
-      by false false false = refl
-
   -- refused by those
   module _ (k : ℕ) (e : k ≡ refusal (growthTable v len)) (h : k ≢ 0) where
+    growth-refused : (table : List (ℕ × Bool)) → k ≡ refusal (growthTable v len ++ table)
+    growth-refused table = e ∙ sym (refused-first (growthTable v len) table (λ z. h (e ∙ z)))
+
     pub advance-refused : k ≡ refusal (advanceTable v len)
-    unfolding advanceTable refusal
-    advance-refused = sym (more-tests _ ∙ refused-when (growthTable v len) (λ n. n) _ k e h)
+    unfolding advanceTable
+    advance-refused = growth-refused _
 
     pub checkpoint-refused : k ≡ refusal (checkpointTable v len)
-    unfolding checkpointTable refusal
-    checkpoint-refused = sym (more-tests _ ∙ refused-when (growthTable v len) (λ n. n) _ k e h)
+    unfolding checkpointTable
+    checkpoint-refused = growth-refused _
 
     pub copy-refused : (x : ℕ) → k ≡ refusal (copyTable v x len)
-    unfolding copyTable refusal
-    copy-refused x = sym (more-tests _ ∙ refused-when (growthTable v len) (λ n. n) _ k e h)
+    unfolding copyTable
+    copy-refused x = growth-refused _
 
   -- what is left to test
   module _ (k : ℕ) (e : k ≡ refusal (growthTable v len)) (h : k ≡ 0) where
-    pub checkpoint-left : (kept : Bool) → kept ≡ within (marksOf (v .copied)) (marksOf (v .recorded))
+    growth-passed : (table : List (ℕ × Bool)) → refusal (growthTable v len ++ table) ≡ refusal table
+    growth-passed table = passed-first (growthTable v len) table refl (sym e ∙ h)
+
+    pub checkpoint-left : (kept : Bool) → kept ≡ nothingToRecord v
         → cond kept 12 (refusal (recordRows v)) ≡ refusal (checkpointTable v len)
     unfolding checkpointTable refusal
-    checkpoint-left kept f = rw f (sym (more-tests _ ∙ accepted-when (growthTable v len) (λ n. n) _ k e h))
+    checkpoint-left kept f = rw f (sym (growth-passed ((12, nothingToRecord v) ∷ recordRows v)))
 
     copy-tests : (x : ℕ)
         → refusal (copyTable v x len)
         ≡ cond (leb (openBlocks (tallyOf v)) x) 3 (cond (not (movesNow (tallyOf v) x)) 10 (cond (tallyOf v .copied x) 11 (refusal (blockRows v))))
     unfolding copyTable refusal
-    copy-tests x = more-tests _ ∙ accepted-when (growthTable v len) (λ n. n) _ k e h
+    copy-tests x =
+        let t = tallyOf v in
+        growth-passed ((3, leb (openBlocks t) x) ∷ (10, not (movesNow t x)) ∷ (11, t .copied x) ∷ blockRows v)
 
     pub copy-not-open : (x : ℕ) → openBlocks (tallyOf v) ≤ x → 3 ≡ refusal (copyTable v x len)
     copy-not-open x a = sym (copy-tests x ∙ simp (le-leb (openBlocks (tallyOf v)) x a))
@@ -144,34 +136,27 @@ unfolding movesNow movingIn tallyOf historyOf
 now-moving v x m = and-left (moving (v .rows) (countsNow v) x) (eqb (windowOf (v .rows) (countsNow v) x) (v .window)) m
 
 module _ (v : Volume) (x len : ℕ) (f : CopyFacts v x len) where
-  -- it lives at its spot before the newest growth
-  pub lives-before : spotOf (v .rows) (history (v .growths - 1) (v .counts)) x ≡ liveSpotOf (tallyOf v) x
-  unfolding oldSpot historyOf
-  lives-before =
-      let a = f .advances in
-      rw (history-before (v .growths) (v .counts) (has-growth v (a .is-growing) (a .is-sound))) (sym (source-spot v x len f))
-
-  -- what copying it from its live spot to its new one requires
+  -- what copying it from its old spot to its new one requires
   pub copy-asks : (k : Geometry) → k ≡ geometry v
-      → (from to : Spot) → from ≡ liveSpotOf (tallyOf v) x → to ≡ spotOf (v .rows) (countsNow v) x
-      → ((0 < k .size) × (k .size ≤ mostCopied)) × (Inside k len from × Inside k len to)
-  unfolding geometry targetOf tallyOf historyOf
+      → (from to : Spot) → from ≡ oldSpot (v .rows) (historyOf v) x → to ≡ spotOf (v .rows) (countsNow v) x
+      → ((0 < k .size) × (k .size ≤ mostSize)) × (Inside k len from × Inside k len to)
+  unfolding geometry sourceOf targetOf tallyOf historyOf
   copy-asks k same from to a b =
       let g = f .advances in
       let size = sound-facts v (g .is-sound) in
       rw (same, a, b) (
         (omega (arith, size .size-least), size .size-most),
         (
-          live-inside v x len (g .is-sound) (f .block-open) (g .room),
+          source-inside v x len f,
           copy-inside v x len (g .is-sound) (g .is-growing) (f .moves) (g .room),
         ),
       )
 
 pub copy-stored : (v : Volume) (x : ℕ) (k : Geometry) → k ≡ geometry v
-    → (from to : Spot) → from ≡ liveSpotOf (tallyOf v) x → to ≡ spotOf (v .rows) (countsNow v) x
+    → (from to : Spot) → from ≡ oldSpot (v .rows) (historyOf v) x → to ≡ spotOf (v .rows) (countsNow v) x
     → (m after : List ℕ) → after ≡ apply k (blockStore to (observe m .bytesAt k from)) m
     → after ≡ apply (geometry v) (copyStore v x (observe m)) m
-unfolding copyStore targetOf tallyOf historyOf
+unfolding copyStore sourceOf targetOf tallyOf historyOf
 copy-stored v x k same from to a b m after made = rw (same, a, b) at made
 
 -- ---- the state with a block copied, by its mark

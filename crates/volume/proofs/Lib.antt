@@ -7,6 +7,7 @@ pub mod Judged
 pub mod RefusalLaws
 pub mod LookUpLaws
 pub mod CopyLaws
+pub mod PartLaws
 pub mod ByteBounds
 pub mod StoresFit
 pub mod Theorems

@@ -1,5 +1,5 @@
--- Looking up the blocks of a sound state: a live spot lies in the medium, address and holder are inverse to each other, and after a
--- finished growth 15 never occurs.
+-- Looking up the blocks of a sound state: a live spot lies in the medium, the reason told is true, address and holder are inverse to each
+-- other, and after a finished growth 15 never occurs.
 use Prim.Native.Nat.{ℕ, _≤_, _<_}
 use mathlib.Core.Path.{_≡_, refl, sym, ap, _∙_}
 use mathlib.Core.Bool.{Bool, true, false, cond, not, false≢true}
@@ -13,14 +13,14 @@ use Rattle.base.specs.Refusals.{refusal}
 use Rattle.base.proofs.Booleans.{clash}
 use Rattle.layout.specs.declared.Spot.{Spot}
 use Rattle.layout.specs.History.{Within}
-use Rattle.layout.specs.Laws.{LookUps}
-use Rattle.layout.specs.Tally.{notGrowing, growing, isRunning, openBlocks, liveSpotOf, liveBlockOf, liveReasonOf}
+use Rattle.layout.specs.Laws.{ReasonTrue, LookUps}
+use Rattle.layout.specs.Tally.{notGrowing, growing, isRunning, openBlocks, liveSpotOf, liveBlockOf, growthsOf, liveReasonOf}
 use Rattle.layout.proofs.Theorems as layout
 use Rattle.medium.specs.Medium.{bytesNeeded, Inside}
 use Rattle.medium.proofs.Theorems.{medium-laws}
 use Rattle.volume.specs.declared.Volume.{Volume}
 use Rattle.volume.specs.declared.AddressAnswer.the-variants as address
-use Rattle.volume.specs.Answers.{addressNumber, spotTold, holderNumber, blockTold}
+use Rattle.volume.specs.Answers.{addressNumber, spotTold, reasonTold, holderNumber, blockTold}
 use Rattle.volume.specs.Calls.{addressTable, addressReply, isNone, blockFound, holderTable, holderReply}
 use Rattle.volume.specs.Sound.{sound}
 use Rattle.volume.specs.States.{geometry, historyOf, disks, modeOf, tallyOf}
@@ -75,10 +75,22 @@ module _ (v : Volume) (x k : ℕ) where
   unfolding addressReply
   address-found e h = accepted-when (addressTable v x) (λ n. record { state = v; answer = address.Refused n }) _ k e h
 
--- the spot and the block that are told
+-- the spot, the reason and the block that are told
 spot-told : (v : Volume) (x : ℕ) → refusal (addressTable v x) ≡ 0 → spotTold (addressReply v x .answer) ≡ liveSpotOf (tallyOf v) x
 unfolding spotTold
 spot-told v x e = rw (address-found v x (refusal (addressTable v x)) refl e)
+
+pub reason-told : (v : Volume) (x : ℕ) → refusal (addressTable v x) ≡ 0 → reasonTold (addressReply v x .answer) ≡ liveReasonOf (tallyOf v) x
+unfolding reasonTold
+reason-told v x e = rw (address-found v x (refusal (addressTable v x)) refl e)
+
+pub address-reason : (v : Volume) (x : ℕ) → addressNumber (addressReply v x .answer) ≡ 0
+    → ReasonTrue (v .rows) (growthsOf (tallyOf v) x) x (reasonTold (addressReply v x .answer))
+unfolding tallyOf
+address-reason v x e =
+    let r : refusal (addressTable v x) ≡ 0 = sym (address-refuses v x .number-told) ∙ e in
+    let f = address-accepted v x r in
+    rw (reason-told v x r) (look-ups-of v (f .is-sound) .live-reason x (f .block-open))
 
 block-told : (v : Volume) (p : Spot) → refusal (holderTable v p) ≡ 0 → blockTold (holderReply v p .answer) ≡ blockFound (liveBlockOf (tallyOf v) p)
 unfolding holderReply blockTold

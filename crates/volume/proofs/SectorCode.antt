@@ -1,15 +1,15 @@
 -- What code that reads a record sector needs: `from_sector`, and what goes by its reply.
 use Prim.Native.Nat.{ℕ, _≤_, _<_}
 use mathlib.Core.Path.{_≡_, refl, sym, ap, _∙_}
-use mathlib.Core.Bool.{Bool, true, false, cond, not}
-use mathlib.Core.List.{List, [], _∷_, _++_}
+use mathlib.Core.Bool.{Bool, true, false, cond}
+use mathlib.Core.List.{List, [], _∷_}
 use mathlib.Core.Logic.{_≢_, _⊎_, ⊎-elim}
 use native.Mathlib.Omega.{arith}
 use denote.Enum.Declared.{tagOf}
-use lib.Dec.{ltb}
 use lib.ListN.{length, take}
 use borrow.Author.Tests.{le-ltb, lt-ltb, eq-eqb, ne-eqb}
 use Rattle.base.specs.Refusals.{refusal}
+use Rattle.base.proofs.Refusals.{refused-first, passed-first}
 use Rattle.medium.specs.Medium.{recordBytes, Observations, observe, noStore}
 use Rattle.record.specs.Sector.{readRecord}
 use Rattle.volume.specs.declared.Volume.{Volume}
@@ -19,7 +19,6 @@ use Rattle.volume.specs.Calls.{Outcome, refused, reporting, restartEffec
 use Rattle.volume.specs.Records.{stateRead, isSoundRecord}
 use Rattle.volume.specs.Sound.{sound}
 use Rattle.volume.specs.States.{geometry, disks, zeros}
-use Rattle.volume.proofs.Accepted.{sector-accepted}
 use Rattle.volume.proofs.Answer.{the-type}
 use Rattle.volume.proofs.Judged.{judged-cases, accepted-when}
 
@@ -34,12 +33,12 @@ read-back bytes t e f = rw (eq-eqb (readRecord bytes .refusal) 0 e, f)
 
 -- the table, test by test
 pub below-record : (m : List ℕ) → length m < recordBytes → 2 ≡ refusal (sectorTable (observe m))
-unfolding refusal sectorTable restartTable observe
+unfolding refusal observe
 below-record m h = rw (lt-ltb (length m) recordBytes h)
 
 pub record-or-not : (m : List ℕ) (t : Bool) → recordBytes ≤ length m → isSoundRecord (take recordBytes m) ≡ t
     → cond t 0 13 ≡ refusal (sectorTable (observe m))
-unfolding refusal sectorTable restartTable observe
+unfolding refusal observe
 record-or-not m true h e = rw (le-ltb (length m) recordBytes h, e)
 record-or-not m false h e = rw (le-ltb (length m) recordBytes h, e)
 
@@ -70,32 +69,16 @@ reply-taken o r e other =
     (λ _ t. ⊎-elim (λ t. absurd (omega arith)) (⊎-elim (λ t. absurd (omega arith)) (λ t. absurd (omega arith))) t) (rw e at other) in
     (taken, e ∙ ap (λ (out : Outcome). out .reply) (accepted-when (sectorTable o) (λ k. refused zeros k []) _ 0 (sym taken) refl))
 
--- ---- one refusal more, behind those of the sector
+-- ---- restart's last test, "2"
 
-decided : (a b c : Bool) (k : ℕ) → _≢_ {A = ℕ} (cond a 2 (cond b 13 0)) 0
-    → _≡_ {A = ℕ} (cond a 2 (cond b 13 (cond c k 0))) (cond a 2 (cond b 13 0))
-decided true b c k h = refl
-decided false true c k h = refl
-decided false false c k h = absurd (h refl)
-
-module _ (o : Observations) (k : ℕ) (test : Bool) where
-  pub refused-before : refusal (sectorTable o) ≢ 0 → refusal (sectorTable o ++ ((k, test) ∷ [])) ≡ refusal (sectorTable o)
-  unfolding refusal sectorTable restartTable
-  refused-before = decided (ltb (o .byteCount) recordBytes) (not (isSoundRecord (o .sector))) test k
-
-  pub tested-last : refusal (sectorTable o) ≡ 0 → refusal (sectorTable o ++ ((k, test) ∷ [])) ≡ cond test k 0
-  unfolding refusal sectorTable restartTable
-  tested-last e = let a = sector-accepted o e in rw (le-ltb (o .byteCount) recordBytes (a .0), a .1)
-
--- restart's: "2"
 module _ (o : Observations) where
   abbrev shortFor : Volume → Bool
   shortFor v = tooShort (geometry v) (disks v) (o .byteCount)
 
   pub restart-refused-before : refusal (sectorTable o) ≢ 0 → refusal (restartTable o) ≡ refusal (sectorTable o)
-  unfolding sectorTable restartTable
-  restart-refused-before = refused-before o 2 (shortFor (stateRead (o .sector)))
+  unfolding restartTable
+  restart-refused-before = refused-first (sectorTable o) _
 
   pub restart-tested-last : refusal (sectorTable o) ≡ 0 → refusal (restartTable o) ≡ cond (shortFor (stateRead (o .sector))) 2 0
-  unfolding sectorTable restartTable
-  restart-tested-last = tested-last o 2 (shortFor (stateRead (o .sector)))
+  unfolding restartTable refusal
+  restart-tested-last = passed-first (sectorTable o) ((2, shortFor (stateRead (o .sector))) ∷ []) refl

@@ -17,32 +17,33 @@ use Rattle.layout.proofs.HistoryCode.{history-length, growths-most, newest-old}
 use Rattle.marks.specs.Marks.{markCount, noMarks, within, zerosAfter, atRest, inGrowth}
 use Rattle.marks.proofs.MarkSets.{within-self, all-marked, one-unmarked}
 use Rattle.marks.proofs.MarkWords.{no-marks, none-word}
+use Rattle.medium.specs.Medium.{mostSize}
 use Rattle.volume.specs.declared.Volume.{Volume}
 use Rattle.volume.specs.Laws.{RestFacts, GrowthFacts, SoundFacts}
-use Rattle.volume.specs.Sound.{sizeStep, mostSize, sizeHolds, rowsHold, limitsHold, restHolds, movingOf, growthHolds, stageHolds, typesHold, sound}
+use Rattle.volume.specs.Sound.{sizeStep, leastSize, sizeHolds, rowsHold, limitsHold, restHolds, movingOf, growthHolds, stageHolds, typesHold, sound}
 use Rattle.volume.specs.States.{historyOf, tallyOf}
 use Rattle.marks.specs.Words.{marksOf}
 
 -- ---- the limits
 
 pub record SizeFacts (z : ℕ) : Type 0 where
-  pub least : sizeStep ≤ z
+  pub least : leastSize ≤ z
   pub most : z ≤ mostSize
   pub steps : z % sizeStep ≡ 0
 
 pub size-facts : (z : ℕ) → sizeHolds z ≡ true → SizeFacts z
 unfolding sizeHolds
 size-facts z e =
-    let f = and-right (leb sizeStep z) (leb z mostSize && eqb (z % sizeStep) 0) e in
+    let f = and-right (leb leastSize z) (leb z mostSize && eqb (z % sizeStep) 0) e in
     record {
-      least = leb-true sizeStep z (and-left (leb sizeStep z) (leb z mostSize && eqb (z % sizeStep) 0) e);
+      least = leb-true leastSize z (and-left (leb leastSize z) (leb z mostSize && eqb (z % sizeStep) 0) e);
       most = leb-true z mostSize (and-left (leb z mostSize) (eqb (z % sizeStep) 0) f);
       steps = eqb-true (z % sizeStep) 0 (and-right (leb z mostSize) (eqb (z % sizeStep) 0) f);
     }
 
 pub facts-size : (z : ℕ) → SizeFacts z → sizeHolds z ≡ true
 unfolding sizeHolds
-facts-size z f = and-both (le-leb sizeStep z (f .least)) (and-both (le-leb z mostSize (f .most)) (eq-eqb (z % sizeStep) 0 (f .steps)))
+facts-size z f = and-both (le-leb leastSize z (f .least)) (and-both (le-leb z mostSize (f .most)) (eq-eqb (z % sizeStep) 0 (f .steps)))
 
 -- a number from 1 to the most that it may be
 pub from-one : (n most : ℕ) → (leb 1 n && leb n most) ≡ true → (0 < n) × (n ≤ most)

@@ -180,6 +180,18 @@ staged-sound v stage w recorded copied f a b rest growth =
       while-growing = growth;
     })
 
+-- the copied marks with that of block x set
+module _ (v : Volume) (x : ℕ) where
+  abbrev moreMarks : List Bool
+  moreMarks = set (marksOf (v .copied)) (markOf (v .rows) (historyOf v) x) true
+
+  more-length : length moreMarks ≡ markCount
+  more-length = length-set (marksOf (v .copied)) (markOf (v .rows) (historyOf v) x) true ∙ bits-length 64 (v .copied)
+
+  pub copied-marks : marksOf (withCopy v x .copied) ≡ set (marksOf (v .copied)) (markOf (v .rows) (historyOf v) x) true
+  unfolding withCopy withGrowth
+  copied-marks = marks-of-word moreMarks more-length
+
 module _ (v : Volume) (e : sound v ≡ true) (runs : v .growing ≢ 0) where
   facts : SoundFacts v
   facts = sound-facts v e
@@ -209,14 +221,12 @@ module _ (v : Volume) (e : sound v ≡ true) (runs : v .growing ≢ 0) where
       })
 
   with-copy : (x : ℕ) → movesNow (tallyOf v) x ≡ true → sound (withCopy v x) ≡ true
-  unfolding withCopy tallyOf movesNow movingOf
+  unfolding withCopy withGrowth tallyOf movesNow movingOf
   with-copy x m =
       let j = markOf (v .rows) (historyOf v) x in
       let mark = its-mark (v .rows) (historyOf v) (facts .limits) old (v .window) x m in
-      let more : List Bool = set (marksOf (v .copied)) j true in
-      let l : length more ≡ markCount = length-set (marksOf (v .copied)) j true ∙ bits-length 64 (v .copied) in
-      let back = marks-of-word more l in
-      with-marks (v .recorded) (wordOf more) (facts .recorded-fits) (word-of-fits more l)
+      let back = copied-marks v x in
+      with-marks (v .recorded) (wordOf (moreMarks v x)) (facts .recorded-fits) (word-of-fits (moreMarks v x) (more-length v x))
       (rw back (within-set (marksOf (v .recorded)) (marksOf (v .copied)) j (omega (arith, mark .0, bits-length 64 (v .copied))) (growth .recorded-copied)))
       (rw back (set-within (marksOf (v .copied)) (movingOf v) j (growth .copied-moving) (mark .1))) (growth .one-unrecorded)
 

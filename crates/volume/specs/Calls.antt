@@ -2,17 +2,15 @@
 -- effect where none holds: what it hands back, stores and shows. Calls see a medium through its observations.
 use Prim.Native.Nat.{ℕ}
 use mathlib.Core.Bool.{Bool, true, false, cond, not, _&&_}
-use mathlib.Core.List.{List, [], _∷_}
+use mathlib.Core.List.{List, [], _∷_, _++_}
 use mathlib.Core.Option.{Option, none, some}
 use lib.Dec.{eqb, leb, ltb}
-use lib.ListN.{length, take}
+use lib.ListN.{length}
 use Rattle.base.specs.Refusals.{refusal}
 use Rattle.layout.specs.declared.Spot.{Spot}
 use Rattle.layout.specs.Limits.{mostDisks, mostGrowths}
-use Rattle.layout.specs.Tally.{openBlocks, liveSpotOf, liveBlockOf, liveReasonOf, waiting, callsLeftOf, movesNow, targetOf, nextBlock}
+use Rattle.layout.specs.Tally.{openBlocks, liveSpotOf, liveBlockOf, liveReasonOf, waiting, callsLeftOf, movesNow, sourceOf, targetOf, nextBlock}
 use Rattle.layout.specs.Windows.{partMoved}
-use Rattle.marks.specs.Marks.{within}
-use Rattle.marks.specs.Words.{marksOf}
 use Rattle.medium.specs.declared.Geometry.{Geometry}
 use Rattle.medium.specs.Medium.{recordBytes, bytesNeeded, Observations, Store, noStore, recordStore, blockStore}
 use Rattle.volume.specs.declared.Volume.{Volume}
@@ -87,12 +85,12 @@ formatOutcome z s n o = judged (formatTable z s n (o .byteCount)) (λ k. refused
 -- ---- "Restart: 2, below 512 bytes; 13, bytes 0 to 511 are no sound state's record; 2. It stores nothing and sets copied to recorded. A
 -- refusal gives a state of zeros."
 
+-- the tests of the record's bytes
+abbrev pub sectorTable : (o : Observations) → List (ℕ × Bool)
+sectorTable o = (2, ltb (o .byteCount) recordBytes) ∷ (13, not (isSoundRecord (o .sector))) ∷ []
+
 unfoldable pub restartTable : (o : Observations) → List (ℕ × Bool)
-restartTable o =
-    (2, ltb (o .byteCount) recordBytes)
-    ∷ (13, not (isSoundRecord (o .sector)))
-    ∷ (2, tooShort (geometry (stateRead (o .sector))) (disks (stateRead (o .sector))) (o .byteCount))
-    ∷ []
+restartTable o = sectorTable o ++ ((2, tooShort (geometry (stateRead (o .sector))) (disks (stateRead (o .sector))) (o .byteCount)) ∷ [])
 
 unfoldable pub restartEffect : (o : Observations) → Outcome
 restartEffect o = reporting (stateRead (o .sector)) noStore
@@ -101,9 +99,6 @@ unfoldable pub restartOutcome : (o : Observations) → Outcome
 restartOutcome o = judged (restartTable o) (λ k. refused zeros k []) (restartEffect o)
 
 -- ---- A record sector with no medium behind it, "by restart's rules, 2 for fewer and then 13 but no further 2": document 02, W1.
-
-unfoldable pub sectorTable : (o : Observations) → List (ℕ × Bool)
-sectorTable o = take 2 (restartTable o)
 
 unfoldable pub sectorOutcome : (o : Observations) → Outcome
 sectorOutcome o = judged (sectorTable o) (λ k. refused zeros k []) (restartEffect o)
@@ -181,22 +176,25 @@ readEffect v x o = doing v noStore (o .bytesAt (geometry v) (liveSpotOf (tallyOf
 unfoldable pub readOutcome : (v : Volume) (x : ℕ) (piece : List ℕ) (o : Observations) → Outcome
 readOutcome v x piece o = judged (readTable v x (length piece) (o .byteCount)) (λ k. refused v k piece) (readEffect v x o)
 
+-- ---- "1; 2; 5, not growing": the tests that copy, checkpoint and advance share
+
+abbrev pub growthTable : (v : Volume) (byteCount : ℕ) → List (ℕ × Bool)
+growthTable v byteCount = (1, not (sound v)) ∷ (2, tooShort (geometry v) (disks v) byteCount) ∷ (5, eqb (v .growing) 0) ∷ []
+
 -- ---- "Copy block x: 1; 2; 5, not growing; 3; 10, x doesn't move or not in window w; 11, copied already. It stores the old spot's bytes
 -- at the new one and sets the copied mark."
 
 unfoldable pub copyTable : (v : Volume) (x byteCount : ℕ) → List (ℕ × Bool)
 copyTable v x byteCount =
-    (1, not (sound v))
-    ∷ (2, tooShort (geometry v) (disks v) byteCount)
-    ∷ (5, eqb (v .growing) 0)
-    ∷ (3, leb (openBlocks (tallyOf v)) x)
+    growthTable v byteCount
+    ++ ((3, leb (openBlocks (tallyOf v)) x)
     ∷ (10, not (movesNow (tallyOf v) x))
     ∷ (11, tallyOf v .copied x)
-    ∷ blockRows v
+    ∷ blockRows v)
 
--- a block that may be copied lives at its old spot
+-- "the old spot's bytes at the new one"
 unfoldable pub copyStore : (v : Volume) (x : ℕ) (o : Observations) → Store
-copyStore v x o = blockStore (targetOf (tallyOf v) x) (o .bytesAt (geometry v) (liveSpotOf (tallyOf v) x))
+copyStore v x o = blockStore (targetOf (tallyOf v) x) (o .bytesAt (geometry v) (sourceOf (tallyOf v) x))
 
 unfoldable pub copyEffect : (v : Volume) (x : ℕ) (o : Observations) → Outcome
 copyEffect v x o = reporting (withCopy v x) (copyStore v x o)
@@ -204,19 +202,13 @@ copyEffect v x o = reporting (withCopy v x) (copyStore v x o)
 unfoldable pub copyOutcome : (v : Volume) (x : ℕ) (o : Observations) → Outcome
 copyOutcome v x o = judged (copyTable v x (o .byteCount)) (λ k. refused v k []) (copyEffect v x o)
 
--- ---- "Checkpoint: 1; 2; 5; 12, copied equals recorded. It stores the record with recorded set to copied." In a sound state the recorded
--- marks are among the copied ones.
+-- ---- "Checkpoint: 1; 2; 5; 12, copied equals recorded. It stores the record with recorded set to copied."
 
 abbrev pub nothingToRecord : (v : Volume) → Bool
-nothingToRecord v = within (marksOf (v .copied)) (marksOf (v .recorded))
+nothingToRecord v = eqb (v .copied) (v .recorded)
 
 unfoldable pub checkpointTable : (v : Volume) (byteCount : ℕ) → List (ℕ × Bool)
-checkpointTable v byteCount =
-    (1, not (sound v))
-    ∷ (2, tooShort (geometry v) (disks v) byteCount)
-    ∷ (5, eqb (v .growing) 0)
-    ∷ (12, nothingToRecord v)
-    ∷ recordRows v
+checkpointTable v byteCount = growthTable v byteCount ++ ((12, nothingToRecord v) ∷ recordRows v)
 
 unfoldable pub checkpointStore : (v : Volume) → Store
 checkpointStore v = recordStore (recordOf (checkpointed v))
@@ -232,16 +224,7 @@ checkpointOutcome v o = judged (checkpointTable v (o .byteCount)) (λ k. refused
 
 unfoldable pub advanceTable : (v : Volume) (byteCount : ℕ) → List (ℕ × Bool)
 advanceTable v byteCount =
-    (1, not (sound v))
-    ∷ (2, tooShort (geometry v) (disks v) byteCount)
-    ∷ (5, eqb (v .growing) 0)
-    ∷ (19, v .pending .records)
-    ∷ (18, isNone (nextBlock (tallyOf v)) && v .pending .blocks)
-    ∷ []
-
--- the tests that a copy and a checkpoint have too
-unfoldable pub growthTable : (v : Volume) (byteCount : ℕ) → List (ℕ × Bool)
-growthTable v byteCount = take 3 (advanceTable v byteCount)
+    growthTable v byteCount ++ ((19, v .pending .records) ∷ (18, isNone (nextBlock (tallyOf v)) && v .pending .blocks) ∷ [])
 
 -- of the state that the checkpoint hands back
 unfoldable pub checkpointTold : (v : Volume) → Advanced

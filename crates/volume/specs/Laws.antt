@@ -3,26 +3,33 @@ use Prim.Native.Nat.{ℕ, _%_, _≤_, _<_, _^_}
 use mathlib.Core.Path.{_≡_}
 use mathlib.Core.Bool.{Bool, true, false}
 use mathlib.Core.List.{List, []}
-use mathlib.Core.Logic.{_≢_}
+use mathlib.Core.Logic.{_≢_, _⊎_}
+use mathlib.Core.Option.{none, some}
 use lib.ListN.{length, getD}
 use Rattle.base.specs.Refusals.{refusal}
+use Rattle.layout.specs.declared.Block.{Block}
+use Rattle.layout.specs.declared.Part.{Part}
+use Rattle.layout.specs.declared.Reason.the-variants.{MovedBy}
 use Rattle.layout.specs.declared.Spot.{Spot}
 use Rattle.layout.specs.History.{oldCount, addedCount}
-use Rattle.layout.specs.Laws.{LookUps}
+use Rattle.layout.specs.Laws.{ReasonTrue, LookUps}
 use Rattle.layout.specs.Limits.{Limits}
 use Rattle.layout.specs.Reasons.{growthTold}
-use Rattle.layout.specs.Tally.{liveSpotOf, movesNow}
-use Rattle.layout.specs.Windows.{windows, oldSpot, movingIn}
+use Rattle.layout.specs.Tally.{isRunning, movedBlocks, liveSpotOf, growthsOf, waiting, movesNow, sourceOf, nextBlock}
+use Rattle.layout.specs.Windows.{windows, movingIn}
 use Rattle.marks.specs.Marks.{markCount, within}
 use Rattle.marks.specs.Words.{marksOf}
-use Rattle.medium.specs.Medium.{recordBytes, Observations, observe, noStore, StoreFits}
+use Rattle.medium.specs.declared.Geometry.{Geometry}
+use Rattle.medium.specs.Medium.{recordBytes, mostSize, bytesNeeded, Observations, observe, noStore, StoreFits}
+use Rattle.volume.specs.declared.Advanced.the-variants.{Copied}
+use Rattle.volume.specs.declared.Answer.the-variants.{Told}
 use Rattle.volume.specs.declared.Pending.{Pending}
 use Rattle.volume.specs.declared.Volume.{Volume}
-use Rattle.volume.specs.Answers.{number, callsTold, addressNumber, spotTold, reasonTold, holderNumber, blockTold}
-use Rattle.volume.specs.Calls.{Outcome, formatTable, formatOutcome, restartTable, restartOutcome, sectorTable, sectorOutcome, growTable, growOutcome, writeTable, writeOutcome, readTable, readOutcome, copyTable, copyOutcome, checkpointTable, checkpointOutcome, advanceTable, advanceOutcome, flushedTable, flushedOutcome, addressTable, addressReply, holderTable, holderReply}
+use Rattle.volume.specs.Answers.{number, callsTold, blockCopied, partCopied, addressNumber, spotTold, reasonTold, partTold, holderNumber, blockTold}
+use Rattle.volume.specs.Calls.{Outcome, formatTable, formatOutcome, restartTable, restartOutcome, sectorTable, sectorOutcome, growTable, growOutcome, writeTable, writeOutcome, readTable, readOutcome, copyTable, copyOutcome, nothingToRecord, checkpointTable, checkpointOutcome, advanceTable, advanceOutcome, flushedTable, flushedOutcome, addressTable, addressReply, holderTable, holderReply}
 use Rattle.volume.specs.Records.{recordOf, stateRead, isSoundRecord}
-use Rattle.volume.specs.Sound.{sizeStep, mostSize, movingOf, sound}
-use Rattle.volume.specs.States.{geometry, historyOf, tallyOf, newState, zeros, grown, withPending, recordedOnly, withCopy, checkpointed}
+use Rattle.volume.specs.Sound.{sizeStep, leastSize, movingOf, sound}
+use Rattle.volume.specs.States.{geometry, historyOf, disks, tallyOf, newState, zeros, grown, withPending, recordedOnly, withCopy, checkpointed}
 
 -- ---- what a sound state is
 
@@ -43,13 +50,28 @@ pub record SoundFacts (v : Volume) : Type 0 where
   pub counts-length : length (v .counts) ≡ 8
   pub recorded-fits : v .recorded < 2 ^ markCount
   pub copied-fits : v .copied < 2 ^ markCount
-  pub size-least : sizeStep ≤ v .size
+  pub size-least : leastSize ≤ v .size
   pub size-most : v .size ≤ mostSize
   pub size-steps : v .size % sizeStep ≡ 0
   pub limits : Limits (v .rows) (historyOf v)
   pub zeros-after : (i : ℕ) → i < 8 → v .growths < i → getD (v .counts) i 0 ≡ 0
   pub at-rest : v .growing ≡ 0 → RestFacts v
   pub while-growing : v .growing ≢ 0 → GrowthFacts v
+
+-- ---- a copy that is recorded
+
+-- u has the rows and the counts of v, and block x is where the newest growth moved it: that growth is finished, or the copy is recorded
+pub record RecordsCopy (v u : Volume) (x : ℕ) : Type 0 where
+  pub is-sound : sound u ≡ true
+  pub same-rows : u .rows ≡ v .rows
+  pub same-history : historyOf u ≡ historyOf v
+  pub recorded : (isRunning (tallyOf u .mode) ≡ false) ⊎ (movedBlocks (tallyOf u) x ≡ true)
+
+-- ---- what a call stores
+
+-- its store lies in the bytes of the record and the disks
+abbrev pub InDisks : (v : Volume) (out : Outcome) → Type 0
+InDisks v out = StoreFits (geometry v) (bytesNeeded (geometry v) (disks v)) (out .store)
 
 -- ---- what a refusal is
 
@@ -59,7 +81,9 @@ pub record Refuses (table : List (ℕ × Bool)) (v : Volume) (piece : List ℕ) 
   pub state-kept : refusal table ≢ 0 → out .reply .state ≡ v
   pub nothing-stored : refusal table ≢ 0 → out .store ≡ noStore
   pub piece-kept : refusal table ≢ 0 → out .piece ≡ piece
-  pub no-figures : refusal table ≢ 0 → callsTold (out .reply .answer) ≡ 0
+  pub no-calls : refusal table ≢ 0 → callsTold (out .reply .answer) ≡ 0
+  pub no-block : refusal table ≢ 0 → blockCopied (out .reply .answer) ≡ 0
+  pub no-part : refusal table ≢ 0 → partCopied (out .reply .answer) ≡ none
 
 -- of a look-up, which stores nothing: the number told is the table's, the state is handed back, a refusal has no figures
 pub record AddressRefuses (v : Volume) (x : ℕ) : Type 0 where
@@ -67,6 +91,7 @@ pub record AddressRefuses (v : Volume) (x : ℕ) : Type 0 where
   pub state-kept : addressReply v x .state ≡ v
   pub no-spot : refusal (addressTable v x) ≢ 0 → spotTold (addressReply v x .answer) ≡ record { disk = 0; row = record { 0 = 0 } }
   pub no-growth : refusal (addressTable v x) ≢ 0 → growthTold (reasonTold (addressReply v x .answer)) ≡ 0
+  pub no-part : refusal (addressTable v x) ≢ 0 → partTold (reasonTold (addressReply v x .answer)) ≡ none
 
 pub record HolderRefuses (v : Volume) (p : Spot) : Type 0 where
   pub number-told : holderNumber (holderReply v p .answer) ≡ refusal (holderTable v p)
@@ -97,14 +122,14 @@ pub record VolumeLaws : Type 0 where
   pub checkpointed-sound : (v : Volume) → sound v ≡ true → v .growing ≢ 0 → sound (checkpointed v) ≡ true
   -- what is pending is no part of soundness: both may be
   pub pending-sound : (v : Volume) (p : Pending) → sound (withPending v p) ≡ sound v
-  -- what is stored lies in the medium; a copy stores bytes of that medium
-  pub format-fits : (z s n : ℕ) (o : Observations) → StoreFits (record { size = z; rows = s }) (o .byteCount) (formatOutcome z s n o .store)
-  pub grow-fits : (v : Volume) (count : ℕ) (o : Observations) → StoreFits (geometry v) (o .byteCount) (growOutcome v count o .store)
-  pub write-fits : (v : Volume) (x : ℕ) (piece : List ℕ) (o : Observations)
-      → StoreFits (geometry v) (o .byteCount) (writeOutcome v x piece o .store)
-  pub copy-fits : (v : Volume) (x : ℕ) (m : List ℕ) → StoreFits (geometry v) (length m) (copyOutcome v x (observe m) .store)
-  pub checkpoint-fits : (v : Volume) (o : Observations) → StoreFits (geometry v) (o .byteCount) (checkpointOutcome v o .store)
-  pub advance-fits : (v : Volume) (m : List ℕ) → StoreFits (geometry v) (length m) (advanceOutcome v (observe m) .store)
+  -- what is stored lies in the bytes of the disks; a copy stores bytes of the medium that it sees
+  pub format-fits : (z s n : ℕ) (o : Observations)
+      → (let g : Geometry = record { size = z; rows = s } in StoreFits g (bytesNeeded g n) (formatOutcome z s n o .store))
+  pub grow-fits : (v : Volume) (count : ℕ) (o : Observations) → InDisks v (growOutcome v count o)
+  pub write-fits : (v : Volume) (x : ℕ) (piece : List ℕ) (o : Observations) → InDisks v (writeOutcome v x piece o)
+  pub copy-fits : (v : Volume) (x : ℕ) (m : List ℕ) → InDisks v (copyOutcome v x (observe m))
+  pub checkpoint-fits : (v : Volume) (o : Observations) → InDisks v (checkpointOutcome v o)
+  pub advance-fits : (v : Volume) (m : List ℕ) → InDisks v (advanceOutcome v (observe m))
   -- refusals
   pub format-refuses : (z s n : ℕ) (o : Observations) → Refuses (formatTable z s n (o .byteCount)) zeros [] (formatOutcome z s n o)
   pub restart-refuses : (o : Observations) → Refuses (restartTable o) zeros [] (restartOutcome o)
@@ -120,11 +145,22 @@ pub record VolumeLaws : Type 0 where
   pub flushed-refuses : (v : Volume) → Refuses (flushedTable v) v [] (flushedOutcome v)
   pub address-refuses : (v : Volume) (x : ℕ) → AddressRefuses v x
   pub holder-refuses : (v : Volume) (p : Spot) → HolderRefuses v p
-  -- a block that is copied lives at its old spot
+  -- a block that is copied lives at its old spot: one that copy accepts, and the one that advance copies
   pub copy-source : (v : Volume) (x byteCount : ℕ) → refusal (copyTable v x byteCount) ≡ 0
-      → liveSpotOf (tallyOf v) x ≡ oldSpot (v .rows) (historyOf v) x
-  -- 12 is given exactly where copied equals recorded
-  pub no-copy-waiting : (v : Volume) → sound v ≡ true → within (marksOf (v .copied)) (marksOf (v .recorded)) ≡ true → v .copied ≡ v .recorded
+      → liveSpotOf (tallyOf v) x ≡ sourceOf (tallyOf v) x
+  pub advance-source : (v : Volume) (x byteCount : ℕ) → refusal (advanceTable v byteCount) ≡ 0 → nextBlock (tallyOf v) ≡ some x
+      → liveSpotOf (tallyOf v) x ≡ sourceOf (tallyOf v) x
+  -- while a growth runs, 12's test holds exactly where no copy waits to be recorded
+  pub no-copy-waiting : (v : Volume) → sound v ≡ true → v .growing ≢ 0
+      → (nothingToRecord v ≡ true → (x : ℕ) → waiting (tallyOf v) x ≡ false) × (((x : ℕ) → waiting (tallyOf v) x ≡ false) → nothingToRecord v ≡ true)
+  -- the part that advance tells of a block is the part that address tells once the copy is recorded, and the next checkpoint records it
+  pub part-told : (v u : Volume) (o : Observations) (x : Block) (part : Part) (n : ℕ) → advanceOutcome v o .reply .answer ≡ Told (Copied x part) n
+      → RecordsCopy v u (x .0) → reasonTold (addressReply u (x .0) .answer) ≡ MovedBy (v .growths) part
+  pub part-recorded : (v : Volume) (o : Observations) (x : Block) (part : Part) (n : ℕ) → advanceOutcome v o .reply .answer ≡ Told (Copied x part) n
+      → RecordsCopy v (checkpointed (withCopy v (x .0))) (x .0)
+  -- the reason that address tells is true of the growths that made the live spot
+  pub address-reason : (v : Volume) (x : ℕ) → addressNumber (addressReply v x .answer) ≡ 0
+      → ReasonTrue (v .rows) (growthsOf (tallyOf v) x) x (reasonTold (addressReply v x .answer))
   -- address and holder are inverse to each other in every stage of a growth, and after a finished one 15 never occurs
   pub look-ups : (v : Volume) → sound v ≡ true → LookUps (tallyOf v)
   pub holder-of-address : (v : Volume) (x : ℕ) → addressNumber (addressReply v x .answer) ≡ 0

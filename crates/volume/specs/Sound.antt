@@ -8,6 +8,7 @@ use Rattle.layout.specs.History.{diskCount, rising}
 use Rattle.layout.specs.Limits.{mostDisks, mostGrowths, mostRows}
 use Rattle.marks.specs.Marks.{markCount, movingMarksIn, zerosAfter, atRest, inGrowth}
 use Rattle.marks.specs.Words.{marksOf}
+use Rattle.medium.specs.Medium.{mostSize}
 use Rattle.volume.specs.declared.Volume.{Volume}
 use Rattle.volume.specs.States.{historyOf}
 
@@ -15,19 +16,25 @@ use Rattle.volume.specs.States.{historyOf}
 abbrev pub sizeStep : ℕ
 sizeStep = 512
 
-abbrev pub mostSize : ℕ
-mostSize = 65_536
+abbrev pub leastSize : ℕ
+leastSize = 512
 
 unfoldable pub sizeHolds : (z : ℕ) → Bool
-sizeHolds z = leb sizeStep z && (leb z mostSize && eqb (z % sizeStep) 0)
+sizeHolds z = leb leastSize z && (leb z mostSize && eqb (z % sizeStep) 0)
 
 -- "s: rows on each disk, 1 to 1,000,000."
+abbrev pub leastRows : ℕ
+leastRows = 1
+
 unfoldable pub rowsHold : (s : ℕ) → Bool
-rowsHold s = leb 1 s && leb s mostRows
+rowsHold s = leb leastRows s && leb s mostRows
 
 -- a disk count: "1 to 16"
+abbrev pub leastDisks : ℕ
+leastDisks = 1
+
 unfoldable pub disksHold : (n : ℕ) → Bool
-disksHold n = leb 1 n && leb n mostDisks
+disksHold n = leb leastDisks n && leb n mostDisks
 
 -- "N[0] to N[t]: disk counts, strictly rising, 1 to 16; t, the number of growths, is 0 to 7." Counts that rise from 1 are all at most
 -- the last one.

@@ -166,7 +166,7 @@ impl Volume {
         }
         let copied = self.copied;
         let recorded = self.recorded;
-        if marks::is_within(copied, recorded) {
+        if copied == recorded {
             return 12;
         }
         self.record_refusal()

@@ -15,7 +15,7 @@ use super::Volume;
 pub fn size_holds(z: usize) -> bool
     ensures { λ r. ⌜ r ≡ sizeHolds z ⌝ }
 {
-    if z < Volume::SIZE_STEP {
+    if z < Volume::LEAST_SIZE {
         return false;
     }
     if Volume::MOST_SIZE < z {
@@ -38,7 +38,7 @@ pub fn rows_hold(s: usize) -> bool
 pub fn disks_hold(n: usize) -> bool
     ensures { λ r. ⌜ r ≡ disksHold n ⌝ }
 {
-    if n < 1 {
+    if n < Volume::LEAST_DISKS {
         return false;
     }
     n <= Volume::MOST_DISKS

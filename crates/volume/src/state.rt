@@ -10,7 +10,9 @@ use super::Pending;
 use super::Volume;
 
 impl Volume {
-    // Document 01, "Words and limits". Block sizes are multiples of SIZE_STEP, from it on.
+    // Document 01, "Words and limits". Block sizes are multiples of SIZE_STEP.
+    pub const LEAST_DISKS: usize = 1;
+
     pub const MOST_DISKS: usize = 16;
 
     pub const MOST_GROWTHS: usize = 7;
@@ -21,7 +23,9 @@ impl Volume {
 
     pub const SIZE_STEP: usize = 512;
 
-    pub const MOST_SIZE: usize = 65_536;
+    pub const LEAST_SIZE: usize = 512;
+
+    pub const MOST_SIZE: usize = medium::MOST_SIZE;
 
     // The state of zeros.
     pub fn zeros() -> Volume

@@ -1,8 +1,8 @@
 -- What the code of the pages needs.
 use Prim.Native.Nat.{ℕ, suc, _+_, _-_, _*_, _≤_, _<_}
-use mathlib.Core.Path.{_≡_, sym, ap, _∙_}
+use mathlib.Core.Path.{_≡_, refl, sym, ap, _∙_}
 use mathlib.Core.Bool.{true}
-use mathlib.Core.List.{List, [], _++_}
+use mathlib.Core.List.{List, [], _∷_, _++_}
 use mathlib.Core.Logic.{_≢_}
 use native.Mathlib.Nat.{zero-add, suc-mul, mul-le-mul, mul-le-mul-right}
 use native.Mathlib.Numerals.{add-one}
@@ -14,16 +14,15 @@ use borrow.Author.Tests.{ltb-false}
 use Rattle.base.specs.Below.{joined}
 use Rattle.base.specs.Refusals.{refusal}
 use Rattle.base.proofs.Lists.{sets-append, part-back}
-use Rattle.base.proofs.Refusals.{passed, held}
+use Rattle.base.proofs.Refusals.{passed, held, refused-first, passed-first}
 use Rattle.layout.specs.Limits.{mostDisks, mostRows}
 use Rattle.medium.specs.Medium.{recordBytes, observe}
 use Rattle.volume.specs.declared.Volume.{Volume}
-use Rattle.volume.specs.Calls.{restartTable, sectorTable}
+use Rattle.volume.specs.Calls.{sectorTable}
 use Rattle.volume.specs.Records.{isSoundRecord}
 use Rattle.volume.specs.Sound.{sound}
 use Rattle.volume.specs.States.{disks}
 use Rattle.volume.proofs.Judged.{refused-when, accepted-when}
-use Rattle.volume.proofs.SectorCode.{refused-before, tested-last}
 use Rattle.wall_chart.specs.Chart.{lineBytes, headingLine, rowLine, chart}
 use Rattle.wall_chart.specs.Pages.{untouched, withChart, pageShort, chartTable, charted, recordState, recordChartTable, recordCharted}
 use Rattle.wall_chart.proofs.Lengths.{length-heading-line, length-chart}
@@ -95,17 +94,17 @@ module _ (v : Volume) (page : List ℕ) (k : ℕ) (e : k ≡ refusal (chartTable
 pub record-refused : (bytes page : List ℕ) (k : ℕ) → k ≡ refusal (sectorTable (observe bytes)) → k ≢ 0 → recordCharted bytes page ≡ untouched page k
 unfolding recordCharted recordChartTable
 record-refused bytes page k e h =
-    let before = refused-before (observe bytes) 16 (pageShort (recordState bytes) (length page)) (λ z. h (e ∙ z)) in
+    let before = refused-first (sectorTable (observe bytes)) ((16, pageShort (recordState bytes) (length page)) ∷ []) (λ z. h (e ∙ z)) in
     refused-when (recordChartTable bytes (length page)) (untouched page) (withChart (recordState bytes) page) k (e ∙ sym before) h
 
 -- of a sound state's record, the state's own chart
 pub record-taken : (bytes page : List ℕ) → refusal (sectorTable (observe bytes)) ≡ 0 → sound (recordState bytes) ≡ true
     → charted (recordState bytes) page ≡ recordCharted bytes page
 unfolding charted recordCharted chartTable recordChartTable refusal
-record-taken bytes page e s = rw (s, tested-last (observe bytes) 16 (pageShort (recordState bytes) (length page)) e)
+record-taken bytes page e s = rw (s, passed-first (sectorTable (observe bytes)) ((16, pageShort (recordState bytes) (length page)) ∷ []) refl e)
 
 pub record-room : (bytes page : List ℕ) → refusal (recordChartTable bytes (length page)) ≡ 0 → length (chart (recordState bytes)) ≤ length page
-unfolding recordChartTable pageShort sectorTable restartTable
+unfolding recordChartTable pageShort
 record-room bytes page e =
     let o = observe bytes in
     let a = passed 2 (ltb (o .byteCount) recordBytes) _ (omega arith) e in

@@ -3,14 +3,14 @@ use Prim.Native.Nat.{_-_, _≤_, _<_}
 use mathlib.Core.Path.{_≡_, refl, _∙_}
 use native.Mathlib.Omega.{arith}
 use lib.ListN.{length, take, length-set}
-use Rattle.medium.specs.Medium.{mostCopied}
+use Rattle.medium.specs.Medium.{mostSize}
 use Rattle.medium.proofs.MediumCode.{copy-next, copy-all}
 use Rattle.medium.proofs.copy_all.Statement.{statement}
 use Rattle.medium.proofs.copy_all.Tie as tie
 
 -- the first i bytes are held
 abbrev Inv-loop : tie.InvT-loop
-Inv-loop src dst n held₀ i₀ held i = (i ≤ n) × ((length held ≡ mostCopied) × (take i held ≡ take i src))
+Inv-loop src dst n held₀ i₀ held i = (i ≤ n) × ((length held ≡ mostSize) × (take i held ≡ take i src))
 
 abbrev μ-loop : tie.MeasureT-loop
 μ-loop src dst n held₀ i₀ held i = n - i

@@ -4,14 +4,14 @@ use mathlib.Core.Path.{_≡_, refl}
 use native.Mathlib.Omega.{arith}
 use lib.ListN.{length, take, drop, length-set}
 use lib.Seq.{sets}
-use Rattle.medium.specs.Medium.{mostCopied}
+use Rattle.medium.specs.Medium.{mostSize}
 use Rattle.medium.proofs.MediumCode.{hold-next, place-next}
 use Rattle.medium.proofs.copy_bytes.Statement.{statement}
 use Rattle.medium.proofs.copy_bytes.Tie as tie
 
 -- the first i bytes are held
 abbrev Inv-loop : tie.InvT-loop
-Inv-loop medium from to n held₀ i₀ held i = (i ≤ n) × ((length held ≡ mostCopied) × (take i held ≡ take i (drop from medium)))
+Inv-loop medium from to n held₀ i₀ held i = (i ≤ n) × ((length held ≡ mostSize) × (take i held ≡ take i (drop from medium)))
 
 abbrev μ-loop : tie.MeasureT-loop
 μ-loop medium from to n held₀ i₀ held i = n - i

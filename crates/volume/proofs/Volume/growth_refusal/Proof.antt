@@ -4,7 +4,7 @@ use mathlib.Core.Bool.{true}
 use borrow.Author.Needs.{needs}
 use borrow.Author.Tests.{eq-eqb, ne-eqb, not-true, not-false}
 use Rattle.base.specs.Refusals.{refusal}
-use Rattle.volume.specs.Calls.{advanceTable, growthTable, tooShort}
+use Rattle.volume.specs.Calls.{tooShort}
 use Rattle.volume.specs.Sound.{sound}
 use Rattle.volume.specs.States.{geometry, disks}
 use Rattle.volume.proofs.CallsCode.{disks-most}
@@ -18,7 +18,7 @@ is-sound : (c : tie.Else1) → sound (c .before .before .args .self) ≡ true
 is-sound c = sym (c .before .is-sound-by .ensures) ∙ not-false _ (c .if1 .left)
 
 returns : tie.Need-returns
-unfolding refusal growthTable advanceTable
+unfolding refusal
 returns c = simp (← c .before .is-sound-by .ensures, not-true (c .before .is-sound-by .result) (c .if1 .taken))
 
 disk-count-by-requires : tie.Need-disk-count-by-requires
@@ -34,11 +34,11 @@ shortness : (c : tie.After-is-short)
 shortness c = rw (c .before .disk-count-by .ensures) at (sym (c .is-short .ensures))
 
 returns-2 : tie.Need-returns-2
-unfolding refusal growthTable advanceTable
+unfolding refusal
 returns-2 c = simp (is-sound (c .before .before .before), shortness (c .before), c .if2 .taken)
 
 returns-3 : tie.Need-returns-3
-unfolding refusal growthTable advanceTable
+unfolding refusal
 returns-3 c =
     simp (
       is-sound (c .before .before .before .before .before),
@@ -48,7 +48,7 @@ returns-3 c =
     )
 
 returns-4 : tie.Need-returns-4
-unfolding refusal growthTable advanceTable
+unfolding refusal
 returns-4 c =
     simp (
       is-sound (c .before .before .before .before .before),

@@ -43,7 +43,7 @@ unfolding reporting pendingWith withPending
 state c = ap (λ (r : Reply). r .state) (taken c .1)
 
 state-sound : (c : tie.After-v) → sound (c .before .before .from-sector .result .state) ≡ true
-state-sound c = rw (state c) (sector-sound _ (taken c .0))
+state-sound c = rw (state c) (sector-sound (observe (c .before .before .before .before .args .medium .now)) (taken c .0))
 
 disk-count-requires : tie.Need-disk-count-requires
 disk-count-requires c κs = search needs
