@@ -31,7 +31,7 @@ flushed-append [] fs = refl
 flushed-append (whole c ∷ es) fs = ap (λ (l : List Event). runs c ∷ runs flushed ∷ l) (flushed-append es fs)
 flushed-append (fails c left ∷ es) fs = ap (λ (l : List Event). cut (some c) (left ∷ []) ∷ l) (flushed-append es fs)
 
-from-append : (es fs : List DirectEvent) → fromFormat (es ++ fs) ≡ fromFormat es ++ flushedAfter fs
+pub from-append : (es fs : List DirectEvent) → fromFormat (es ++ fs) ≡ fromFormat es ++ flushedAfter fs
 unfolding fromFormat
 from-append es fs = ap (λ (l : List Event). runs flushed ∷ l) (flushed-append es fs)
 
@@ -165,7 +165,7 @@ module _ (a : Start) (ok : accepted (formatted a .reply .answer) ≡ true) (es :
   finishing is-up on further f =
       let e = ending-from (startGeometry a) (systemWithout callOutcome a es) (cachedAfter a (fromFormat es)) _ all-keep all-flushed is-up (running-grows _ on) f in
       let joined : modelWithout callOutcome a (es ++ further) ≡ modelled (fedAll callOutcome (systemWithout callOutcome a es) (flushedAfter further)) (cachedAfter a (fromFormat es)) .current =
-      ap (modelOf callOutcome a) (from-append es further) ∙ ap (λ (k : CachedModel). k .current) (modelled-append (begin a) (startCached a) (fromFormat es) (flushedAfter further)) in
+      ap (modelOf callOutcome a) (from-append es further) ∙ ap (λ (k : CachedModel). k .current) (modelled-append callOutcome (begin a) (startCached a) (fromFormat es) (flushedAfter further)) in
       record {
         still-runs = λ n. grows-running (ap (λ (k : Model). k .tally .mode) joined ∙ e .still-runs n);
         none-told = e .none-told;
