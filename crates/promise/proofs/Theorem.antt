@@ -197,7 +197,7 @@ advances-after : (g : Geometry) (s : System) (k : CachedModel) (told : Option �
 unfolding IsUp after outcome callOutcome memoryOf
 advances-after g (up v d) k told i is-up on =
     let j = flushed-keeps g k told false v d i in
-    let kept = quiet-by (up v d) flushed (unfold isAdvance in refl) (λ t. unfold stepOf leaving in refl) .tally-kept k in
+    let kept = quiet-by callOutcome (up v d) flushed (unfold isAdvance in refl) (λ t. unfold stepOf leaving in refl) .tally-kept k in
     advance-after-flushed g _ _ _ _ j (ap (λ (t : Tally). t .mode) kept ∙ on) (flushed-pending false g v d k told i)
 advances-after g (down m) k told i is-up on = absurd is-up
 

@@ -20,7 +20,7 @@ use Rattle.promise.specs.WithoutCache.{DirectEvent, ends as whole, fails
 use Rattle.promise.proofs.CallsCounted.{left-positive, goes-on, ends, advance-step}
 use Rattle.promise.proofs.PendingStores.{Live}
 use Rattle.promise.proofs.EventSteps.{Invariant, flushed-pending, flushed-keeps, other-keeps, keeps}
-use Rattle.promise.proofs.FurtherCalls.{Ending, ending-none, ending-more, ending-last, tally-runs, quiet-by, advance-after-flushed, event-tally, event-told}
+use Rattle.promise.proofs.FurtherCalls.{Ending, ending-none, ending-more, ending-last, tally-runs, quiet-by, advance-after-flushed, advanced-tally, event-told}
 use Rattle.promise.proofs.Theorem.{running-grows, grows-running, rests-not-running, modelled-append, keeps-all, startGeometry, startCached, cachedAfter, start, promise}
 
 -- ---- lists
@@ -67,13 +67,13 @@ abbrev model-both : (s : System) (c : Call) (k : CachedModel) → CachedModel
 model-both s c k = modelAfter (fed callOutcome (after callOutcome s (runs c)) (runs flushed)) (modelAfter (fed callOutcome s (runs c)) k)
 
 flushed-keeps-tally : (s : System) (k : CachedModel) → modelAfter (fed callOutcome s (runs flushed)) k .current .tally ≡ k .current .tally
-flushed-keeps-tally s k = quiet-by s flushed (unfold isAdvance in refl) (λ t. unfold stepOf leaving in refl) .tally-kept k
+flushed-keeps-tally s k = quiet-by callOutcome s flushed (unfold isAdvance in refl) (λ t. unfold stepOf leaving in refl) .tally-kept k
 
 write-keeps-tally : (s : System) (x : ℕ) (piece : List ℕ) (k : CachedModel) → modelAfter (fed callOutcome s (runs (write x piece))) k .current .tally ≡ k .current .tally
-write-keeps-tally s x piece k = quiet-by s (write x piece) (unfold isAdvance in refl) (λ t. unfold stepOf saving in refl) .tally-kept k
+write-keeps-tally s x piece k = quiet-by callOutcome s (write x piece) (unfold isAdvance in refl) (λ t. unfold stepOf saving in refl) .tally-kept k
 
 read-keeps-tally : (s : System) (x : ℕ) (piece : List ℕ) (k : CachedModel) → modelAfter (fed callOutcome s (runs (read x piece))) k .current .tally ≡ k .current .tally
-read-keeps-tally s x piece k = quiet-by s (read x piece) (unfold isAdvance in refl) (λ t. unfold stepOf leaving in refl) .tally-kept k
+read-keeps-tally s x piece k = quiet-by callOutcome s (read x piece) (unfold isAdvance in refl) (λ t. unfold stepOf leaving in refl) .tally-kept k
 
 -- with no advance the tally stays
 none-advanced : {further : List DirectEvent} → DirectFurther further → (s : System) (k : CachedModel) → length (advancesTold callOutcome s further) ≡ 0
@@ -106,7 +106,7 @@ direct-ending (an-advance f) g v d k told i clear on =
     let a = advance-after-flushed g v d k told i on clear in
     let j = both-keep g v d k told i advance (unfold settles in refl) in
     let next = model-both (up v d) advance k in
-    let same : next .current .tally ≡ stepOf advance (k .current .tally) .tally = flushed-keeps-tally _ _ ∙ event-tally true g v d k told i on a in
+    let same : next .current .tally ≡ stepOf advance (k .current .tally) .tally = flushed-keeps-tally _ _ ∙ advanced-tally callOutcome (up v d) k a in
     let told-it = event-told true g v d k told i on a in
     elim (advance-step (k .current .tally) (tally-runs (i .up) on)) [
       | goes-on mode finish left ↦
