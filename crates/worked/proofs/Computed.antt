@@ -128,7 +128,7 @@ module _ (calls : (c : Call) → Act) {X : Type 0} (hear : Hearing X) where
       let rest = computed (down (cutsApplied stores left (drivesOf s .landed))) es before in
       record { lawful = mayCut c s stores left && rest .lawful; fed = cutIn c (cutLeft left) ∷ rest .fed; heard = rest .heard }
 
-  fed-same : (s : System) (es : List Event) (before : X) → computed s es before .fed ≡ fedAll calls s es
+  pub fed-same : (s : System) (es : List Event) (before : X) → computed s es before .fed ≡ fedAll calls s es
   unfolding computed fedAll fed outcome
   fed-same s [] before = refl
   fed-same s (runs c ∷ es) before =
@@ -136,7 +136,7 @@ module _ (calls : (c : Call) → Act) {X : Type 0} (hear : Hearing X) where
   fed-same s (cut c left ∷ es) before =
       rw (cut-same calls c left s) (ap (λ (fs : List Fed). cutIn c (cutLeft left) ∷ fs) (fed-same (after calls s (cut c left)) es before))
 
-  heard-same : (s : System) (es : List Event) (before : X) → computed s es before .heard ≡ heardAll s es before
+  pub heard-same : (s : System) (es : List Event) (before : X) → computed s es before .heard ≡ heardAll s es before
   unfolding computed heardAll outcome
   heard-same s [] before = refl
   heard-same s (runs c ∷ es) before =
@@ -145,7 +145,7 @@ module _ (calls : (c : Call) → Act) {X : Type 0} (hear : Hearing X) where
   heard-same s (cut c left ∷ es) before =
       ap (λ (t : System). computed t es before .heard) (cut-same calls c left s) ∙ heard-same (after calls s (cut c left)) es before
 
-  is-lawful : (s : System) (es : List Event) (before : X) → Reflects (Lawful calls s es) (computed s es before .lawful)
+  pub is-lawful : (s : System) (es : List Event) (before : X) → Reflects (Lawful calls s es) (computed s es before .lawful)
   unfolding computed Lawful
   is-lawful s [] before = holds tt
   is-lawful s (runs c ∷ es) before = rw (run-same calls c s) (both (may-run calls c s) (is-lawful (after calls s (runs c)) es _))
@@ -173,6 +173,13 @@ module _ (calls : (c : Call) → Act) {X : Type 0} (hear : Hearing X) (s : Syste
 
   pub faster-facts : OurRestart calls → computed (faster calls) hear s es before ≡ lawfulResult fs x → Facts calls hear s es before fs x
   faster-facts ours e = facts (subst (λ (c : (c : Call) → Act). computed c hear s es before ≡ lawfulResult fs x) (faster-same calls ours) e)
+
+-- a test that passes of a program whose restart is ours, computed with the faster one
+abbrev pub Tested : (calls : (c : Call) → Act) (test : ((c : Call) → Act) → Bool) → Type 0
+Tested calls test = OurRestart calls × (test (faster calls) ≡ true)
+
+pub tested : (calls : (c : Call) → Act) (test : ((c : Call) → Act) → Bool) → Tested calls test → test calls ≡ true
+tested calls test t = subst (λ (c : (c : Call) → Act). test c ≡ true) (faster-same calls (t .0)) (t .1)
 
 -- and of one that is not lawful
 pub not-lawful : (calls : (c : Call) → Act) {X : Type 0} (hear : Hearing X) (s : System) (es : List Event) (before : X) → OurRestart calls
