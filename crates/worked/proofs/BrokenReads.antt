@@ -2,7 +2,7 @@
 -- demand: `breaks-read`, `breaks-direct-read`.
 use Prim.Native.Nat.{ℕ, _<_}
 use mathlib.Core.Path.{_≡_, refl, sym, ap, ap₂, _∙_, subst}
-use mathlib.Core.Bool.{Bool, true, false, cond, not, _&&_, true≢false, false≢true}
+use mathlib.Core.Bool.{Bool, true, false, cond, not, _&&_, false≢true}
 use mathlib.Core.List.{List, [], _∷_, _++_}
 use mathlib.Core.Logic.{inl}
 use mathlib.Core.Option.{Option, none, some}
@@ -93,6 +93,11 @@ module _ (calls : (c : Call) → Act) (a : Start) (before rest : List Event) (x 
           ap₂ wrong (sym heard-there) (sym model-there) ∙ and-right (ltb x _) _ open-and,
         )
 
+-- flushed is such a call
+pub silent-flushed : (calls : (c : Call) → Act) (s : System) (h : ReadHeard) → heardAll calls hearRead s (runs flushed ∷ []) h ≡ h
+unfolding heardAll settles
+silent-flushed calls s h = refl
+
 -- ---- a part that the read breaks
 
 module _ (calls : (c : Call) → Act) (P : (a : Start) (before : List Event) (x : ℕ) (piece : List ℕ) → Type 0) (wrong : (a : Start) (x : ℕ) → ReadHeard → Model → Bool)
@@ -106,11 +111,10 @@ module _ (calls : (c : Call) → Act) (P : (a : Start) (before : List Event) (x 
       refutes a (runs flushed ∷ before) rest x (both .1)
       (every a (both .0 .format-accepted) _ (both .0 .lawful) (inl refl) (runs flushed ∷ before) rest x (emptyPiece a) refl (both .0 .below) (length-replicate {A = ℕ} (a .size) 0))
 
-  breaks-direct-read : (before : List DirectEvent) (x : ℕ) → ((s : System) (h : ReadHeard) → heardAll calls hearRead s (runs flushed ∷ []) h ≡ h)
-      → readTest calls a (fromFormat before) (runs flushed ∷ []) x (wrong a x) ≡ true → EveryDirectRead calls P → ⊥
+  breaks-direct-read : (before : List DirectEvent) (x : ℕ) → readTest calls a (fromFormat before) (runs flushed ∷ []) x (wrong a x) ≡ true → EveryDirectRead calls P → ⊥
   unfolding flushedAfter
-  breaks-direct-read before x silent t every =
-      let both = read-tested calls a (fromFormat before) (runs flushed ∷ []) x silent (wrong a x) t in
+  breaks-direct-read before x t every =
+      let both = read-tested calls a (fromFormat before) (runs flushed ∷ []) x (silent-flushed calls) (wrong a x) t in
       let l = subst (Lawful calls (begin a)) (sym (from-append before (ends (read x (emptyPiece a)) ∷ []))) (both .0 .lawful) in
       refutes a (fromFormat before) (runs flushed ∷ []) x (both .1)
       (every a (both .0 .format-accepted) (before ++ (ends (read x (emptyPiece a)) ∷ [])) l before [] x (emptyPiece a) refl (both .0 .below) (length-replicate {A = ℕ} (a .size) 0))
@@ -123,10 +127,10 @@ module _ (calls : (c : Call) → Act) (P : (a : Start) (before : List Event) (x 
   -- on both, by a list for drives that keep no store
   pub broken-twice : (before : List DirectEvent) (x : ℕ) → Tested calls (λ p. readTest p a (fromFormat before) (runs flushed ∷ []) x (wrong a x))
       → (EveryRead calls P → ⊥) × (EveryDirectRead calls P → ⊥)
-  unfolding fromFormat heardAll settles
+  unfolding fromFormat
   broken-twice before x t =
       let e = tested calls (λ p. readTest p a (fromFormat before) (runs flushed ∷ []) x (wrong a x)) t in
-      (breaks-read (flushedAfter before) (runs flushed ∷ []) x (λ s h. refl) e, breaks-direct-read before x (λ s h. refl) e)
+      (breaks-read (flushedAfter before) (runs flushed ∷ []) x (silent-flushed calls) e, breaks-direct-read before x e)
 
 -- ---- the parts
 

@@ -136,7 +136,7 @@ module _ (calls : (c : Call) → Act) where
 
   -- ---- without a write cache, where every advance counts
 
-  further-direct : {further : List DirectEvent} → DirectFurther further → (s : System) → AllFurther calls s (flushedAfter further)
+  pub further-direct : {further : List DirectEvent} → DirectFurther further → (s : System) → AllFurther calls s (flushedAfter further)
   unfolding flushedAfter AllFurther
   further-direct no-call s = tt
   further-direct (one-advance f) s = (an-advance, (a-flushed, further-direct f _))

@@ -16,6 +16,7 @@ use Rattle.volume.specs.Records.{recordOf, stateRead}
 use Rattle.volume.specs.States.{tallyOf, zeros, inStage}
 use Rattle.promise.specs.Calls.{Call, grow, copy, checkpoint, advance, write, read, restart, flushed}
 use Rattle.promise.specs.Promise.{PromiseOf}
+use Rattle.promise.specs.WithoutCache.{PromiseWithoutCacheOf}
 
 -- what a call does with the state that it gets and what it sees of the medium
 abbrev pub Act : Type 0
@@ -158,3 +159,22 @@ pub record ShutOut : Type 0 where
   pub marks-later : PromiseOf marksLater → ⊥
   pub made-up-count : PromiseOf madeUpCount → ⊥
   pub keeps-copies : PromiseOf keepsCopies → ⊥
+  pub refuses-read : PromiseOf refusesRead → ⊥
+  pub exchanges-blocks : PromiseOf exchangesBlocks → ⊥
+  pub grows-always : PromiseOf growsAlways → ⊥
+  pub ends-early : PromiseOf endsEarly → ⊥
+  pub ends-late : PromiseOf endsLate → ⊥
+
+-- and of document 01's own, for drives that keep no store; two of them are wrong only where stores may be pending
+pub record ShutOutWithoutCache : Type 0 where
+  pub writes-nothing : PromiseWithoutCacheOf writesNothing → ⊥
+  pub writes-waiting : PromiseWithoutCacheOf writesWaiting → ⊥
+  pub never-advances : PromiseWithoutCacheOf neverAdvances → ⊥
+  pub marks-later : PromiseWithoutCacheOf marksLater → ⊥
+  pub made-up-count : PromiseWithoutCacheOf madeUpCount → ⊥
+  pub keeps-copies : PromiseWithoutCacheOf keepsCopies → ⊥
+  pub refuses-read : PromiseWithoutCacheOf refusesRead → ⊥
+  pub exchanges-blocks : PromiseWithoutCacheOf exchangesBlocks → ⊥
+  pub grows-always : PromiseWithoutCacheOf growsAlways → ⊥
+  pub ends-early : PromiseWithoutCacheOf endsEarly → ⊥
+  pub ends-late : PromiseWithoutCacheOf endsLate → ⊥
