@@ -1,29 +1,27 @@
 -- A list that leaves a growth running, and calls after it, computed: whether demand 3 is about it, and whether what is told is wrong:
 -- `growthTest`. One that is breaks a part of the demand.
-use Prim.Native.Nat.{ℕ, _-_, _<_}
-use mathlib.Core.Path.{_≡_, refl, sym, ap, ap₂, _∙_, subst}
+use Prim.Native.Nat.{ℕ, _-_}
+use mathlib.Core.Path.{_≡_, refl, sym, ap, ap₂, _∙_}
 use mathlib.Core.Bool.{Bool, true, false, cond, not, _&&_, _||_, false≢true}
 use mathlib.Core.List.{List, [], _∷_, _++_, append-nil, append-assoc}
 use mathlib.Core.Logic.{inl}
 use mathlib.Core.Option.{Option, none, some}
-use lib.Dec.{ltb, eqb}
-use lib.ListN.{length, take, replicate}
-use borrow.Author.Tests.{ltb-true, eqb-true, eq-eqb, not-true}
-use Rattle.base.proofs.Booleans.{and-left, and-right, and-both, by-test, clash}
-use Rattle.layout.specs.Tally.{Mode, isRunning, callsLeftOf}
+use lib.Dec.{eqb}
+use lib.ListN.{length, take}
+use borrow.Author.Tests.{eq-eqb, not-true}
+use Rattle.base.proofs.Booleans.{and-left, and-right, by-test, clash}
+use Rattle.layout.specs.Tally.{isRunning, callsLeftOf}
 use Rattle.volume.specs.Answers.{accepted, reported, toldFinished}
 use Rattle.promise.specs.Calls.{Call, advance, flushed, isAdvance}
-use Rattle.promise.specs.Lists.{Event, runs, cut, System, up, down, outcome, isAccepted, after, heard, later, afterAll, NoEarlyCut, Lawful, fedAll, lastReported, IsUp, AllFurther, tellings, finishedTold}
+use Rattle.promise.specs.Lists.{Event, runs, cut, System, outcome, isAccepted, after, heard, later, afterAll, NoEarlyCut, Lawful, lastReported, IsUp, tellings, finishedTold}
 use Rattle.promise.specs.Model.{Model}
 use Rattle.promise.specs.Promise.{Start, formatted, begin, systemAfter, modelOf}
-use Rattle.promise.specs.WithoutCache.{DirectEvent, ends, fails, flushedAfter, fromFormat, DirectFurther, advancesTold}
+use Rattle.promise.specs.WithoutCache.{DirectEvent, ends, fails, flushedAfter, fromFormat, advancesTold}
 use Rattle.promise.proofs.Theorem.{lawful-before}
-use Rattle.promise.proofs.WithoutCache.{from-append}
 use Rattle.worked.specs.WrongPrograms.{Act}
-use Rattle.worked.specs.Parts.{NoneTold, Finished, LastTold, CallsLeftTold, AdvanceAccepted, EveryGrowth, EveryFurther, EveryDirectGrowth, EveryDirectFurther}
+use Rattle.worked.specs.Parts.{CallsLeftTold, AdvanceAccepted, EveryGrowth, EveryDirectGrowth}
 use Rattle.worked.proofs.Reflects.{passed}
 use Rattle.worked.proofs.Computed.{Hearing, heardAll, computed, fed-same, heard-same, is-lawful, fed-before, modelFed, model-fed}
-use Rattle.worked.proofs.StillRuns.{further-direct}
 
 -- ---- what is heard
 
@@ -72,7 +70,7 @@ module _ (calls : (c : Call) → Act) where
       (by-test (isAdvance c) (λ t. rw t (append-assoc (before .advances) (told ∷ []) rest)) (λ t. rw t refl))
   heard-growth s (cut c left ∷ es) before = heard-growth (after calls s (cut c left)) es before
 
-  accepted-told : (s : System) (es : List Event) → finishedTold calls s es ≡ acceptedOnly (advancesHeard s es)
+  pub accepted-told : (s : System) (es : List Event) → finishedTold calls s es ≡ acceptedOnly (advancesHeard s es)
   unfolding finishedTold tellings advancesHeard acceptedOnly
   accepted-told s [] = refl
   accepted-told s (runs c ∷ es) =
@@ -83,7 +81,7 @@ module _ (calls : (c : Call) → Act) where
       (λ t. rw t rest)
   accepted-told s (cut c left ∷ es) = accepted-told (after calls s (cut c left)) es
 
-  direct-told : (s : System) (es : List DirectEvent) → advancesTold calls s es ≡ allOf (advancesHeard s (flushedAfter es))
+  pub direct-told : (s : System) (es : List DirectEvent) → advancesTold calls s es ≡ allOf (advancesHeard s (flushedAfter es))
   unfolding advancesTold flushedAfter advancesHeard allOf afterAll isAdvance
   direct-told s [] = refl
   direct-told s (ends c ∷ es) =
@@ -129,7 +127,7 @@ module _ (calls : (c : Call) → Act) (a : Start) (es : List Event) where
     pub is-running : isRunning (modelOf calls a es .tally .mode) ≡ true
 
   module _ (rest : List Event) where
-    abbrev heardThere : GrowthHeard
+    abbrev pub heardThere : GrowthHeard
     heardThere = record { number = lastReported calls (begin a) (es ++ rest) none; advances = advancesHeard calls (systemAfter calls a es) rest }
 
     -- what is wrong is worked out from what is heard, the model after the list, and the one after all
@@ -222,86 +220,3 @@ module _ (calls : (c : Call) → Act) (a : Start) (es : List Event) where
       → AdvanceAccepted calls a es → ⊥
   unfolding advancesHeard isAdvance someRefused
   refutes-advance t right = false≢true (rw right at t)
-
--- ---- parts about the further calls
-
-module _ (P : (told : List Bool) (mode : Mode) (n : ℕ) → Type 0) (wrong : (told : List Bool) (mode : Mode) (n : ℕ) → Bool)
-    (refutes : (told : List Bool) (mode : Mode) (n : ℕ) → wrong told mode n ≡ true → P told mode n → ⊥)
-    (calls : (c : Call) → Act) (a : Start) (es further : List DirectEvent) (f : DirectFurther further) where
-  -- what the advances told, those accepted or all
-  abbrev pub wrongFor : (counted : List (Bool × Bool) → List Bool) → GrowthHeard → Model → Model → Bool
-  wrongFor counted h k last = wrong (counted (h .advances)) (last .tally .mode) (callsLeftOf (k .tally))
-
-  abbrev wrongThere : (counted : List (Bool × Bool) → List Bool) → Bool
-  wrongThere counted =
-      wrongFor counted (heardThere calls a (fromFormat es) (flushedAfter further)) (modelOf calls a (fromFormat es)) (modelOf calls a (fromFormat es ++ flushedAfter further))
-
-  further-broken : Covered calls a (fromFormat es) → wrongThere acceptedOnly ≡ true → EveryFurther calls P → ⊥
-  unfolding fromFormat NoEarlyCut
-  further-broken c t every =
-      refutes _ _ _ t
-      (subst (λ (told : List Bool). P told (modelOf calls a (fromFormat es ++ flushedAfter further) .tally .mode) (callsLeftOf (modelOf calls a (fromFormat es) .tally)))
-      (accepted-told calls (systemAfter calls a (fromFormat es)) (flushedAfter further))
-      (every a (c .format-accepted) (fromFormat es) (c .lawful) (inl refl) (c .is-up) (c .is-running) (flushedAfter further) (further-direct calls f _)))
-
-  direct-broken : Covered calls a (fromFormat es) → wrongThere allOf ≡ true → EveryDirectFurther calls P → ⊥
-  direct-broken c t every =
-      refutes _ _ _ t
-      (subst (λ (l : List Event). P (allOf (advancesHeard calls (systemAfter calls a (fromFormat es)) (flushedAfter further))) (modelOf calls a l .tally .mode) (callsLeftOf (modelOf calls a (fromFormat es) .tally)))
-      (from-append es further)
-      (subst (λ (told : List Bool). P told (modelOf calls a (fromFormat (es ++ further)) .tally .mode) (callsLeftOf (modelOf calls a (fromFormat es) .tally)))
-      (direct-told calls (systemAfter calls a (fromFormat es)) further)
-      (every a (c .format-accepted) es (c .lawful) (c .is-up) (c .is-running) further f)))
-
-  pub broken-direct : growthTest calls a (fromFormat es) (flushedAfter further) (wrongFor allOf) ≡ true → EveryDirectFurther calls P → ⊥
-  broken-direct t =
-      let both = growth-tested calls a (fromFormat es) (flushedAfter further) (wrongFor allOf) t in
-      direct-broken (both .0) (both .1)
-
-  pub broken-twice : growthTest calls a (fromFormat es) (flushedAfter further) (λ h k last. wrongFor acceptedOnly h k last && wrongFor allOf h k last) ≡ true
-      → (EveryFurther calls P → ⊥) × (EveryDirectFurther calls P → ⊥)
-  broken-twice t =
-      let both = growth-tested calls a (fromFormat es) (flushedAfter further) (λ h k last. wrongFor acceptedOnly h k last && wrongFor allOf h k last) t in
-      (
-        further-broken (both .0) (and-left (wrongThere acceptedOnly) (wrongThere allOf) (both .1)),
-        direct-broken (both .0) (and-right (wrongThere acceptedOnly) (wrongThere allOf) (both .1)),
-      )
-
--- ---- what is wrong
-
-unfoldable pub sameTold : (told others : List Bool) → Bool
-sameTold [] [] = true
-sameTold [] (c ∷ others) = false
-sameTold (b ∷ told) [] = false
-sameTold (b ∷ told) (c ∷ others) = cond b c (not c) && sameTold told others
-
-same-told : (told : List Bool) → sameTold told told ≡ true
-unfolding sameTold
-same-told [] = refl
-same-told (true ∷ told) = same-told told
-same-told (false ∷ told) = same-told told
-
-not-same : (told others : List Bool) → not (sameTold told others) ≡ true → told ≡ others → ⊥
-not-same told others t e = clash (same-told told) (ap (sameTold told) e ∙ not-true _ t)
-
--- finished is told by one of fewer calls; it runs after all; the last of them does not tell it, or another does
-abbrev pub toldEarly : (told : List Bool) (mode : Mode) (n : ℕ) → Bool
-toldEarly told mode n = ltb (length told) n && not (sameTold told (replicate (length told) false))
-
-abbrev pub runsOn : (told : List Bool) (mode : Mode) (n : ℕ) → Bool
-runsOn told mode n = eqb (length told) n && isRunning mode
-
-abbrev pub toldLate : (told : List Bool) (mode : Mode) (n : ℕ) → Bool
-toldLate told mode n = eqb (length told) n && not (sameTold told (replicate (n - 1) false ++ (true ∷ [])))
-
-pub refutes-none-told : (told : List Bool) (mode : Mode) (n : ℕ) → toldEarly told mode n ≡ true → NoneTold told mode n → ⊥
-refutes-none-told told mode n t right =
-    not-same told _ (and-right (ltb (length told) n) _ t) (right (ltb-true (length told) n (and-left (ltb (length told) n) _ t)))
-
-pub refutes-finished : (told : List Bool) (mode : Mode) (n : ℕ) → runsOn told mode n ≡ true → Finished told mode n → ⊥
-refutes-finished told mode n t right =
-    clash (and-right (eqb (length told) n) _ t) (right (eqb-true (length told) n (and-left (eqb (length told) n) _ t)))
-
-pub refutes-last-told : (told : List Bool) (mode : Mode) (n : ℕ) → toldLate told mode n ≡ true → LastTold told mode n → ⊥
-refutes-last-told told mode n t right =
-    not-same told _ (and-right (eqb (length told) n) _ t) (right (eqb-true (length told) n (and-left (eqb (length told) n) _ t)))

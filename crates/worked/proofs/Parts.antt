@@ -1,8 +1,5 @@
 -- The parts of demand 3 are the demand: `parts-of-promise`.
-use mathlib.Core.Path.{_≡_}
-use mathlib.Core.List.{List}
 use Rattle.promise.specs.Calls.{Call}
-use Rattle.promise.specs.Lists.{Event}
 use Rattle.promise.specs.Promise.{PromiseOf}
 use Rattle.promise.specs.WithoutCache.{PromiseWithoutCacheOf}
 use Rattle.worked.specs.WrongPrograms.{Act}
@@ -43,7 +40,7 @@ module _ (calls : (c : Call) → Act) where
         advances = p .advances a ok es l early;
       }
 
-  parts-without-cache : PromiseWithoutCacheOf calls → PartsWithoutCache calls
+  pub parts-without-cache : PromiseWithoutCacheOf calls → PartsWithoutCache calls
   parts-without-cache kept =
       record {
         is-accepted = λ a ok es l before rest x piece e below whole. kept a ok es l .reads before rest x piece e below whole .is-accepted;

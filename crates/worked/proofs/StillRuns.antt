@@ -3,7 +3,7 @@
 -- its tally need not rise and any block may be copied.
 use Prim.Native.Nat.{ℕ, zero, suc, _+_, _-_, _*_, _/_, _≤_, _<_}
 use mathlib.Core.Path.{_≡_, refl, sym, ap, _∙_, subst}
-use mathlib.Core.Bool.{Bool, true, false, cond, _&&_}
+use mathlib.Core.Bool.{true}
 use mathlib.Core.List.{List, [], _∷_, _++_}
 use mathlib.Core.Logic.{_⊎_, inl, inr}
 use mathlib.Core.Option.{Option, none, some}
@@ -15,14 +15,13 @@ use Rattle.base.proofs.Booleans.{cond-cases, by-test}
 use Rattle.layout.specs.declared.Spot.{Spot}
 use Rattle.layout.specs.Growth.{oldBlockSpot, addedSpot, spotAfter}
 use Rattle.layout.specs.History.{diskCount, earlier, oldCount, addedCount, spotOf}
-use Rattle.layout.specs.Tally.{Tally, Mode, growing, isRunning, callsLeftOf, nextBlock, lastWindow}
+use Rattle.layout.specs.Tally.{Tally, growing, callsLeftOf, nextBlock, lastWindow}
 use Rattle.layout.specs.Windows.{windows, windowOfRow, oldSpot, moving, windowOf, callsLeft}
 use Rattle.layout.proofs.NextBlocks.{moving-old, next-some, next-none}
-use Rattle.volume.specs.Answers.{toldFinished}
 use Rattle.promise.specs.Calls.{Call, advance, flushed, isAdvance}
-use Rattle.promise.specs.Lists.{Event, runs, cut, System, outcome, isAccepted, after, fed, afterAll, fedAll, Further, an-advance, a-write, a-read, a-flushed, AllFurther, tellings, finishedTold}
+use Rattle.promise.specs.Lists.{Event, runs, cut, System, isAccepted, after, fed, afterAll, fedAll, an-advance, a-write, a-read, a-flushed, AllFurther, tellings, finishedTold}
 use Rattle.promise.specs.Model.{withBlocks, copiedTally, nextWindowTally, recordedTally, leaving, recording, advanceStep, stepOf, CachedModel, modelAfter, modelled}
-use Rattle.promise.specs.Promise.{Start, begin, systemAfter, modelOf}
+use Rattle.promise.specs.Promise.{begin, systemAfter, modelOf}
 use Rattle.promise.specs.WithoutCache.{DirectEvent, ends, fails, flushedAfter, fromFormat, DirectFurther, no-call, an-advance as one-advance, a-write as one-write, a-read as one-read, advancesTold}
 use Rattle.promise.proofs.CallsCounted.{left-of, fewer-now, full-here, is-last, turned, same-turned, none-ended}
 use Rattle.promise.proofs.FurtherCalls.{Counted, counted, quiet, counted-of, tellings-counted, advanced-tally}

@@ -18,7 +18,7 @@ use Rattle.worked.specs.Parts.{ReadAccepted, BytesRead, BytesStand, Ever
 use Rattle.worked.proofs.FasterCalls.{sameBytes, same-bytes}
 use Rattle.worked.proofs.Computed.{Tested, tested}
 use Rattle.worked.proofs.Computing.{computing}
-use Rattle.worked.proofs.BrokenReads.{ReadHeard, emptyPiece, heardThere, readTest, read-tested, broken, broken-twice, silent-flushed, refusedRead, otherBytes, otherRead, otherStands, refutes-accepted, refutes-read, refutes-stand}
+use Rattle.worked.proofs.BrokenReads.{ReadHeard, heardThere, readTest, read-tested, broken, broken-twice, silent-flushed, refusedRead, otherBytes, otherRead, otherStands, refutes-accepted, refutes-read, refutes-stand}
 
 -- unfolded, it opens what a computed list with a read needs
 unfoldable testing : Unit {0}
