@@ -13,14 +13,13 @@ use Rattle.base.specs.Below.{count}
 use Rattle.base.proofs.Booleans.{and-both, by-test}
 use Rattle.base.proofs.Counting.{count-none, count-split, count-less}
 use Rattle.layout.specs.History.{oldCount, addedCount}
-use Rattle.layout.specs.Laws.{Marks}
 use Rattle.layout.specs.Tally.{Tally, Mode, notGrowing, growing, isRunning, callsLeftOf, movesNow, nextBlock, windowFull, lastWindow}
 use Rattle.layout.specs.Windows.{windows, moving, windowOf, movingIn, uncopied, callsLeft}
 use Rattle.layout.proofs.NextBlocks.{moving-in-old, next-some, next-none, full-copied}
-use Rattle.layout.proofs.Theorems.{layout-laws}
 use Rattle.promise.specs.Calls.{advance}
 use Rattle.promise.specs.Model.{noBlock, withBlocks, copiedTally, nextWindowTally, finishedTally, recordedTally, checkpointFinishes, leaving, recording, advanceStep, stepOf}
 use Rattle.promise.proofs.Tallies.{Running}
+use Rattle.promise.proofs.Windows.{window-there}
 
 -- ---- U + R - w of a growth
 
@@ -28,13 +27,12 @@ pub left-of : (t : Tally) → t .mode ≡ growing → callsLeftOf t ≡ callsLef
 unfolding callsLeftOf
 left-of t e = ap (λ (mode : Mode). cond (isRunning mode) (callsLeft (t .rows) (t .counts) (t .window) (t .copied)) 0) e
 
--- U, whatever the tally is
-module _ (s : ℕ) (h : List ℕ) (w : ℕ) where
+module _ (s : ℕ) (h : List ℕ) (w : ℕ) (below : w < windows (oldCount h) (addedCount h) s) where
   -- a copy takes one off
-  pub fewer-copied : (copied : ℕ → Bool) (x : ℕ) → movingIn s h w x ≡ true → copied x ≡ false → (after : ℕ → Bool) → after x ≡ true
-      → ((y : ℕ) → y ≢ x → after y ≡ copied y) → uncopied s h w copied ≡ suc (uncopied s h w after)
-  unfolding uncopied
-  fewer-copied copied x moves new after now-copied others =
+  less-copied : (copied : ℕ → Bool) (x : ℕ) → movingIn s h w x ≡ true → copied x ≡ false → (after : ℕ → Bool) → after x ≡ true
+      → ((y : ℕ) → y ≢ x → after y ≡ copied y) → callsLeft s h w copied ≡ suc (callsLeft s h w after)
+  unfolding callsLeft uncopied
+  less-copied copied x moves new after now-copied others =
       let one : count (λ y. movingIn s h w y && not (copied y)) (oldCount h * s) ≡ suc (count (λ y. movingIn s h w y && not (after y)) (oldCount h * s)) =
       count-less _ _ (oldCount h * s) x (moving-in-old s h w x moves) (and-both moves (ap not new))
       (rw now-copied (and-false (movingIn s h w x))) (λ y other. rw (others y other)) in
@@ -57,10 +55,10 @@ module _ (s : ℕ) (h : List ℕ) (w : ℕ) where
             (λ t. let f : k ≤ w = ltb-false w k t in simp (t, ne-eqb k (suc w) e, le-ltb (suc w) k (omega arith)))
       ]
 
-  -- from a full window to the next it stays
-  pub same-turned : (copied : ℕ → Bool) → ((x : ℕ) → movingIn s h w x ≡ true → copied x ≡ true) → uncopied s h w copied ≡ uncopied s h (suc w) noBlock
-  unfolding uncopied noBlock movingIn
-  same-turned copied full =
+  -- the checkpoint of a full window takes one off
+  less-turned : (copied : ℕ → Bool) → ((x : ℕ) → movingIn s h w x ≡ true → copied x ≡ true) → callsLeft s h w copied ≡ suc (callsLeft s h (suc w) noBlock)
+  unfolding callsLeft uncopied noBlock movingIn
+  less-turned copied full =
       let split : count (λ x. moving s h x && ltb w (windowOf s h x)) (oldCount h * s)
       ≡ count (λ x. (moving s h x && eqb (windowOf s h x) (suc w)) && not false) (oldCount h * s)
       + count (λ x. moving s h x && ltb (suc w) (windowOf s h x)) (oldCount h * s) =
@@ -68,61 +66,28 @@ module _ (s : ℕ) (h : List ℕ) (w : ℕ) where
       let none-here = none-left copied full in
       omega (arith, split, none-here)
 
-  -- in a full window that is the last there is none
-  pub none-ended : (copied : ℕ → Bool) → ((x : ℕ) → movingIn s h w x ≡ true → copied x ≡ true) → suc w ≡ windows (oldCount h) (addedCount h) s
-      → ((x : ℕ) → moving s h x ≡ true → windowOf s h x < windows (oldCount h) (addedCount h) s) → uncopied s h w copied ≡ 0
-  unfolding uncopied
-  none-ended copied full last in-windows =
+  -- and that of the last window is the last call
+  less-ended : (copied : ℕ → Bool) → ((x : ℕ) → movingIn s h w x ≡ true → copied x ≡ true) → suc w ≡ windows (oldCount h) (addedCount h) s
+      → ((x : ℕ) → moving s h x ≡ true → windowOf s h x < windows (oldCount h) (addedCount h) s) → callsLeft s h w copied ≡ 1
+  unfolding callsLeft uncopied
+  less-ended copied full last in-windows =
       let later : count (λ x. moving s h x && ltb w (windowOf s h x)) (oldCount h * s) ≡ 0 =
       count-none _ (oldCount h * s) (λ x _. by-test (moving s h x)
       (λ e. let f = in-windows x e in rw e (le-ltb w (windowOf s h x) (omega arith))) (λ e. rw e)) in
       omega (arith, later, none-left copied full)
 
--- U + R - w, in a window of the growth
-module _ (s : ℕ) (h : List ℕ) (w : ℕ) (below : w < windows (oldCount h) (addedCount h) s) where
-  -- a copy takes one off
-  less-copied : (copied after : ℕ → Bool) → uncopied s h w copied ≡ suc (uncopied s h w after) → callsLeft s h w copied ≡ suc (callsLeft s h w after)
-  unfolding callsLeft
-  less-copied copied after one = omega (arith, one)
-
-  -- the checkpoint of a full window takes one off
-  less-turned : (copied : ℕ → Bool) → uncopied s h w copied ≡ uncopied s h (suc w) noBlock → callsLeft s h w copied ≡ suc (callsLeft s h (suc w) noBlock)
-  unfolding callsLeft
-  less-turned copied same = omega (arith, same)
-
-  -- and that of the last window is the last call
-  less-ended : (copied : ℕ → Bool) → uncopied s h w copied ≡ 0 → suc w ≡ windows (oldCount h) (addedCount h) s → callsLeft s h w copied ≡ 1
-  unfolding callsLeft
-  less-ended copied none-here last = omega (arith, none-here)
-
 -- ---- the steps of a tally
 
-module _ (t : Tally) where
-  -- a copy takes one off U
-  pub fewer-now : (x : ℕ) → movesNow t x ≡ true → t .copied x ≡ false
-      → uncopied (t .rows) (t .counts) (t .window) (t .copied) ≡ suc (uncopied (t .rows) (t .counts) (t .window) (copiedTally x t .copied))
-  unfolding copiedTally withBlocks movesNow
-  fewer-now x moves new =
-      fewer-copied (t .rows) (t .counts) (t .window) (t .copied) x moves new (copiedTally x t .copied) (simp (eq-eqb x x refl)) (λ y other. simp (ne-eqb y x other))
+-- a growth with a disk runs, within its windows
+pub record InWindow (t : Tally) : Type 0 where
+  pub is-growing : t .mode ≡ growing
+  pub some-disk : 0 < oldCount (t .counts) + addedCount (t .counts)
+  pub window-below : t .window < windows (oldCount (t .counts)) (addedCount (t .counts)) (t .rows)
 
-  pub full-here : windowFull t ≡ true → (x : ℕ) → movingIn (t .rows) (t .counts) (t .window) x ≡ true → t .copied x ≡ true
-  unfolding movesNow
-  full-here full x moves = full-copied t full x moves
+pub in-window : {t : Tally} → Running t → InWindow t
+in-window r = record { is-growing = r .is-growing; some-disk = omega (arith, r .some-old); window-below = r .window-below }
 
-  pub is-last : lastWindow t ≡ true → suc (t .window) ≡ windows (oldCount (t .counts)) (addedCount (t .counts)) (t .rows)
-  unfolding lastWindow
-  is-last last = eqb-true (suc (t .window)) (windows (oldCount (t .counts)) (addedCount (t .counts)) (t .rows)) last
-
-  -- the checkpoint of a full window
-  pub turned : windowFull t ≡ true → lastWindow t ≡ false → recordedTally t ≡ nextWindowTally t
-  unfolding recordedTally
-  turned full more = rw (full, more)
-
-  pub ended : windowFull t ≡ true → lastWindow t ≡ true → recordedTally t ≡ finishedTally t
-  unfolding recordedTally
-  ended full last = rw (full, last)
-
-pub left-positive : (t : Tally) → Running t → 0 < callsLeftOf t
+pub left-positive : (t : Tally) → InWindow t → 0 < callsLeftOf t
 unfolding callsLeft
 left-positive t r = rw (left-of t (r .is-growing)) (omega (arith, r .window-below))
 
@@ -130,7 +95,7 @@ pub data AdvanceStep (t : Tally) : Type 0 where
   goes-on : stepOf advance t .tally .mode ≡ growing → stepOf advance t .finishes ≡ false → callsLeftOf t ≡ suc (callsLeftOf (stepOf advance t .tally)) → AdvanceStep t
   ends : stepOf advance t .tally .mode ≡ notGrowing → stepOf advance t .finishes ≡ true → callsLeftOf t ≡ 1 → AdvanceStep t
 
-module _ (t : Tally) (r : Running t) where
+module _ (t : Tally) (r : InWindow t) where
   abbrev Step : (next : Option ℕ) → Type 0
   Step next = (advanceStep next t .tally .mode ≡ growing) × (advanceStep next t .finishes ≡ false) × (callsLeftOf t ≡ suc (callsLeftOf (advanceStep next t .tally)))
 
@@ -143,33 +108,42 @@ module _ (t : Tally) (r : Running t) where
     r .is-growing,
     refl,
     left-of t (r .is-growing)
-        ∙ less-copied (t .rows) (t .counts) (t .window) (r .window-below) (t .copied) (copiedTally x t .copied) (fewer-now t x moves new)
+        ∙ less-copied (t .rows) (t .counts) (t .window) (r .window-below) (t .copied) x moves new (copiedTally x t .copied)
+        (simp (eq-eqb x x refl)) (λ y other. simp (ne-eqb y x other))
         ∙ ap suc (sym (left-of (copiedTally x t) (r .is-growing))),
   )
 
+  full-here : windowFull t ≡ true → (x : ℕ) → movingIn (t .rows) (t .counts) (t .window) x ≡ true → t .copied x ≡ true
+  unfolding movesNow
+  full-here full x moves = full-copied t full x moves
+
+  turned : windowFull t ≡ true → lastWindow t ≡ false → recordedTally t ≡ nextWindowTally t
+  unfolding recordedTally
+  turned full more = rw (full, more)
+
+  ended : windowFull t ≡ true → lastWindow t ≡ true → recordedTally t ≡ finishedTally t
+  unfolding recordedTally
+  ended full last = rw (full, last)
+
   next-step : windowFull t ≡ true → lastWindow t ≡ false → Step none
-  unfolding advanceStep leaving recording checkpointFinishes nextWindowTally
+  unfolding advanceStep leaving recording checkpointFinishes nextWindowTally lastWindow
   next-step full more = (
-    ap (λ (u : Tally). u .mode) (turned t full more) ∙ r .is-growing,
+    ap (λ (u : Tally). u .mode) (turned full more) ∙ r .is-growing,
     rw (full, more),
     left-of t (r .is-growing)
-        ∙ less-turned (t .rows) (t .counts) (t .window) (r .window-below) (t .copied)
-        (same-turned (t .rows) (t .counts) (t .window) (t .copied) (full-here t full))
-        ∙ ap suc (sym (left-of (nextWindowTally t) (r .is-growing)) ∙ ap callsLeftOf (sym (turned t full more))),
+        ∙ less-turned (t .rows) (t .counts) (t .window) (r .window-below) (t .copied) (full-here full)
+        ∙ ap suc (sym (left-of (nextWindowTally t) (r .is-growing)) ∙ ap callsLeftOf (sym (turned full more))),
   )
 
   last-step : windowFull t ≡ true → lastWindow t ≡ true → Last none
-  unfolding advanceStep leaving recording checkpointFinishes finishedTally
+  unfolding advanceStep leaving recording checkpointFinishes finishedTally lastWindow
   last-step full last = (
-    ap (λ (u : Tally). u .mode) (ended t full last),
+    ap (λ (u : Tally). u .mode) (ended full last),
     rw (full, last),
     left-of t (r .is-growing)
-        ∙ less-ended (t .rows) (t .counts) (t .window) (r .window-below) (t .copied)
-        (none-ended (t .rows) (t .counts) (t .window) (t .copied) (full-here t full) (is-last t last) (marks .in-windows)) (is-last t last),
+        ∙ less-ended (t .rows) (t .counts) (t .window) (r .window-below) (t .copied) (full-here full)
+        (eqb-true (suc (t .window)) (windows (oldCount (t .counts)) (addedCount (t .counts)) (t .rows)) last) (window-there (t .rows) (t .counts)),
   )
-    where
-      marks : Marks (t .rows) (t .counts)
-      marks = layout-laws .marks-and-blocks (t .rows) (t .counts) (r .rise) (r .some-old)
 
   pub advance-step : AdvanceStep t
   unfolding stepOf

@@ -17,7 +17,7 @@ use Rattle.promise.specs.Lists.{callOutcome, Event, runs, cut, Drives, S
 use Rattle.promise.specs.Model.{leaving, saving, stepOf, Model, CachedModel, modelAfter, modelled}
 use Rattle.promise.specs.Promise.{Start, formatted, begin, systemAfter, modelOf}
 use Rattle.promise.specs.WithoutCache.{DirectEvent, ends as whole, fails, flushedAfter, fromFormat, systemWithout, modelWithout, DirectFurther, no-call, an-advance, a-write, a-read, advancesTold, DirectFinishing, PromiseWithoutCache}
-use Rattle.promise.proofs.CallsCounted.{left-positive, goes-on, ends, advance-step}
+use Rattle.promise.proofs.CallsCounted.{in-window, left-positive, goes-on, ends, advance-step}
 use Rattle.promise.proofs.PendingStores.{Live}
 use Rattle.promise.proofs.EventSteps.{Invariant, flushed-pending, flushed-keeps, other-keeps, keeps}
 use Rattle.promise.proofs.FurtherCalls.{Ending, ending-none, ending-more, ending-last, tally-runs, quiet-by, advance-after-flushed, advanced-tally, event-told}
@@ -101,17 +101,17 @@ direct-ending : {further : List DirectEvent} → DirectFurther further → (g : 
     → Live true g v d k told → v .pending ≡ nonePending → k .current .tally .mode ≡ growing
     → Ending (advancesTold callOutcome (up v d) further) (modelled (fedAll callOutcome (up v d) (flushedAfter further)) k .current .tally .mode) (callsLeftOf (k .current .tally))
 unfolding advancesTold flushedAfter modelled fedAll afterAll isAdvance after
-direct-ending no-call g v d k told i clear on = ending-none on (left-positive (k .current .tally) (tally-runs (i .up) on))
+direct-ending no-call g v d k told i clear on = ending-none on (left-positive (k .current .tally) (in-window (tally-runs (i .up) on)))
 direct-ending (an-advance f) g v d k told i clear on =
     let a = advance-after-flushed g v d k told i on clear in
     let j = both-keep g v d k told i advance (unfold settles in refl) in
     let next = model-both (up v d) advance k in
     let same : next .current .tally ≡ stepOf advance (k .current .tally) .tally = flushed-keeps-tally _ _ ∙ advanced-tally callOutcome (up v d) k a in
     let told-it = event-told true g v d k told i on a in
-    elim (advance-step (k .current .tally) (tally-runs (i .up) on)) [
+    elim (advance-step (k .current .tally) (in-window (tally-runs (i .up) on))) [
       | goes-on mode finish left ↦
           let still : next .current .tally .mode ≡ growing = ap (λ (t : Tally). t .mode) same ∙ mode in
-          rw (left, sym same, told-it ∙ finish) (ending-more (left-positive (next .current .tally) (tally-runs (j .0 .up) still)) (direct-ending f g _ _ next _ (j .0) (j .1) still))
+          rw (left, sym same, told-it ∙ finish) (ending-more (left-positive (next .current .tally) (in-window (tally-runs (j .0 .up) still))) (direct-ending f g _ _ next _ (j .0) (j .1) still))
       | ends mode finish left ↦
           rw (left, told-it ∙ finish) (ending-last (λ z. ap (λ (t : Tally). t .mode) (none-advanced f (after-both (up v d) advance) next z ∙ same) ∙ mode))
     ]

@@ -3,7 +3,7 @@
 use Rattle.worked.specs.WrongPrograms.{refusesRead, exchangesBlocks, writesNothing, writesWaiting, writesEarly, recordsEarly, neverAdvances, marksLater, endsEarly, endsLate, madeUpCount, keepsCopies, growsAlways, ShutOut, ShutOutWithoutCache}
 use Rattle.worked.specs.Parts.{PartsBroken, PartsBrokenWithoutCache}
 use Rattle.worked.proofs.Parts.{parts, parts-without-cache}
-use Rattle.worked.proofs.StillRuns.{still-runs, still-runs-direct}
+use Rattle.worked.proofs.EveryProgram.{still-runs, finished-left, still-runs-direct}
 use Rattle.worked.proofs.WrongReads.{refuses-read, exchanges-blocks, writes-nothing, writes-waiting, marks-later, writes-early, records-early}
 use Rattle.worked.proofs.WrongGrowths.{made-up-count, keeps-copies, never-advances, never-finishes, ends-early, ends-late, grows-always}
 
@@ -18,6 +18,7 @@ parts-broken =
       still-runs = still-runs;
       none-told = ends-early .0;
       finished = grows-always .0;
+      finished-left = finished-left;
       last-told = ends-late .0;
       advances = never-advances;
     }

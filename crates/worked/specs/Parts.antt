@@ -1,6 +1,6 @@
 -- Each part of demand 3 alone, as a claim about a program: `Parts` for drives with a write cache (document 02, W4), `PartsWithoutCache` for
--- drives that keep no store. Together they are the demand, and for each part but one there is a program that breaks it: `PartsBroken` and
--- `PartsBrokenWithoutCache`. Proofs in `proofs/Parts.antt`, `proofs/StillRuns.antt` and `proofs/WrongPrograms.antt`.
+-- drives that keep no store. Together they are the demand: `PartsOfPromise`. For each part but one there is a program that breaks it:
+-- `PartsBroken` and `PartsBrokenWithoutCache`. Proofs in `proofs/Parts.antt`, `proofs/EveryProgram.antt` and `proofs/WrongPrograms.antt`.
 use Prim.Native.Nat.{ℕ, _-_, _<_}
 use mathlib.Core.Path.{_≡_}
 use mathlib.Core.Bool.{Bool, true, false}
@@ -136,10 +136,12 @@ pub record PartsBroken : Type 0 where
   pub bytes-stand : EveryRead exchangesBlocks (BytesStand exchangesBlocks) → ⊥
   pub calls-left : EveryGrowth madeUpCount (CallsLeftTold madeUpCount) → ⊥
   pub calls-left-restart : EveryGrowth keepsCopies (CallsLeftTold keepsCopies) → ⊥
-  -- no program breaks this one: an accepted advance takes at most one call off what the tally has left, and no other further call does
+  -- no program breaks this one: an accepted advance takes one call off what the tally has left, and no other further call does
   pub still-runs : (calls : (c : Call) → Act) → EveryFurther calls StillRuns
   pub none-told : EveryFurther endsEarly NoneTold → ⊥
   pub finished : EveryFurther growsAlways Finished → ⊥
+  -- and this one only where no call is left
+  pub finished-left : (calls : (c : Call) → Act) → EveryFurther calls (λ told mode n. 0 < n → Finished told mode n)
   pub last-told : EveryFurther endsLate LastTold → ⊥
   pub advances : EveryGrowth neverAdvances (AdvanceAccepted neverAdvances) → ⊥
 
