@@ -163,7 +163,7 @@ abbrev pub lawfulResult : {X : Type 0} (fs : List Fed) (x : X) → Result X
 lawfulResult fs x = record { lawful = true; fed = fs; heard = x }
 
 module _ (calls : (c : Call) → Act) {X : Type 0} (hear : Hearing X) (s : System) (es : List Event) (before : X) (fs : List Fed) (x : X) where
-  pub facts : computed calls hear s es before ≡ lawfulResult fs x → Facts calls hear s es before fs x
+  facts : computed calls hear s es before ≡ lawfulResult fs x → Facts calls hear s es before fs x
   facts e =
       record {
         lawful = passed (is-lawful calls hear s es before) (ap (λ (r : Result X). r .lawful) e);

@@ -41,8 +41,8 @@ pub record Inside (t : Tally) : Type 0 where
   pub some-row : 0 < t .rows
   pub below : t .mode ≡ growing → 0 < disksOf t → t .window < windows (oldCount (t .counts)) (addedCount (t .counts)) (t .rows)
 
-resting : {P : Type 0} → notGrowing ≡ growing → P
-resting e = absurd (false≢true (ap isRunning e))
+no-growth : {P : Type 0} → notGrowing ≡ growing → P
+no-growth e = absurd (false≢true (ap isRunning e))
 
 first-window : (m n s : ℕ) → 0 < m + n → 0 < s → 0 < windows m n s
 unfolding windows
@@ -56,7 +56,7 @@ inside-recorded : (t : Tally) → Inside t → Inside (recordedTally t)
 unfolding recordedTally finishedTally nextWindowTally lastWindow
 inside-recorded t i =
     cond-cases Inside (windowFull t)
-    (λ _. cond-cases Inside (lastWindow t) (λ _. record { some-row = i .some-row; below = λ e. resting e })
+    (λ _. cond-cases Inside (lastWindow t) (λ _. record { some-row = i .some-row; below = λ e. no-growth e })
     (λ more. record {
       some-row = i .some-row;
       below = λ on disk. let w = i .below on disk in
@@ -124,7 +124,7 @@ unfolding nothingPending startModel startTally formatted
 inside-start a ok =
     let block = some-block (a .size) (a .rows) (a .disks) _ ok in
     let row : 0 < a .rows = some-disk (a .rows) (a .disks) 0 (omega (arith, block, mul-comm (a .disks) (a .rows))) in
-    record { now = record { some-row = row; below = λ e. resting e }; before = tt }
+    record { now = record { some-row = row; below = λ e. no-growth e }; before = tt }
 
 -- ---- an advance
 

@@ -12,6 +12,10 @@ parts-broken =
     record {
       is-accepted = refuses-read .0;
       bytes-read = writes-nothing .0;
+      bytes-read-waiting = writes-waiting .0;
+      bytes-read-early = writes-early;
+      bytes-read-recorded = records-early;
+      bytes-read-marked = marks-later .0;
       bytes-stand = exchanges-blocks .0;
       calls-left = made-up-count .0;
       calls-left-restart = keeps-copies .0;
@@ -28,6 +32,8 @@ parts-broken-without-cache =
     record {
       is-accepted = refuses-read .1;
       bytes-read = writes-nothing .1;
+      bytes-read-waiting = writes-waiting .1;
+      bytes-read-marked = marks-later .1;
       bytes-stand = exchanges-blocks .1;
       calls-left = made-up-count .1;
       calls-left-restart = keeps-copies .1;

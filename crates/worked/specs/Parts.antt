@@ -15,7 +15,7 @@ use Rattle.promise.specs.Lists.{Event, runs, mediumOf, outcome, isAccepted, aft
 use Rattle.promise.specs.Promise.{Start, formatted, begin, systemAfter, modelOf, PromiseOf}
 use Rattle.promise.specs.WithoutCache.{DirectEvent, ends, fromFormat, DirectFurther, systemWithout, modelWithout, advancesTold, PromiseWithoutCacheOf}
 use Rattle.worked.specs.Worked.{blockOf}
-use Rattle.worked.specs.WrongPrograms.{Act, refusesRead, exchangesBlocks, writesNothing, neverAdvances, madeUpCount, keepsCopies, growsAlways, endsEarly, endsLate}
+use Rattle.worked.specs.WrongPrograms.{Act, refusesRead, exchangesBlocks, writesNothing, writesWaiting, writesEarly, recordsEarly, neverAdvances, marksLater, madeUpCount, keepsCopies, growsAlways, endsEarly, endsLate}
 
 -- ---- what is said of each further list, after which advances told so, the mode is so, and before which n calls were left
 
@@ -133,6 +133,10 @@ savedFirst = ends (write 0 (blockOf 1)) ∷ []
 pub record PartsBroken : Type 0 where
   pub is-accepted : EveryRead refusesRead (ReadAccepted refusesRead) → ⊥
   pub bytes-read : EveryRead writesNothing (BytesRead writesNothing) → ⊥
+  pub bytes-read-waiting : EveryRead writesWaiting (BytesRead writesWaiting) → ⊥
+  pub bytes-read-early : EveryRead writesEarly (BytesRead writesEarly) → ⊥
+  pub bytes-read-recorded : EveryRead recordsEarly (BytesRead recordsEarly) → ⊥
+  pub bytes-read-marked : EveryRead marksLater (BytesRead marksLater) → ⊥
   pub bytes-stand : EveryRead exchangesBlocks (BytesStand exchangesBlocks) → ⊥
   pub calls-left : EveryGrowth madeUpCount (CallsLeftTold madeUpCount) → ⊥
   pub calls-left-restart : EveryGrowth keepsCopies (CallsLeftTold keepsCopies) → ⊥
@@ -148,6 +152,8 @@ pub record PartsBroken : Type 0 where
 pub record PartsBrokenWithoutCache : Type 0 where
   pub is-accepted : EveryDirectRead refusesRead (ReadAccepted refusesRead) → ⊥
   pub bytes-read : EveryDirectRead writesNothing (BytesRead writesNothing) → ⊥
+  pub bytes-read-waiting : EveryDirectRead writesWaiting (BytesRead writesWaiting) → ⊥
+  pub bytes-read-marked : EveryDirectRead marksLater (BytesRead marksLater) → ⊥
   pub bytes-stand : EveryDirectRead exchangesBlocks (BytesStand exchangesBlocks) → ⊥
   pub calls-left : EveryDirectGrowth madeUpCount (λ a es. CallsLeftTold madeUpCount a (fromFormat es)) → ⊥
   pub calls-left-restart : EveryDirectGrowth keepsCopies (λ a es. CallsLeftTold keepsCopies a (fromFormat es)) → ⊥

@@ -1,5 +1,6 @@
--- Programs that demand 3 shuts out (document 01, "What each contract carries" and "Near errors"; document 02, W4), each of them ours but for one
--- call: `ShutOut`. `proofs/WrongPrograms.antt` has the proof: a list, computed, at which each of them breaks the promise.
+-- Programs that demand 3 shuts out (document 01, "What each contract carries" and "Near errors"; document 02, W4), each of them ours but for a
+-- call or two: `ShutOut`, and for drives that keep no store `ShutOutWithoutCache`. `proofs/WrongReads.antt` and `proofs/WrongGrowths.antt` have
+-- for each a list, computed, at which it breaks a part of the demand.
 use Prim.Native.Nat.{ℕ, _-_}
 use mathlib.Core.Bool.{cond, _&&_, _||_}
 use mathlib.Core.List.{List, [], _++_}
