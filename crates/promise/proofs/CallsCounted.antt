@@ -13,18 +13,17 @@ use Rattle.base.specs.Below.{count}
 use Rattle.base.proofs.Booleans.{and-both, by-test}
 use Rattle.base.proofs.Counting.{count-none, count-split, count-less}
 use Rattle.layout.specs.History.{oldCount, addedCount}
-use Rattle.layout.specs.Laws.{Marks}
 use Rattle.layout.specs.Tally.{Tally, Mode, notGrowing, growing, isRunning, callsLeftOf, movesNow, nextBlock, windowFull, lastWindow}
 use Rattle.layout.specs.Windows.{windows, moving, windowOf, movingIn, uncopied, callsLeft}
 use Rattle.layout.proofs.NextBlocks.{moving-in-old, next-some, next-none, full-copied}
-use Rattle.layout.proofs.Theorems.{layout-laws}
 use Rattle.promise.specs.Calls.{advance}
 use Rattle.promise.specs.Model.{noBlock, withBlocks, copiedTally, nextWindowTally, finishedTally, recordedTally, checkpointFinishes, leaving, recording, advanceStep, stepOf}
 use Rattle.promise.proofs.Tallies.{Running}
+use Rattle.promise.proofs.Windows.{window-there}
 
 -- ---- U + R - w of a growth
 
-left-of : (t : Tally) → t .mode ≡ growing → callsLeftOf t ≡ callsLeft (t .rows) (t .counts) (t .window) (t .copied)
+pub left-of : (t : Tally) → t .mode ≡ growing → callsLeftOf t ≡ callsLeft (t .rows) (t .counts) (t .window) (t .copied)
 unfolding callsLeftOf
 left-of t e = ap (λ (mode : Mode). cond (isRunning mode) (callsLeft (t .rows) (t .counts) (t .window) (t .copied)) 0) e
 
@@ -79,7 +78,16 @@ module _ (s : ℕ) (h : List ℕ) (w : ℕ) (below : w < windows (oldCount h) (a
 
 -- ---- the steps of a tally
 
-pub left-positive : (t : Tally) → Running t → 0 < callsLeftOf t
+-- a growth with a disk runs, within its windows
+pub record InWindow (t : Tally) : Type 0 where
+  pub is-growing : t .mode ≡ growing
+  pub some-disk : 0 < oldCount (t .counts) + addedCount (t .counts)
+  pub window-below : t .window < windows (oldCount (t .counts)) (addedCount (t .counts)) (t .rows)
+
+pub in-window : {t : Tally} → Running t → InWindow t
+in-window r = record { is-growing = r .is-growing; some-disk = omega (arith, r .some-old); window-below = r .window-below }
+
+pub left-positive : (t : Tally) → InWindow t → 0 < callsLeftOf t
 unfolding callsLeft
 left-positive t r = rw (left-of t (r .is-growing)) (omega (arith, r .window-below))
 
@@ -87,7 +95,7 @@ pub data AdvanceStep (t : Tally) : Type 0 where
   goes-on : stepOf advance t .tally .mode ≡ growing → stepOf advance t .finishes ≡ false → callsLeftOf t ≡ suc (callsLeftOf (stepOf advance t .tally)) → AdvanceStep t
   ends : stepOf advance t .tally .mode ≡ notGrowing → stepOf advance t .finishes ≡ true → callsLeftOf t ≡ 1 → AdvanceStep t
 
-module _ (t : Tally) (r : Running t) where
+module _ (t : Tally) (r : InWindow t) where
   abbrev Step : (next : Option ℕ) → Type 0
   Step next = (advanceStep next t .tally .mode ≡ growing) × (advanceStep next t .finishes ≡ false) × (callsLeftOf t ≡ suc (callsLeftOf (advanceStep next t .tally)))
 
@@ -134,11 +142,8 @@ module _ (t : Tally) (r : Running t) where
     rw (full, last),
     left-of t (r .is-growing)
         ∙ less-ended (t .rows) (t .counts) (t .window) (r .window-below) (t .copied) (full-here full)
-        (eqb-true (suc (t .window)) (windows (oldCount (t .counts)) (addedCount (t .counts)) (t .rows)) last) (marks .in-windows),
+        (eqb-true (suc (t .window)) (windows (oldCount (t .counts)) (addedCount (t .counts)) (t .rows)) last) (window-there (t .rows) (t .counts)),
   )
-    where
-      marks : Marks (t .rows) (t .counts)
-      marks = layout-laws .marks-and-blocks (t .rows) (t .counts) (r .rise) (r .some-old)
 
   pub advance-step : AdvanceStep t
   unfolding stepOf

@@ -25,7 +25,7 @@ use Rattle.promise.specs.Calls.{Call, advance, write, read, flushed, set
 use Rattle.promise.specs.Lists.{callOutcome, Event, runs, cut, Drives, System, up, memoryOf, outcome, isAccepted, after, fed, fedAll, Further, an-advance, a-write, a-read, a-flushed, a-refused, AllFurther, tellings, finishedTold}
 use Rattle.promise.specs.Model.{checkpointFinishes, leaving, saving, recording, advanceStep, stepOf, Model, stepped, accepting, CachedModel, nothingPending, withStep, following, modelAfter, modelled}
 use Rattle.promise.proofs.Tallies.{Running}
-use Rattle.promise.proofs.CallsCounted.{left-positive, goes-on, ends, advance-step}
+use Rattle.promise.proofs.CallsCounted.{in-window, left-positive, goes-on, ends, advance-step}
 use Rattle.promise.proofs.StateTallies.{running-of, resting-of}
 use Rattle.promise.proofs.Steps.{Up, advance-told}
 use Rattle.promise.proofs.PendingStores.{seen, Live}
@@ -128,40 +128,69 @@ module _ {g : Geometry} {v : Volume} {o : Observations} {k : Model} {told : Opti
       (λ _ _. advancing-told v o state-grows (nextBlock (tallyOf v)))
       (λ f e. absurd (f (eqb-true _ 0 (unfold refused accepted number in e)))))
 
--- ---- an advance that is accepted, and calls that leave the tally as it is and tell nothing of the growth
+pub one-told : {l rest : List Bool} {b : Bool} → l ≡ b ∷ rest → length l ≡ 0 → ⊥
+one-told {rest = rest} e z = let k : suc (length rest) ≡ 0 = rw e at z in omega arith
 
-pub record Quiet (s : System) (c : Call) : Type 0 where
-  pub tally-kept : (k : CachedModel) → modelAfter (fed callOutcome s (runs c)) k .current .tally ≡ k .current .tally
-  pub none-told : (rest : List Bool) → tellings callOutcome s (runs c) rest ≡ rest
+-- ---- an advance that is accepted, and calls that leave the tally as it is and tell nothing of the growth; of any program
 
-pub data Counted (s : System) : Event → Type 0 where
-  counted : isAccepted callOutcome advance s ≡ true → Counted s (runs advance)
-  quiet : {c : Call} → Quiet s c → Counted s (runs c)
+module _ (calls : (c : Call) (v : Volume) (o : Observations) → Outcome) where
+  pub record Quiet (s : System) (c : Call) : Type 0 where
+    pub tally-kept : (k : CachedModel) → modelAfter (fed calls s (runs c)) k .current .tally ≡ k .current .tally
+    pub none-told : (rest : List Bool) → tellings calls s (runs c) rest ≡ rest
 
-quiet-refused : (s : System) (c : Call) → isAccepted callOutcome c s ≡ false → Quiet s c
-unfolding fed modelAfter tellings
-quiet-refused s c e = record { tally-kept = λ k. rw e refl; none-told = λ rest. rw (e, and-false (isAdvance c)) refl }
+  pub data Counted (s : System) : Event → Type 0 where
+    counted : isAccepted calls advance s ≡ true → Counted s (runs advance)
+    quiet : {c : Call} → Quiet s c → Counted s (runs c)
 
-pub quiet-by : (s : System) (c : Call) → isAdvance c ≡ false → ((t : Tally) → stepOf c t .tally ≡ t) → Quiet s c
-unfolding fed
-quiet-by s c e same = record { tally-kept = λ k. kept k (isAccepted callOutcome c s); none-told = λ rest. unfold tellings in rw e refl }
-  where
-    through : (k : CachedModel) (b : Bool) → settles c ≡ b → following c k .current .tally ≡ k .current .tally
-    through k true s = unfold following nothingPending accepting stepped in rw s (same (k .current .tally))
-    through k false s = unfold following withStep stepped in rw s (same (k .current .tally))
+  quiet-refused : (s : System) (c : Call) → isAccepted calls c s ≡ false → Quiet s c
+  unfolding fed modelAfter tellings
+  quiet-refused s c e = record { tally-kept = λ k. rw e refl; none-told = λ rest. rw (e, and-false (isAdvance c)) refl }
 
-    kept : (k : CachedModel) (ok : Bool) → modelAfter (ended c ok) k .current .tally ≡ k .current .tally
-    kept k true = unfold modelAfter in through k (settles c) refl
-    kept k false = unfold modelAfter in refl
+  pub quiet-by : (s : System) (c : Call) → isAdvance c ≡ false → ((t : Tally) → stepOf c t .tally ≡ t) → Quiet s c
+  unfolding fed
+  quiet-by s c e same = record { tally-kept = λ k. kept k (isAccepted calls c s); none-told = λ rest. unfold tellings in rw e refl }
+    where
+      through : (k : CachedModel) (b : Bool) → settles c ≡ b → following c k .current .tally ≡ k .current .tally
+      through k true s = unfold following nothingPending accepting stepped in rw s (same (k .current .tally))
+      through k false s = unfold following withStep stepped in rw s (same (k .current .tally))
 
-counted-of : (s : System) (e : Event) → Further callOutcome s e → Counted s e
-unfolding stepOf leaving saving isAdvance
-counted-of s e an-advance =
-    by-test (isAccepted callOutcome advance s) (λ f. counted f) (λ f. quiet (quiet-refused s advance f))
-counted-of s e (a-write {x = x} {piece = piece}) = quiet (quiet-by s (write x piece) refl (λ t. refl))
-counted-of s e (a-read {x = x} {piece = piece}) = quiet (quiet-by s (read x piece) refl (λ t. refl))
-counted-of s e a-flushed = quiet (quiet-by s flushed refl (λ t. refl))
-counted-of s e (a-refused {c = c} f) = quiet (quiet-refused s c f)
+      kept : (k : CachedModel) (ok : Bool) → modelAfter (ended c ok) k .current .tally ≡ k .current .tally
+      kept k true = unfold modelAfter in through k (settles c) refl
+      kept k false = unfold modelAfter in refl
+
+  pub counted-of : (s : System) (e : Event) → Further calls s e → Counted s e
+  unfolding stepOf leaving saving isAdvance
+  counted-of s e an-advance =
+      by-test (isAccepted calls advance s) (λ f. counted f) (λ f. quiet (quiet-refused s advance f))
+  counted-of s e (a-write {x = x} {piece = piece}) = quiet (quiet-by s (write x piece) refl (λ t. refl))
+  counted-of s e (a-read {x = x} {piece = piece}) = quiet (quiet-by s (read x piece) refl (λ t. refl))
+  counted-of s e a-flushed = quiet (quiet-by s flushed refl (λ t. refl))
+  counted-of s e (a-refused {c = c} f) = quiet (quiet-refused s c f)
+
+  pub tellings-counted : (s : System) → isAccepted calls advance s ≡ true → (rest : List Bool)
+      → tellings calls s (runs advance) rest ≡ toldFinished (outcome calls advance s .reply .answer) ∷ rest
+  unfolding tellings isAdvance
+  tellings-counted s a rest = rw a refl
+
+  pub advanced-tally : (s : System) (k : CachedModel) → isAccepted calls advance s ≡ true
+      → modelAfter (fed calls s (runs advance)) k .current .tally ≡ stepOf advance (k .current .tally) .tally
+  unfolding fed modelAfter following settles withStep stepped
+  advanced-tally s k a = rw a refl
+
+  -- with no advance accepted the tally stays
+  pub none-advanced : (es : List Event) (s : System) (k : CachedModel) → AllFurther calls s es → length (finishedTold calls s es) ≡ 0
+      → modelled (fedAll calls s es) k .current .tally ≡ k .current .tally
+  unfolding finishedTold modelled fedAll AllFurther
+  none-advanced [] s k f e = refl
+  none-advanced (e ∷ es) s k f z = go e (counted-of s e (f .0)) z (none-advanced es (after calls s e) (modelAfter (fed calls s e) k) (f .1))
+    where
+      go : (e : Event) → Counted s e
+          → length (tellings calls s e (finishedTold calls (after calls s e) es)) ≡ 0
+          → (length (finishedTold calls (after calls s e) es) ≡ 0
+          → modelled (fedAll calls (after calls s e) es) (modelAfter (fed calls s e) k) .current .tally ≡ modelAfter (fed calls s e) k .current .tally)
+          → modelled (fedAll calls (after calls s e) es) (modelAfter (fed calls s e) k) .current .tally ≡ k .current .tally
+      go e (counted a) z more = absurd (one-told (tellings-counted s a _) z)
+      go e (quiet {c = c} q) z more = more (rw (q .none-told _) at z) ∙ q .tally-kept k
 
 -- the invariant
 further-keeps : (sure : Bool) (g : Geometry) (v : Volume) (d : Drives) (k : CachedModel) (told : Option ℕ) → Live sure g v d k told → (e : Event)
@@ -183,36 +212,9 @@ further-keeps sure g v d k told i e (a-refused {c = c} f) =
 
 -- ---- lists
 
-tellings-counted : (s : System) → isAccepted callOutcome advance s ≡ true → (rest : List Bool)
-    → tellings callOutcome s (runs advance) rest ≡ toldFinished (outcome callOutcome advance s .reply .answer) ∷ rest
-unfolding tellings isAdvance
-tellings-counted s a rest = rw a refl
-
-pub one-told : {l rest : List Bool} {b : Bool} → l ≡ b ∷ rest → length l ≡ 0 → ⊥
-one-told {rest = rest} e z = let k : suc (length rest) ≡ 0 = rw e at z in omega arith
-
--- with no advance accepted the tally stays
-none-advanced : (es : List Event) (s : System) (k : CachedModel) → AllFurther callOutcome s es → length (finishedTold callOutcome s es) ≡ 0
-    → modelled (fedAll callOutcome s es) k .current .tally ≡ k .current .tally
-unfolding finishedTold modelled fedAll AllFurther
-none-advanced [] s k f e = refl
-none-advanced (e ∷ es) s k f z = go e (counted-of s e (f .0)) z (none-advanced es (after callOutcome s e) (modelAfter (fed callOutcome s e) k) (f .1))
-  where
-    go : (e : Event) → Counted s e
-        → length (tellings callOutcome s e (finishedTold callOutcome (after callOutcome s e) es)) ≡ 0
-        → (length (finishedTold callOutcome (after callOutcome s e) es) ≡ 0
-        → modelled (fedAll callOutcome (after callOutcome s e) es) (modelAfter (fed callOutcome s e) k) .current .tally ≡ modelAfter (fed callOutcome s e) k .current .tally)
-        → modelled (fedAll callOutcome (after callOutcome s e) es) (modelAfter (fed callOutcome s e) k) .current .tally ≡ k .current .tally
-    go e (counted a) z more = absurd (one-told (tellings-counted s a _) z)
-    go e (quiet {c = c} q) z more = more (rw (q .none-told _) at z) ∙ q .tally-kept k
-
 -- an advance that is accepted, as an event
 module _ (sure : Bool) (g : Geometry) (v : Volume) (d : Drives) (k : CachedModel) (told : Option ℕ) (i : Live sure g v d k told)
     (on : k .current .tally .mode ≡ growing) (a : isAccepted callOutcome advance (up v d) ≡ true) where
-  pub event-tally : modelAfter (fed callOutcome (up v d) (runs advance)) k .current .tally ≡ stepOf advance (k .current .tally) .tally
-  unfolding fed modelAfter following settles withStep stepped
-  event-tally = rw a refl
-
   pub event-told : toldFinished (outcome callOutcome advance (up v d) .reply .answer) ≡ stepOf advance (k .current .tally) .finishes
   unfolding outcome memoryOf callOutcome
   event-told =
@@ -250,21 +252,21 @@ module _ (sure : Bool) (g : Geometry) (v : Volume) (d : Drives) (k : CachedModel
   abbrev last : (c : Call) → CachedModel
   last c = modelled (fedAll callOutcome (after callOutcome (up v d) (runs c)) es) (next c)
 
-  one-more : (c : Call) → Counted (up v d) (runs c) → Next g k told sure (up v d) (runs c)
+  one-more : (c : Call) → Counted callOutcome (up v d) (runs c) → Next g k told sure (up v d) (runs c)
       → (next c .current .tally .mode ≡ growing → Ending (rest c) (last c .current .tally .mode) (callsLeftOf (next c .current .tally)))
       → (length (rest c) ≡ 0 → last c .current .tally ≡ next c .current .tally)
       → Ending (tellings callOutcome (up v d) (runs c) (rest c)) (last c .current .tally .mode) (callsLeftOf (k .current .tally))
   unfolding after
   one-more c (counted a) j more stays =
-      let same : next advance .current .tally ≡ stepOf advance (k .current .tally) .tally = event-tally sure g v d k told i on a in
+      let same : next advance .current .tally ≡ stepOf advance (k .current .tally) .tally = advanced-tally callOutcome (up v d) k a in
       let told-it = event-told sure g v d k told i on a in
-      elim (advance-step (k .current .tally) (tally-runs (i .up) on)) [
+      elim (advance-step (k .current .tally) (in-window (tally-runs (i .up) on))) [
         | goes-on mode finish left ↦
             let still : next advance .current .tally .mode ≡ growing = ap (λ (t : Tally). t .mode) same ∙ mode in
-            rw (tellings-counted (up v d) a (rest advance), left, sym same, told-it ∙ finish)
-            (ending-more (left-positive (next advance .current .tally) (tally-runs (j .up) still)) (more still))
+            rw (tellings-counted callOutcome (up v d) a (rest advance), left, sym same, told-it ∙ finish)
+            (ending-more (left-positive (next advance .current .tally) (in-window (tally-runs (j .up) still))) (more still))
         | ends mode finish left ↦
-            rw (tellings-counted (up v d) a (rest advance), left, told-it ∙ finish)
+            rw (tellings-counted callOutcome (up v d) a (rest advance), left, told-it ∙ finish)
             (ending-last (λ z. ap (λ (t : Tally). t .mode) (stays z ∙ same) ∙ mode))
       ]
   one-more c (quiet q) j more stays =
@@ -274,9 +276,9 @@ pub ending : (es : List Event) (sure : Bool) (g : Geometry) (v : Volume) (d : Dr
     → k .current .tally .mode ≡ growing → AllFurther callOutcome (up v d) es
     → Ending (finishedTold callOutcome (up v d) es) (modelled (fedAll callOutcome (up v d) es) k .current .tally .mode) (callsLeftOf (k .current .tally))
 unfolding finishedTold modelled fedAll AllFurther after
-ending [] sure g v d k told i on f = ending-none on (left-positive (k .current .tally) (tally-runs (i .up) on))
+ending [] sure g v d k told i on f = ending-none on (left-positive (k .current .tally) (in-window (tally-runs (i .up) on)))
 ending (cut c left ∷ es) sure g v d k told i on f = absurd (is-run (up v d) (cut c left) (f .0))
 ending (runs c ∷ es) sure g v d k told i on f =
     let j : Next g k told sure (up v d) (runs c) = further-keeps sure g v d k told i (runs c) (f .0) in
-    one-more sure g v d k told i on es c (counted-of (up v d) (runs c) (f .0)) j (λ still. ending es sure g _ _ _ _ j still (f .1))
-    (none-advanced es (after callOutcome (up v d) (runs c)) (modelAfter (fed callOutcome (up v d) (runs c)) k) (f .1))
+    one-more sure g v d k told i on es c (counted-of callOutcome (up v d) (runs c) (f .0)) j (λ still. ending es sure g _ _ _ _ j still (f .1))
+    (none-advanced callOutcome es (after callOutcome (up v d) (runs c)) (modelAfter (fed callOutcome (up v d) (runs c)) k) (f .1))

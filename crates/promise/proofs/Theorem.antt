@@ -43,21 +43,22 @@ rests-not-running e = rw e refl
 
 -- ---- lists
 
-pub lawful-before : (s : System) (es rest : List Event) → Lawful callOutcome s (es ++ rest) → Lawful callOutcome s es
-unfolding Lawful
-lawful-before s [] rest l = tt
-lawful-before s (e ∷ es) rest l = (l .0, lawful-before (after callOutcome s e) es rest (l .1))
+module _ (calls : (c : Call) (v : Volume) (o : Observations) → Outcome) where
+  pub lawful-before : (s : System) (es rest : List Event) → Lawful calls s (es ++ rest) → Lawful calls s es
+  unfolding Lawful
+  lawful-before s [] rest l = tt
+  lawful-before s (e ∷ es) rest l = (l .0, lawful-before (after calls s e) es rest (l .1))
 
-lawful-rest : (s : System) (es rest : List Event) → Lawful callOutcome s (es ++ rest) → Lawful callOutcome (afterAll callOutcome s es) rest
-unfolding Lawful afterAll
-lawful-rest s [] rest l = l
-lawful-rest s (e ∷ es) rest l = lawful-rest (after callOutcome s e) es rest (l .1)
+  lawful-rest : (s : System) (es rest : List Event) → Lawful calls s (es ++ rest) → Lawful calls (afterAll calls s es) rest
+  unfolding Lawful afterAll
+  lawful-rest s [] rest l = l
+  lawful-rest s (e ∷ es) rest l = lawful-rest (after calls s e) es rest (l .1)
 
-pub modelled-append : (s : System) (k : CachedModel) (es rest : List Event)
-    → modelled (fedAll callOutcome s (es ++ rest)) k ≡ modelled (fedAll callOutcome (afterAll callOutcome s es) rest) (modelled (fedAll callOutcome s es) k)
-unfolding modelled fedAll afterAll
-modelled-append s k [] rest = refl
-modelled-append s k (e ∷ es) rest = modelled-append (after callOutcome s e) (modelAfter (fed callOutcome s e) k) es rest
+  pub modelled-append : (s : System) (k : CachedModel) (es rest : List Event)
+      → modelled (fedAll calls s (es ++ rest)) k ≡ modelled (fedAll calls (afterAll calls s es) rest) (modelled (fedAll calls s es) k)
+  unfolding modelled fedAll afterAll
+  modelled-append s k [] rest = refl
+  modelled-append s k (e ∷ es) rest = modelled-append (after calls s e) (modelAfter (fed calls s e) k) es rest
 
 -- from the first flushed on
 pub keeps-all : (g : Geometry) (s : System) (k : CachedModel) (told : Option ℕ) (es : List Event) → Invariant true g s k told → Lawful callOutcome s es
@@ -196,7 +197,7 @@ advances-after : (g : Geometry) (s : System) (k : CachedModel) (told : Option �
 unfolding IsUp after outcome callOutcome memoryOf
 advances-after g (up v d) k told i is-up on =
     let j = flushed-keeps g k told false v d i in
-    let kept = quiet-by (up v d) flushed (unfold isAdvance in refl) (λ t. unfold stepOf leaving in refl) .tally-kept k in
+    let kept = quiet-by callOutcome (up v d) flushed (unfold isAdvance in refl) (λ t. unfold stepOf leaving in refl) .tally-kept k in
     advance-after-flushed g _ _ _ _ j (ap (λ (t : Tally). t .mode) kept ∙ on) (flushed-pending false g v d k told i)
 advances-after g (down m) k told i is-up on = absurd is-up
 
@@ -220,8 +221,8 @@ module _ (a : Start) (ok : accepted (formatted a .reply .answer) ≡ true) where
       → x < modelOf callOutcome a before .plain .blocks → length piece ≡ a .size → ReadRight callOutcome a before x piece
   unfolding Lawful systemAfter modelOf
   read-right before rest x piece l early below whole =
-      let i = invariant-after before (lawful-before (begin a) before (runs (read x piece) ∷ rest) l) (early-before before _ early) in
-      let allowed = lawful-rest (begin a) before (runs (read x piece) ∷ rest) l .0 in
+      let i = invariant-after before (lawful-before callOutcome (begin a) before (runs (read x piece) ∷ rest) l) (early-before before _ early) in
+      let allowed = lawful-rest callOutcome (begin a) before (runs (read x piece) ∷ rest) l .0 in
       let r = read-after (startGeometry a) (systemAfter callOutcome a before) (cachedAfter a before) _ i x piece allowed below whole in
       record { is-accepted = r .0; bytes-read = r .1; bytes-stand = r .2 }
 
@@ -231,7 +232,7 @@ finishing : (a : Start) (es further : List Event) (n : ℕ)
 unfolding systemAfter modelOf
 finishing a es further n f =
     let joined : modelOf callOutcome a (es ++ further) ≡ modelled (fedAll callOutcome (systemAfter callOutcome a es) further) (cachedAfter a es) .current =
-    ap (λ (k : CachedModel). k .current) (modelled-append (begin a) _ es further) in
+    ap (λ (k : CachedModel). k .current) (modelled-append callOutcome (begin a) _ es further) in
     record {
       still-runs = λ l. grows-running (ap (λ (k : Model). k .tally .mode) joined ∙ f .still-runs l);
       none-told = f .none-told;

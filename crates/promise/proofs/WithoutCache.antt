@@ -17,10 +17,10 @@ use Rattle.promise.specs.Lists.{callOutcome, Event, runs, cut, Drives, S
 use Rattle.promise.specs.Model.{leaving, saving, stepOf, Model, CachedModel, modelAfter, modelled}
 use Rattle.promise.specs.Promise.{Start, formatted, begin, systemAfter, modelOf}
 use Rattle.promise.specs.WithoutCache.{DirectEvent, ends as whole, fails, flushedAfter, fromFormat, systemWithout, modelWithout, DirectFurther, no-call, an-advance, a-write, a-read, advancesTold, DirectFinishing, PromiseWithoutCache}
-use Rattle.promise.proofs.CallsCounted.{left-positive, goes-on, ends, advance-step}
+use Rattle.promise.proofs.CallsCounted.{in-window, left-positive, goes-on, ends, advance-step}
 use Rattle.promise.proofs.PendingStores.{Live}
 use Rattle.promise.proofs.EventSteps.{Invariant, flushed-pending, flushed-keeps, other-keeps, keeps}
-use Rattle.promise.proofs.FurtherCalls.{Ending, ending-none, ending-more, ending-last, tally-runs, quiet-by, advance-after-flushed, event-tally, event-told}
+use Rattle.promise.proofs.FurtherCalls.{Ending, ending-none, ending-more, ending-last, tally-runs, quiet-by, advance-after-flushed, advanced-tally, event-told}
 use Rattle.promise.proofs.Theorem.{running-grows, grows-running, rests-not-running, modelled-append, keeps-all, startGeometry, startCached, cachedAfter, start, promise}
 
 -- ---- lists
@@ -31,7 +31,7 @@ flushed-append [] fs = refl
 flushed-append (whole c ∷ es) fs = ap (λ (l : List Event). runs c ∷ runs flushed ∷ l) (flushed-append es fs)
 flushed-append (fails c left ∷ es) fs = ap (λ (l : List Event). cut (some c) (left ∷ []) ∷ l) (flushed-append es fs)
 
-from-append : (es fs : List DirectEvent) → fromFormat (es ++ fs) ≡ fromFormat es ++ flushedAfter fs
+pub from-append : (es fs : List DirectEvent) → fromFormat (es ++ fs) ≡ fromFormat es ++ flushedAfter fs
 unfolding fromFormat
 from-append es fs = ap (λ (l : List Event). runs flushed ∷ l) (flushed-append es fs)
 
@@ -67,13 +67,13 @@ abbrev model-both : (s : System) (c : Call) (k : CachedModel) → CachedModel
 model-both s c k = modelAfter (fed callOutcome (after callOutcome s (runs c)) (runs flushed)) (modelAfter (fed callOutcome s (runs c)) k)
 
 flushed-keeps-tally : (s : System) (k : CachedModel) → modelAfter (fed callOutcome s (runs flushed)) k .current .tally ≡ k .current .tally
-flushed-keeps-tally s k = quiet-by s flushed (unfold isAdvance in refl) (λ t. unfold stepOf leaving in refl) .tally-kept k
+flushed-keeps-tally s k = quiet-by callOutcome s flushed (unfold isAdvance in refl) (λ t. unfold stepOf leaving in refl) .tally-kept k
 
 write-keeps-tally : (s : System) (x : ℕ) (piece : List ℕ) (k : CachedModel) → modelAfter (fed callOutcome s (runs (write x piece))) k .current .tally ≡ k .current .tally
-write-keeps-tally s x piece k = quiet-by s (write x piece) (unfold isAdvance in refl) (λ t. unfold stepOf saving in refl) .tally-kept k
+write-keeps-tally s x piece k = quiet-by callOutcome s (write x piece) (unfold isAdvance in refl) (λ t. unfold stepOf saving in refl) .tally-kept k
 
 read-keeps-tally : (s : System) (x : ℕ) (piece : List ℕ) (k : CachedModel) → modelAfter (fed callOutcome s (runs (read x piece))) k .current .tally ≡ k .current .tally
-read-keeps-tally s x piece k = quiet-by s (read x piece) (unfold isAdvance in refl) (λ t. unfold stepOf leaving in refl) .tally-kept k
+read-keeps-tally s x piece k = quiet-by callOutcome s (read x piece) (unfold isAdvance in refl) (λ t. unfold stepOf leaving in refl) .tally-kept k
 
 -- with no advance the tally stays
 none-advanced : {further : List DirectEvent} → DirectFurther further → (s : System) (k : CachedModel) → length (advancesTold callOutcome s further) ≡ 0
@@ -101,17 +101,17 @@ direct-ending : {further : List DirectEvent} → DirectFurther further → (g : 
     → Live true g v d k told → v .pending ≡ nonePending → k .current .tally .mode ≡ growing
     → Ending (advancesTold callOutcome (up v d) further) (modelled (fedAll callOutcome (up v d) (flushedAfter further)) k .current .tally .mode) (callsLeftOf (k .current .tally))
 unfolding advancesTold flushedAfter modelled fedAll afterAll isAdvance after
-direct-ending no-call g v d k told i clear on = ending-none on (left-positive (k .current .tally) (tally-runs (i .up) on))
+direct-ending no-call g v d k told i clear on = ending-none on (left-positive (k .current .tally) (in-window (tally-runs (i .up) on)))
 direct-ending (an-advance f) g v d k told i clear on =
     let a = advance-after-flushed g v d k told i on clear in
     let j = both-keep g v d k told i advance (unfold settles in refl) in
     let next = model-both (up v d) advance k in
-    let same : next .current .tally ≡ stepOf advance (k .current .tally) .tally = flushed-keeps-tally _ _ ∙ event-tally true g v d k told i on a in
+    let same : next .current .tally ≡ stepOf advance (k .current .tally) .tally = flushed-keeps-tally _ _ ∙ advanced-tally callOutcome (up v d) k a in
     let told-it = event-told true g v d k told i on a in
-    elim (advance-step (k .current .tally) (tally-runs (i .up) on)) [
+    elim (advance-step (k .current .tally) (in-window (tally-runs (i .up) on))) [
       | goes-on mode finish left ↦
           let still : next .current .tally .mode ≡ growing = ap (λ (t : Tally). t .mode) same ∙ mode in
-          rw (left, sym same, told-it ∙ finish) (ending-more (left-positive (next .current .tally) (tally-runs (j .0 .up) still)) (direct-ending f g _ _ next _ (j .0) (j .1) still))
+          rw (left, sym same, told-it ∙ finish) (ending-more (left-positive (next .current .tally) (in-window (tally-runs (j .0 .up) still))) (direct-ending f g _ _ next _ (j .0) (j .1) still))
       | ends mode finish left ↦
           rw (left, told-it ∙ finish) (ending-last (λ z. ap (λ (t : Tally). t .mode) (none-advanced f (after-both (up v d) advance) next z ∙ same) ∙ mode))
     ]
@@ -165,7 +165,7 @@ module _ (a : Start) (ok : accepted (formatted a .reply .answer) ≡ true) (es :
   finishing is-up on further f =
       let e = ending-from (startGeometry a) (systemWithout callOutcome a es) (cachedAfter a (fromFormat es)) _ all-keep all-flushed is-up (running-grows _ on) f in
       let joined : modelWithout callOutcome a (es ++ further) ≡ modelled (fedAll callOutcome (systemWithout callOutcome a es) (flushedAfter further)) (cachedAfter a (fromFormat es)) .current =
-      ap (modelOf callOutcome a) (from-append es further) ∙ ap (λ (k : CachedModel). k .current) (modelled-append (begin a) (startCached a) (fromFormat es) (flushedAfter further)) in
+      ap (modelOf callOutcome a) (from-append es further) ∙ ap (λ (k : CachedModel). k .current) (modelled-append callOutcome (begin a) (startCached a) (fromFormat es) (flushedAfter further)) in
       record {
         still-runs = λ n. grows-running (ap (λ (k : Model). k .tally .mode) joined ∙ e .still-runs n);
         none-told = e .none-told;

@@ -5,13 +5,13 @@ use mathlib.Core.List.{List, [], _∷_, _++_}
 use mathlib.Core.Option.{Option, none, some}
 use mathlib.Core.Path.{_≡_, refl, sym, ap, ap₂, _∙_, subst}
 use lib.Dec.{eqb}
-use lib.ListN.{length, take}
+use lib.ListN.{length, take, drop}
 use Rattle.medium.specs.Medium.{observe, Store, noStore, recordStore, blockStore, AfterCut, tornBlock, oldRecord, newRecord, MayLeave, Placed, placed, alsoPending, EachMayLeave}
 use Rattle.volume.specs.Answers.{accepted}
 use Rattle.volume.specs.Calls.{Outcome}
 use Rattle.volume.specs.States.{geometry}
 use Rattle.promise.specs.Calls.{Call, settles, Fed, ended, cutIn}
-use Rattle.promise.specs.Lists.{Event, runs, cut, System, up, down, drivesOf, memoryOf, cutLeft, outcome, drivesAfter, storesAt, after, Allowed, fed, afterAll, Lawful, fedAll}
+use Rattle.promise.specs.Lists.{Event, runs, cut, System, up, down, drivesOf, memoryOf, mediumOf, cutLeft, outcome, drivesAfter, storesAt, after, Allowed, fed, afterAll, Lawful, fedAll}
 use Rattle.promise.specs.Model.{Model, startModel, nothingPending, modelled}
 use Rattle.promise.specs.Promise.{Start, begin, modelOf}
 use Rattle.worked.specs.WrongPrograms.{Act}
@@ -99,17 +99,21 @@ module _ (calls : (c : Call) → Act) where
   unfolding after
   cut-same c left s = ap down (rw (stores-same c s) (cuts-same (storesAt calls c s) left (drivesOf s .landed)))
 
+-- what is heard of a call that comes to its end, with the medium that it saw and what it did, after what was heard before
+abbrev pub Hearing : (X : Type 0) → Type 0
+Hearing X = (c : Call) (m : List ℕ) (out : Outcome) (before : X) → X
+
 -- what a list comes to
 pub record Result (X : Type 0) : Type 0 where
   pub lawful : Bool
   pub fed : List Fed
   pub heard : X
 
-module _ (calls : (c : Call) → Act) {X : Type 0} (hear : (out : Outcome) (before : X) → X) where
+module _ (calls : (c : Call) → Act) {X : Type 0} (hear : Hearing X) where
   -- what is heard of its calls
   unfoldable pub heardAll : (s : System) (es : List Event) (before : X) → X
   heardAll s [] before = before
-  heardAll s (runs c ∷ es) before = heardAll (after calls s (runs c)) es (hear (outcome calls c s) before)
+  heardAll s (runs c ∷ es) before = heardAll (after calls s (runs c)) es (hear c (mediumOf s) (outcome calls c s) before)
   heardAll s (cut c left ∷ es) before = heardAll (after calls s (cut c left)) es before
 
   unfoldable pub computed : (s : System) (es : List Event) (before : X) → Result X
@@ -117,14 +121,14 @@ module _ (calls : (c : Call) → Act) {X : Type 0} (hear : (out : Outcome) (befo
   computed s (runs c ∷ es) before =
       let m = mediumSeen s in
       let out = calls c (memoryOf s) (observe m) in
-      let rest = computed (afterCall c s m out) es (hear out before) in
+      let rest = computed (afterCall c s m out) es (hear c m out before) in
       record { lawful = mayRun c s && rest .lawful; fed = ended c (accepted (out .reply .answer)) ∷ rest .fed; heard = rest .heard }
   computed s (cut c left ∷ es) before =
       let stores = storesSeen calls c s in
       let rest = computed (down (cutsApplied stores left (drivesOf s .landed))) es before in
       record { lawful = mayCut c s stores left && rest .lawful; fed = cutIn c (cutLeft left) ∷ rest .fed; heard = rest .heard }
 
-  fed-same : (s : System) (es : List Event) (before : X) → computed s es before .fed ≡ fedAll calls s es
+  pub fed-same : (s : System) (es : List Event) (before : X) → computed s es before .fed ≡ fedAll calls s es
   unfolding computed fedAll fed outcome
   fed-same s [] before = refl
   fed-same s (runs c ∷ es) before =
@@ -132,16 +136,16 @@ module _ (calls : (c : Call) → Act) {X : Type 0} (hear : (out : Outcome) (befo
   fed-same s (cut c left ∷ es) before =
       rw (cut-same calls c left s) (ap (λ (fs : List Fed). cutIn c (cutLeft left) ∷ fs) (fed-same (after calls s (cut c left)) es before))
 
-  heard-same : (s : System) (es : List Event) (before : X) → computed s es before .heard ≡ heardAll s es before
+  pub heard-same : (s : System) (es : List Event) (before : X) → computed s es before .heard ≡ heardAll s es before
   unfolding computed heardAll outcome
   heard-same s [] before = refl
   heard-same s (runs c ∷ es) before =
-      ap₂ (λ (t : System) (x : X). computed t es x .heard) (run-same calls c s) (ap (λ (m : List ℕ). hear (calls c (memoryOf s) (observe m)) before) (seen-same s))
-      ∙ heard-same (after calls s (runs c)) es (hear (outcome calls c s) before)
+      ap₂ (λ (t : System) (x : X). computed t es x .heard) (run-same calls c s) (ap (λ (m : List ℕ). hear c m (calls c (memoryOf s) (observe m)) before) (seen-same s))
+      ∙ heard-same (after calls s (runs c)) es (hear c (mediumOf s) (outcome calls c s) before)
   heard-same s (cut c left ∷ es) before =
       ap (λ (t : System). computed t es before .heard) (cut-same calls c left s) ∙ heard-same (after calls s (cut c left)) es before
 
-  is-lawful : (s : System) (es : List Event) (before : X) → Reflects (Lawful calls s es) (computed s es before .lawful)
+  pub is-lawful : (s : System) (es : List Event) (before : X) → Reflects (Lawful calls s es) (computed s es before .lawful)
   unfolding computed Lawful
   is-lawful s [] before = holds tt
   is-lawful s (runs c ∷ es) before = rw (run-same calls c s) (both (may-run calls c s) (is-lawful (after calls s (runs c)) es _))
@@ -150,7 +154,7 @@ module _ (calls : (c : Call) → Act) {X : Type 0} (hear : (out : Outcome) (befo
 
 -- ---- what a computed result says
 
-pub record Facts (calls : (c : Call) → Act) {X : Type 0} (hear : (out : Outcome) (before : X) → X) (s : System) (es : List Event) (before : X) (fs : List Fed) (x : X) : Type 0 where
+pub record Facts (calls : (c : Call) → Act) {X : Type 0} (hear : Hearing X) (s : System) (es : List Event) (before : X) (fs : List Fed) (x : X) : Type 0 where
   pub lawful : Lawful calls s es
   pub all-fed : fedAll calls s es ≡ fs
   pub all-heard : heardAll calls hear s es before ≡ x
@@ -158,8 +162,8 @@ pub record Facts (calls : (c : Call) → Act) {X : Type 0} (hear : (out : Outcom
 abbrev pub lawfulResult : {X : Type 0} (fs : List Fed) (x : X) → Result X
 lawfulResult fs x = record { lawful = true; fed = fs; heard = x }
 
-module _ (calls : (c : Call) → Act) {X : Type 0} (hear : (out : Outcome) (before : X) → X) (s : System) (es : List Event) (before : X) (fs : List Fed) (x : X) where
-  pub facts : computed calls hear s es before ≡ lawfulResult fs x → Facts calls hear s es before fs x
+module _ (calls : (c : Call) → Act) {X : Type 0} (hear : Hearing X) (s : System) (es : List Event) (before : X) (fs : List Fed) (x : X) where
+  facts : computed calls hear s es before ≡ lawfulResult fs x → Facts calls hear s es before fs x
   facts e =
       record {
         lawful = passed (is-lawful calls hear s es before) (ap (λ (r : Result X). r .lawful) e);
@@ -170,8 +174,15 @@ module _ (calls : (c : Call) → Act) {X : Type 0} (hear : (out : Outcome) (befo
   pub faster-facts : OurRestart calls → computed (faster calls) hear s es before ≡ lawfulResult fs x → Facts calls hear s es before fs x
   faster-facts ours e = facts (subst (λ (c : (c : Call) → Act). computed c hear s es before ≡ lawfulResult fs x) (faster-same calls ours) e)
 
+-- a test that passes of a program whose restart is ours, computed with the faster one
+abbrev pub Tested : (calls : (c : Call) → Act) (test : ((c : Call) → Act) → Bool) → Type 0
+Tested calls test = OurRestart calls × (test (faster calls) ≡ true)
+
+pub tested : (calls : (c : Call) → Act) (test : ((c : Call) → Act) → Bool) → Tested calls test → test calls ≡ true
+tested calls test t = subst (λ (c : (c : Call) → Act). test c ≡ true) (faster-same calls (t .0)) (t .1)
+
 -- and of one that is not lawful
-pub not-lawful : (calls : (c : Call) → Act) {X : Type 0} (hear : (out : Outcome) (before : X) → X) (s : System) (es : List Event) (before : X) → OurRestart calls
+pub not-lawful : (calls : (c : Call) → Act) {X : Type 0} (hear : Hearing X) (s : System) (es : List Event) (before : X) → OurRestart calls
     → computed (faster calls) hear s es before .lawful ≡ false → Lawful calls s es → ⊥
 not-lawful calls hear s es before ours e =
     failed (is-lawful calls hear s es before) (subst (λ (p : (c : Call) → Act). computed p hear s es before .lawful ≡ false) (faster-same calls ours) e)
@@ -185,13 +196,19 @@ module _ (calls : (c : Call) → Act) where
   fed-before s [] rest = refl
   fed-before s (e ∷ es) rest = ap (λ (fs : List Fed). fed calls s e ∷ fs) (fed-before (after calls s e) es rest)
 
-  -- what is heard last
-  pub heard-last : {X : Type 0} (hear : (out : Outcome) (before : X) → X) (s : System) (es : List Event) (c : Call) (before : X)
-      → heardAll calls hear s (es ++ (runs c ∷ [])) before ≡ hear (outcome calls c (afterAll calls s es)) (heardAll calls hear s es before)
+  -- and of those after them
+  pub fed-after : (s : System) (es rest : List Event) → fedAll calls (afterAll calls s es) rest ≡ drop (length es) (fedAll calls s (es ++ rest))
+  unfolding fedAll afterAll
+  fed-after s [] rest = refl
+  fed-after s (e ∷ es) rest = fed-after (after calls s e) es rest
+
+  -- what is heard of two lists
+  pub heard-both : {X : Type 0} (hear : Hearing X) (s : System) (es rest : List Event) (before : X)
+      → heardAll calls hear s (es ++ rest) before ≡ heardAll calls hear (afterAll calls s es) rest (heardAll calls hear s es before)
   unfolding heardAll afterAll
-  heard-last hear s [] c before = refl
-  heard-last hear s (runs d ∷ es) c before = heard-last hear (after calls s (runs d)) es c (hear (outcome calls d s) before)
-  heard-last hear s (cut d left ∷ es) c before = heard-last hear (after calls s (cut d left)) es c before
+  heard-both hear s [] rest before = refl
+  heard-both hear s (runs c ∷ es) rest before = heard-both hear (after calls s (runs c)) es rest (hear c (mediumOf s) (outcome calls c s) before)
+  heard-both hear s (cut c left ∷ es) rest before = heard-both hear (after calls s (cut c left)) es rest before
 
 -- the model, of what it is fed
 abbrev pub modelFed : (a : Start) (fs : List Fed) → Model

@@ -82,7 +82,7 @@ module _ {g : Geometry} {v : Volume} {o : Observations} {k : Model} {told : Opti
       (λ n. refused v n piece) _ (λ _. same ∙ sym whole) (λ f. absurd (f write-passes))
 
 -- a formatted volume has a block
-some-block : (z s n : ℕ) (o : Observations) → accepted (formatOutcome z s n o .reply .answer) ≡ true → 0 < n * s
+pub some-block : (z s n : ℕ) (o : Observations) → accepted (formatOutcome z s n o .reply .answer) ≡ true → 0 < n * s
 unfolding formatOutcome refused accepted number rowsHold disksHold
 some-block z s n o =
     judged-cases (λ (out : Outcome). accepted (out .reply .answer) ≡ true → 0 < n * s) (formatTable z s n (o .byteCount)) (λ k. refused zeros k []) _

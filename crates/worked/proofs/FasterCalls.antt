@@ -85,7 +85,7 @@ sameBytes [] (y ∷ b) = false
 sameBytes (x ∷ a) [] = false
 sameBytes (x ∷ a) (y ∷ b) = eqb x y && sameBytes a b
 
-same-bytes : (a b : List ℕ) → sameBytes a b ≡ true → a ≡ b
+pub same-bytes : (a b : List ℕ) → sameBytes a b ≡ true → a ≡ b
 unfolding sameBytes
 same-bytes [] [] t = refl
 same-bytes [] (y ∷ b) t = absurd (false≢true t)

@@ -1,24 +1,23 @@
 -- The worked list, by computing.
-use Prim.Native.Nat.{ℕ, suc, _-_}
+use Prim.Native.Nat.{ℕ, suc}
 use mathlib.Core.Bool.{true, false, cond, _&&_}
 use mathlib.Core.List.{List, [], _∷_, _++_}
 use mathlib.Core.Logic.{inl}
 use mathlib.Core.Option.{none, some}
-use mathlib.Core.Path.{_≡_, refl, sym, ap, _∙_}
+use mathlib.Core.Path.{_≡_, refl, ap, _∙_, subst}
 use native.Mathlib.Omega.{arith}
 use lib.ListN.{length, take, drop, replicate, length-replicate}
 use Rattle.base.proofs.Booleans.{by-test}
 use Rattle.layout.specs.Tally.{isRunning, callsLeftOf}
 use Rattle.volume.specs.Answers.{accepted}
-use Rattle.volume.specs.Calls.{Outcome}
 use Rattle.promise.specs.Calls.{grow, advance, write, read, restart, flushed, isAdvance, sameRecord, recordOld, Fed, ended, cutIn}
-use Rattle.promise.specs.Lists.{Event, System, IsUp, runs, cut, outcome, isAccepted, callOutcome, after, NoEarlyCut, Lawful, AllFurther, an-advance, a-flushed, afterAll, fed, fedAll, lastReported, tellings, finishedTold}
+use Rattle.promise.specs.Lists.{Event, System, IsUp, runs, cut, outcome, isAccepted, callOutcome, after, NoEarlyCut, Lawful, AllFurther, an-advance, a-write, a-read, a-flushed, afterAll, fed, fedAll, lastReported, tellings, finishedTold}
 use Rattle.promise.specs.Model.{Model}
-use Rattle.promise.specs.Promise.{Kept, formatted, begin, systemAfter, modelOf}
+use Rattle.promise.specs.Promise.{Finishing, Kept, formatted, begin, systemAfter, modelOf}
 use Rattle.promise.proofs.Theorem.{lawful-before, promise}
-use Rattle.worked.specs.Worked.{blockOf, workedStart, firstEvents, lastEvents, finishedEvents, takenBack, beforeRead, workedEvents, WorkedFacts}
+use Rattle.worked.specs.Worked.{blockOf, workedStart, firstEvents, copiedEvents, furtherEvents, finishedEvents, takenBack, beforeRead, workedEvents, WorkedFacts}
 use Rattle.worked.proofs.FasterCalls.{faster, OurRestart}
-use Rattle.worked.proofs.Computed.{computed, lawfulResult, Facts, faster-facts, fed-before, modelFed, model-fed}
+use Rattle.worked.proofs.Computed.{Hearing, computed, lawfulResult, Facts, faster-facts, fed-before, fed-after, modelFed, model-fed}
 use Rattle.worked.proofs.Computing.{computing}
 
 pub is-accepted : accepted (formatted workedStart .reply .answer) ≡ true
@@ -34,8 +33,8 @@ unfolding callOutcome
 our-restart v o = refl
 
 -- of these lists nothing is heard
-abbrev pub hearNothing : (out : Outcome) (before : Unit {0}) → Unit {0}
-hearNothing out before = tt
+abbrev pub hearNothing : Hearing (Unit {0})
+hearNothing c m out before = tt
 
 -- ---- what plain volume and tally are fed
 
@@ -56,8 +55,19 @@ firstFed =
     ∷ ended flushed true
     ∷ []
 
+abbrev furtherFed : List Fed
+furtherFed =
+    ended (write 0 (blockOf 5)) true
+    ∷ ended flushed true
+    ∷ ended advance true
+    ∷ ended (read 0 (blockOf 0)) true
+    ∷ ended advance false
+    ∷ ended flushed true
+    ∷ ended advance true
+    ∷ []
+
 abbrev finishedFed : List Fed
-finishedFed = firstFed ++ (ended advance true ∷ ended advance false ∷ ended flushed true ∷ ended advance true ∷ [])
+finishedFed = firstFed ++ furtherFed
 
 abbrev allFed : List Fed
 allFed = finishedFed ++ (cutIn none recordOld ∷ ended restart true ∷ [])
@@ -74,16 +84,16 @@ worked-facts = faster-facts callOutcome hearNothing (begin workedStart) workedEv
 
 -- and of the first events
 all-fed : fedAll callOutcome (begin workedStart) beforeRead ≡ allFed
-unfolding workedEvents beforeRead finishedEvents firstEvents lastEvents takenBack
-all-fed = fed-before callOutcome (begin workedStart) beforeRead (runs (read 0 (blockOf 0)) ∷ []) ∙ ap (take 19) (worked-facts .all-fed)
+unfolding workedEvents beforeRead finishedEvents firstEvents furtherEvents copiedEvents takenBack
+all-fed = fed-before callOutcome (begin workedStart) beforeRead (runs (read 0 (blockOf 0)) ∷ []) ∙ ap (take 22) (worked-facts .all-fed)
 
 finished-fed : fedAll callOutcome (begin workedStart) finishedEvents ≡ finishedFed
-unfolding beforeRead finishedEvents firstEvents lastEvents
-finished-fed = fed-before callOutcome (begin workedStart) finishedEvents takenBack ∙ ap (take 17) all-fed
+unfolding beforeRead finishedEvents firstEvents furtherEvents copiedEvents
+finished-fed = fed-before callOutcome (begin workedStart) finishedEvents takenBack ∙ ap (take 20) all-fed
 
 first-fed : fedAll callOutcome (begin workedStart) firstEvents ≡ firstFed
 unfolding finishedEvents firstEvents
-first-fed = fed-before callOutcome (begin workedStart) firstEvents lastEvents ∙ ap (take 13) finished-fed
+first-fed = fed-before callOutcome (begin workedStart) firstEvents furtherEvents ∙ ap (take 13) finished-fed
 
 first-open : modelFed workedStart firstFed .plain .blocks ≡ 1
 unfolding computing
@@ -113,7 +123,7 @@ last-runs : isRunning (modelFed workedStart allFed .tally .mode) ≡ true
 unfolding computing
 last-runs = refl
 
-last-set : modelFed workedStart allFed .plain .bytes 0 ≡ some (blockOf 3)
+last-set : modelFed workedStart allFed .plain .bytes 0 ≡ some (blockOf 5)
 unfolding computing
 last-set = refl
 
@@ -142,9 +152,9 @@ read-follows = refl
 first-lawful : Lawful callOutcome (begin workedStart) firstEvents
 unfolding workedEvents beforeRead finishedEvents
 first-lawful =
-    lawful-before (begin workedStart) firstEvents lastEvents
-    (lawful-before (begin workedStart) (firstEvents ++ lastEvents) takenBack
-    (lawful-before (begin workedStart) ((firstEvents ++ lastEvents) ++ takenBack) (runs (read 0 (blockOf 0)) ∷ []) (worked-facts .lawful)))
+    lawful-before callOutcome (begin workedStart) firstEvents furtherEvents
+    (lawful-before callOutcome (begin workedStart) (firstEvents ++ furtherEvents) takenBack
+    (lawful-before callOutcome (begin workedStart) ((firstEvents ++ furtherEvents) ++ takenBack) (runs (read 0 (blockOf 0)) ∷ []) (worked-facts .lawful)))
 
 first-early : NoEarlyCut firstEvents
 unfolding NoEarlyCut firstEvents
@@ -174,35 +184,56 @@ tellings-fed s (runs c ∷ es) =
     (λ t. rw t (tellings-fed (after callOutcome s (runs c)) es))
 tellings-fed s (cut c left ∷ es) = tellings-fed (after callOutcome s (cut c left)) es
 
--- what is fed of the events after the first
-fed-after : (s : System) (es rest : List Event) → fedAll callOutcome (afterAll callOutcome s es) rest ≡ drop (length es) (fedAll callOutcome s (es ++ rest))
-unfolding fedAll afterAll
-fed-after s [] rest = refl
-fed-after s (e ∷ es) rest = fed-after (after callOutcome s e) es rest
+-- ---- further calls
 
-two-advances : length (finishedTold callOutcome (systemAfter callOutcome workedStart firstEvents) lastEvents) ≡ 2
-unfolding systemAfter finishedEvents firstEvents isAdvance advancesFed
-two-advances =
-    tellings-fed (systemAfter callOutcome workedStart firstEvents) lastEvents
-    ∙ ap advancesFed (fed-after (begin workedStart) firstEvents lastEvents ∙ ap (drop 13) finished-fed)
+further-fed : fedAll callOutcome (systemAfter callOutcome workedStart firstEvents) furtherEvents ≡ furtherFed
+unfolding systemAfter finishedEvents firstEvents
+further-fed = fed-after callOutcome (begin workedStart) firstEvents furtherEvents ∙ ap (drop 13) finished-fed
 
-told : finishedTold callOutcome (systemAfter callOutcome workedStart firstEvents) lastEvents ≡ false ∷ true ∷ []
-unfolding lastEvents AllFurther
-told =
-    kept-first .finishes first-up grows lastEvents (an-advance, (an-advance, (a-flushed, (an-advance, tt)))) .last-told (two-advances ∙ sym calls-left)
-    ∙ ap (λ (n : ℕ). replicate (n - 1) false ++ (true ∷ [])) calls-left
+copied-fed : fedAll callOutcome (systemAfter callOutcome workedStart firstEvents) copiedEvents ≡ take 4 furtherFed
+unfolding furtherEvents copiedEvents
+copied-fed = fed-before callOutcome (systemAfter callOutcome workedStart firstEvents) copiedEvents _ ∙ ap (take 4) further-fed
 
-block-set : modelOf callOutcome workedStart beforeRead .plain .bytes 0 ≡ some (blockOf 3)
+-- with two calls left
+finishing-two : (further : List Event) → AllFurther callOutcome (systemAfter callOutcome workedStart firstEvents) further
+    → Finishing callOutcome workedStart firstEvents further 2
+finishing-two further f = subst (Finishing callOutcome workedStart firstEvents further) calls-left (kept-first .finishes first-up grows further f)
+
+all-further : AllFurther callOutcome (systemAfter callOutcome workedStart firstEvents) furtherEvents
+unfolding furtherEvents copiedEvents AllFurther
+all-further = (a-write, (a-flushed, (an-advance, (a-read, (an-advance, (a-flushed, (an-advance, tt)))))))
+
+copied-further : AllFurther callOutcome (systemAfter callOutcome workedStart firstEvents) copiedEvents
+unfolding copiedEvents AllFurther
+copied-further = (a-write, (a-flushed, (an-advance, (a-read, tt))))
+
+finishing : Finishing callOutcome workedStart firstEvents furtherEvents 2
+finishing = finishing-two furtherEvents all-further
+
+copied-finishing : Finishing callOutcome workedStart firstEvents copiedEvents 2
+copied-finishing = finishing-two copiedEvents copied-further
+
+two-advances : length (finishedTold callOutcome (systemAfter callOutcome workedStart firstEvents) furtherEvents) ≡ 2
+unfolding isAdvance advancesFed
+two-advances = tellings-fed (systemAfter callOutcome workedStart firstEvents) furtherEvents ∙ ap advancesFed further-fed
+
+one-advance : length (finishedTold callOutcome (systemAfter callOutcome workedStart firstEvents) copiedEvents) ≡ 1
+unfolding isAdvance advancesFed
+one-advance = tellings-fed (systemAfter callOutcome workedStart firstEvents) copiedEvents ∙ ap advancesFed copied-fed
+
+-- ---- the last read
+
+block-set : modelOf callOutcome workedStart beforeRead .plain .bytes 0 ≡ some (blockOf 5)
 block-set = ap (λ (k : Model). k .plain .bytes 0) last-model ∙ last-set
 
 open-after : modelOf callOutcome workedStart beforeRead .plain .blocks ≡ 1
 open-after = ap (λ (k : Model). k .plain .blocks) last-model ∙ last-open
 
-read-back : outcome callOutcome (read 0 (blockOf 0)) (systemAfter callOutcome workedStart beforeRead) .piece ≡ blockOf 3
+read-back : outcome callOutcome (read 0 (blockOf 0)) (systemAfter callOutcome workedStart beforeRead) .piece ≡ blockOf 5
 unfolding workedStart
 read-back =
     promise workedStart is-accepted workedEvents (worked-facts .lawful) no-early-cut
-    .reads beforeRead [] 0 (blockOf 0) read-follows (rw open-after (omega arith)) (length-replicate {A = ℕ} 512 0) .bytes-read (blockOf 3) block-set
+    .reads beforeRead [] 0 (blockOf 0) read-follows (rw open-after (omega arith)) (length-replicate {A = ℕ} 512 0) .bytes-read (blockOf 5) block-set
 
 pub worked : WorkedFacts
 worked =
@@ -213,7 +244,14 @@ worked =
       open-before = ap (λ (k : Model). k .plain .blocks) first-model ∙ first-open;
       calls-left = calls-left;
       calls-told = calls-told;
-      told = told;
+      all-further = all-further;
+      further-fed = further-fed;
+      finishing = finishing;
+      finished = finishing .finished two-advances;
+      told = finishing .last-told two-advances;
+      copied-finishing = copied-finishing;
+      still-runs = copied-finishing .still-runs (rw one-advance (omega arith));
+      none-told = copied-finishing .none-told (rw one-advance (omega arith)) ∙ ap (λ (n : ℕ). replicate n false) one-advance;
       open-finished = ap (λ (k : Model). k .plain .blocks) finished-model ∙ finished-open;
       added-unset = ap (λ (k : Model). k .plain .bytes 1) finished-model ∙ finished-unset;
       runs-again = ap (λ (k : Model). isRunning (k .tally .mode)) last-model ∙ last-runs;

@@ -1,23 +1,23 @@
 -- The worked list for drives that keep no store, by computing.
-use Prim.Native.Nat.{ℕ, _-_}
+use Prim.Native.Nat.{ℕ}
 use mathlib.Core.Bool.{true, false}
 use mathlib.Core.List.{List, [], _∷_, _++_}
 use mathlib.Core.Option.{none, some}
-use mathlib.Core.Path.{_≡_, refl, sym, ap, _∙_}
+use mathlib.Core.Path.{_≡_, refl, ap, _∙_, subst}
 use native.Mathlib.Omega.{arith}
-use lib.ListN.{take, replicate, length-replicate}
+use lib.ListN.{length, take, drop, replicate, length-replicate}
 use Rattle.layout.specs.Tally.{isRunning, callsLeftOf}
 use Rattle.promise.specs.Calls.{grow, copy, checkpoint, advance, write, read, restart, flushed, isAdvance, sameRecord, recordOld, recordNew, Fed, ended, cutIn}
-use Rattle.promise.specs.Lists.{callOutcome, after, afterAll, IsUp, outcome, Lawful, fedAll}
+use Rattle.promise.specs.Lists.{callOutcome, after, afterAll, IsUp, outcome, Lawful, fedAll, lastReported}
 use Rattle.promise.specs.Model.{Model}
 use Rattle.promise.specs.Promise.{begin, systemAfter}
-use Rattle.promise.specs.WithoutCache.{ends, flushedAfter, fromFormat, systemWithout, modelWithout, no-call, an-advance, advancesTold, DirectKept}
+use Rattle.promise.specs.WithoutCache.{DirectEvent, ends, flushedAfter, fromFormat, systemWithout, modelWithout, DirectFurther, no-call, an-advance, a-write, a-read, advancesTold, DirectFinishing, DirectKept}
 use Rattle.promise.proofs.Theorem.{lawful-before}
 use Rattle.promise.proofs.WithoutCache.{promise-without-cache}
 use Rattle.worked.specs.Worked.{blockOf, workedStart}
-use Rattle.worked.specs.WorkedWithoutCache.{firstDirect, lastDirect, directBeforeRead, directEvents, WithoutCacheFacts}
+use Rattle.worked.specs.WorkedWithoutCache.{firstDirect, cutDirect, beforeFurther, copiedDirect, furtherDirect, cutAdvance, directBeforeRead, directEvents, WithoutCacheFacts}
 use Rattle.worked.proofs.FasterCalls.{faster}
-use Rattle.worked.proofs.Computed.{computed, lawfulResult, Facts, faster-facts, fed-before, modelFed, model-fed}
+use Rattle.worked.proofs.Computed.{computed, lawfulResult, Facts, faster-facts, fed-before, fed-after, modelFed, model-fed}
 use Rattle.worked.proofs.Computing.{computing}
 use Rattle.worked.proofs.Worked.{is-accepted, our-restart, hearNothing}
 
@@ -38,8 +38,8 @@ firstFed =
     ∷ ended flushed true
     ∷ []
 
-abbrev lastFed : List Fed
-lastFed =
+abbrev cutFed : List Fed
+cutFed =
     cutIn (some (copy 0)) sameRecord
     ∷ ended restart true
     ∷ ended flushed true
@@ -50,15 +50,23 @@ lastFed =
     ∷ cutIn (some checkpoint) recordOld
     ∷ ended restart true
     ∷ ended flushed true
+    ∷ []
+
+abbrev copiedFed : List Fed
+copiedFed =
+    ended (write 0 (blockOf 5)) true
+    ∷ ended flushed true
     ∷ ended advance true
     ∷ ended flushed true
-    ∷ cutIn (some advance) recordNew
-    ∷ ended restart true
+    ∷ ended (read 0 (blockOf 0)) true
     ∷ ended flushed true
     ∷ []
 
+abbrev lastFed : List Fed
+lastFed = firstFed ++ cutFed ++ copiedFed ++ (cutIn (some advance) recordNew ∷ ended restart true ∷ ended flushed true ∷ [])
+
 abbrev directFed : List Fed
-directFed = firstFed ++ lastFed ++ (ended (read 0 (blockOf 0)) true ∷ ended flushed true ∷ [])
+directFed = lastFed ++ (ended (read 0 (blockOf 0)) true ∷ ended flushed true ∷ [])
 
 direct-computed : computed (faster callOutcome) hearNothing (begin workedStart) (fromFormat directEvents) tt ≡ lawfulResult directFed tt
 unfolding computing
@@ -68,15 +76,27 @@ direct-facts : Facts callOutcome hearNothing (begin workedStart) (fromFormat dir
 direct-facts = faster-facts callOutcome hearNothing (begin workedStart) (fromFormat directEvents) tt directFed tt our-restart direct-computed
 
 -- and of the first events
-all-fed : fedAll callOutcome (begin workedStart) (fromFormat directBeforeRead) ≡ firstFed ++ lastFed
-unfolding fromFormat flushedAfter directEvents directBeforeRead firstDirect lastDirect
+all-fed : fedAll callOutcome (begin workedStart) (fromFormat directBeforeRead) ≡ lastFed
+unfolding fromFormat flushedAfter directEvents directBeforeRead beforeFurther copiedDirect cutAdvance firstDirect cutDirect
 all-fed =
     fed-before callOutcome (begin workedStart) (fromFormat directBeforeRead) (flushedAfter (ends (read 0 (blockOf 0)) ∷ []))
-    ∙ ap (take 26) (direct-facts .all-fed)
+    ∙ ap (take 30) (direct-facts .all-fed)
+
+further-fed : fedAll callOutcome (begin workedStart) (fromFormat beforeFurther ++ flushedAfter copiedDirect) ≡ firstFed ++ cutFed ++ copiedFed
+unfolding fromFormat flushedAfter directBeforeRead beforeFurther copiedDirect cutAdvance firstDirect cutDirect
+further-fed = fed-before callOutcome (begin workedStart) (fromFormat beforeFurther ++ flushedAfter copiedDirect) (flushedAfter cutAdvance) ∙ ap (take 27) all-fed
+
+before-fed : fedAll callOutcome (begin workedStart) (fromFormat beforeFurther) ≡ firstFed ++ cutFed
+unfolding fromFormat flushedAfter beforeFurther firstDirect cutDirect
+before-fed = fed-before callOutcome (begin workedStart) (fromFormat beforeFurther) (flushedAfter copiedDirect) ∙ ap (take 21) further-fed
+
+copied-fed : fedAll callOutcome (systemWithout callOutcome workedStart beforeFurther) (flushedAfter copiedDirect) ≡ copiedFed
+unfolding systemAfter fromFormat flushedAfter beforeFurther firstDirect cutDirect
+copied-fed = fed-after callOutcome (begin workedStart) (fromFormat beforeFurther) (flushedAfter copiedDirect) ∙ ap (drop 21) further-fed
 
 first-fed : fedAll callOutcome (begin workedStart) (fromFormat firstDirect) ≡ firstFed
-unfolding fromFormat flushedAfter directBeforeRead firstDirect lastDirect
-first-fed = fed-before callOutcome (begin workedStart) (fromFormat firstDirect) (flushedAfter lastDirect) ∙ ap (take 11) all-fed
+unfolding fromFormat flushedAfter beforeFurther firstDirect cutDirect
+first-fed = fed-before callOutcome (begin workedStart) (fromFormat firstDirect) (flushedAfter cutDirect) ∙ ap (take 11) before-fed
 
 first-open : modelFed workedStart firstFed .plain .blocks ≡ 1
 unfolding computing
@@ -90,15 +110,23 @@ first-runs : isRunning (modelFed workedStart firstFed .tally .mode) ≡ true
 unfolding computing
 first-runs = refl
 
-last-open : modelFed workedStart (firstFed ++ lastFed) .plain .blocks ≡ 2
+before-left : callsLeftOf (modelFed workedStart (firstFed ++ cutFed) .tally) ≡ 2
+unfolding computing
+before-left = refl
+
+before-runs : isRunning (modelFed workedStart (firstFed ++ cutFed) .tally .mode) ≡ true
+unfolding computing
+before-runs = refl
+
+last-open : modelFed workedStart lastFed .plain .blocks ≡ 2
 unfolding computing
 last-open = refl
 
-last-set : modelFed workedStart (firstFed ++ lastFed) .plain .bytes 0 ≡ some (blockOf 3)
+last-set : modelFed workedStart lastFed .plain .bytes 0 ≡ some (blockOf 5)
 unfolding computing
 last-set = refl
 
-last-unset : modelFed workedStart (firstFed ++ lastFed) .plain .bytes 1 ≡ none
+last-unset : modelFed workedStart lastFed .plain .bytes 1 ≡ none
 unfolding computing
 last-unset = refl
 
@@ -107,33 +135,73 @@ last-unset = refl
 first-model : modelWithout callOutcome workedStart firstDirect ≡ modelFed workedStart firstFed
 first-model = model-fed callOutcome workedStart (fromFormat firstDirect) firstFed first-fed
 
-last-model : modelWithout callOutcome workedStart directBeforeRead ≡ modelFed workedStart (firstFed ++ lastFed)
-last-model = model-fed callOutcome workedStart (fromFormat directBeforeRead) (firstFed ++ lastFed) all-fed
+last-model : modelWithout callOutcome workedStart directBeforeRead ≡ modelFed workedStart lastFed
+last-model = model-fed callOutcome workedStart (fromFormat directBeforeRead) lastFed all-fed
 
-calls-left : callsLeftOf (modelWithout callOutcome workedStart firstDirect .tally) ≡ 2
-calls-left = ap (λ (k : Model). callsLeftOf (k .tally)) first-model ∙ first-left
+-- of a list that leaves the growth running, with two calls left
+module _ (es : List DirectEvent) (fs : List Fed) (l : Lawful callOutcome (begin workedStart) (fromFormat es)) (is-up : IsUp (systemWithout callOutcome workedStart es))
+    (fed : fedAll callOutcome (begin workedStart) (fromFormat es) ≡ fs) (two : callsLeftOf (modelFed workedStart fs .tally) ≡ 2)
+    (on : isRunning (modelFed workedStart fs .tally .mode) ≡ true) where
+  kept : DirectKept callOutcome workedStart es
+  kept = promise-without-cache workedStart is-accepted es l
 
-grows : isRunning (modelWithout callOutcome workedStart firstDirect .tally .mode) ≡ true
-grows = ap (λ (k : Model). isRunning (k .tally .mode)) first-model ∙ first-runs
+  grows : isRunning (modelWithout callOutcome workedStart es .tally .mode) ≡ true
+  grows = ap (λ (k : Model). isRunning (k .tally .mode)) (model-fed callOutcome workedStart (fromFormat es) fs fed) ∙ on
+
+  calls-left : callsLeftOf (modelWithout callOutcome workedStart es .tally) ≡ 2
+  calls-left = ap (λ (k : Model). callsLeftOf (k .tally)) (model-fed callOutcome workedStart (fromFormat es) fs fed) ∙ two
+
+  calls-told : lastReported callOutcome (begin workedStart) (fromFormat es) none ≡ some 2
+  calls-told = kept .calls-left is-up grows ∙ ap some calls-left
+
+  finishing-two : (further : List DirectEvent) → DirectFurther further → DirectFinishing callOutcome workedStart es further 2
+  finishing-two further f = subst (DirectFinishing callOutcome workedStart es further) calls-left (kept .finishes is-up grows further f)
+
+before-lawful : Lawful callOutcome (begin workedStart) (fromFormat beforeFurther)
+unfolding fromFormat flushedAfter directEvents directBeforeRead beforeFurther firstDirect cutDirect
+before-lawful =
+    lawful-before callOutcome (begin workedStart) (fromFormat beforeFurther) (flushedAfter ((copiedDirect ++ cutAdvance) ++ (ends (read 0 (blockOf 0)) ∷ [])))
+    (direct-facts .lawful)
+
+before-up : IsUp (systemWithout callOutcome workedStart beforeFurther)
+unfolding systemAfter afterAll after IsUp fromFormat flushedAfter beforeFurther firstDirect cutDirect
+before-up = tt
 
 first-lawful : Lawful callOutcome (begin workedStart) (fromFormat firstDirect)
-unfolding fromFormat flushedAfter directEvents directBeforeRead firstDirect lastDirect
-first-lawful = lawful-before (begin workedStart) (fromFormat firstDirect) (flushedAfter (lastDirect ++ (ends (read 0 (blockOf 0)) ∷ []))) (direct-facts .lawful)
+unfolding fromFormat flushedAfter beforeFurther firstDirect
+first-lawful = lawful-before callOutcome (begin workedStart) (fromFormat firstDirect) (flushedAfter cutDirect) before-lawful
 
 first-up : IsUp (systemWithout callOutcome workedStart firstDirect)
 unfolding systemAfter afterAll after IsUp fromFormat flushedAfter firstDirect
 first-up = tt
 
-kept-first : DirectKept callOutcome workedStart firstDirect
-kept-first = promise-without-cache workedStart is-accepted firstDirect first-lawful
+-- ---- further calls
 
-told : advancesTold callOutcome (systemWithout callOutcome workedStart firstDirect) (ends advance ∷ ends advance ∷ []) ≡ false ∷ true ∷ []
-unfolding advancesTold isAdvance
-told =
-    kept-first .finishes first-up grows (ends advance ∷ ends advance ∷ []) (an-advance (an-advance no-call)) .last-told (sym calls-left)
-    ∙ ap (λ (n : ℕ). replicate (n - 1) false ++ (true ∷ [])) calls-left
+all-further : DirectFurther furtherDirect
+unfolding furtherDirect copiedDirect
+all-further = a-write (an-advance (a-read (an-advance no-call)))
 
-block-set : modelWithout callOutcome workedStart directBeforeRead .plain .bytes 0 ≡ some (blockOf 3)
+copied-further : DirectFurther copiedDirect
+unfolding copiedDirect
+copied-further = a-write (an-advance (a-read no-call))
+
+finishing : DirectFinishing callOutcome workedStart beforeFurther furtherDirect 2
+finishing = finishing-two beforeFurther (firstFed ++ cutFed) before-lawful before-up before-fed before-left before-runs furtherDirect all-further
+
+copied-finishing : DirectFinishing callOutcome workedStart beforeFurther copiedDirect 2
+copied-finishing = finishing-two beforeFurther (firstFed ++ cutFed) before-lawful before-up before-fed before-left before-runs copiedDirect copied-further
+
+two-advances : length (advancesTold callOutcome (systemWithout callOutcome workedStart beforeFurther) furtherDirect) ≡ 2
+unfolding furtherDirect copiedDirect advancesTold isAdvance
+two-advances = refl
+
+one-advance : length (advancesTold callOutcome (systemWithout callOutcome workedStart beforeFurther) copiedDirect) ≡ 1
+unfolding copiedDirect advancesTold isAdvance
+one-advance = refl
+
+-- ---- the last read
+
+block-set : modelWithout callOutcome workedStart directBeforeRead .plain .bytes 0 ≡ some (blockOf 5)
 block-set = ap (λ (k : Model). k .plain .bytes 0) last-model ∙ last-set
 
 open-after : modelWithout callOutcome workedStart directBeforeRead .plain .blocks ≡ 2
@@ -143,20 +211,28 @@ read-follows : directEvents ≡ directBeforeRead ++ (ends (read 0 (blockOf 0)) �
 unfolding directEvents
 read-follows = refl
 
-read-back : outcome callOutcome (read 0 (blockOf 0)) (systemWithout callOutcome workedStart directBeforeRead) .piece ≡ blockOf 3
+read-back : outcome callOutcome (read 0 (blockOf 0)) (systemWithout callOutcome workedStart directBeforeRead) .piece ≡ blockOf 5
 unfolding workedStart
 read-back =
     promise-without-cache workedStart is-accepted directEvents (direct-facts .lawful)
-    .reads directBeforeRead [] 0 (blockOf 0) read-follows (rw open-after (omega arith)) (length-replicate {A = ℕ} 512 0) .bytes-read (blockOf 3) block-set
+    .reads directBeforeRead [] 0 (blockOf 0) read-follows (rw open-after (omega arith)) (length-replicate {A = ℕ} 512 0) .bytes-read (blockOf 5) block-set
 
 pub worked-without-cache : WithoutCacheFacts
 worked-without-cache =
     record {
       is-lawful = direct-facts .lawful;
       open-before = ap (λ (k : Model). k .plain .blocks) first-model ∙ first-open;
-      calls-left = calls-left;
-      calls-told = kept-first .calls-left first-up grows ∙ ap some calls-left;
-      told = told;
+      calls-left = calls-left firstDirect firstFed first-lawful first-up first-fed first-left first-runs;
+      calls-told = calls-told firstDirect firstFed first-lawful first-up first-fed first-left first-runs;
+      calls-left-again = calls-left beforeFurther (firstFed ++ cutFed) before-lawful before-up before-fed before-left before-runs;
+      all-further = all-further;
+      copied-fed = copied-fed;
+      finishing = finishing;
+      finished = finishing .finished two-advances;
+      told = finishing .last-told two-advances;
+      copied-finishing = copied-finishing;
+      still-runs = copied-finishing .still-runs (rw one-advance (omega arith));
+      none-told = copied-finishing .none-told (rw one-advance (omega arith)) ∙ ap (λ (n : ℕ). replicate n false) one-advance;
       open-after = open-after;
       block-set = block-set;
       read-back = read-back;

@@ -9,9 +9,9 @@ use lib.ListN.{length, replicate}
 use Rattle.layout.specs.Tally.{isRunning, callsLeftOf}
 use Rattle.medium.specs.Medium.{tornBlock, oldRecord}
 use Rattle.volume.specs.Answers.{accepted}
-use Rattle.promise.specs.Calls.{Call, grow, advance, write, read, restart, flushed}
-use Rattle.promise.specs.Lists.{callOutcome, Event, runs, cut, outcome, Lawful, NoEarlyCut, lastReported, finishedTold}
-use Rattle.promise.specs.Promise.{Start, formatted, begin, systemAfter, modelOf}
+use Rattle.promise.specs.Calls.{Call, grow, advance, write, read, restart, flushed, ended}
+use Rattle.promise.specs.Lists.{callOutcome, Event, runs, cut, outcome, Lawful, NoEarlyCut, fedAll, lastReported, AllFurther, finishedTold}
+use Rattle.promise.specs.Promise.{Start, formatted, begin, systemAfter, modelOf, Finishing}
 
 -- ---- a worked list
 
@@ -42,12 +42,16 @@ firstEvents =
     ∷ runs flushed
     ∷ []
 
--- an advance that copies; one refused with 18; after flushed, one that finishes the growth
-unfoldable pub lastEvents : List Event
-lastEvents = runs advance ∷ runs advance ∷ runs flushed ∷ runs advance ∷ []
+-- further calls: a save; an advance that copies; a read
+unfoldable pub copiedEvents : List Event
+copiedEvents = runs (write 0 (blockOf 5)) ∷ runs flushed ∷ runs advance ∷ runs (read 0 (blockOf 0)) ∷ []
+
+-- and then an advance refused with 18; after flushed, one that finishes the growth
+unfoldable pub furtherEvents : List Event
+furtherEvents = copiedEvents ++ (runs advance ∷ runs flushed ∷ runs advance ∷ [])
 
 unfoldable pub finishedEvents : List Event
-finishedEvents = firstEvents ++ lastEvents
+finishedEvents = firstEvents ++ furtherEvents
 
 -- its record is pending at a cut, which leaves the old one: the growth runs again
 unfoldable pub takenBack : List Event
@@ -63,19 +67,36 @@ pub record WorkedFacts : Type 0 where
   pub is-accepted : accepted (formatted workedStart .reply .answer) ≡ true
   pub is-lawful : Lawful callOutcome (begin workedStart) workedEvents
   pub no-early-cut : NoEarlyCut workedEvents
-  -- the growth runs: one block is open, two calls are left, and two accepted advances finish it
+  -- the growth runs: one block is open, two calls are left
   pub open-before : modelOf callOutcome workedStart firstEvents .plain .blocks ≡ 1
   pub calls-left : callsLeftOf (modelOf callOutcome workedStart firstEvents .tally) ≡ 2
   pub calls-told : lastReported callOutcome (begin workedStart) firstEvents none ≡ some 2
-  pub told : finishedTold callOutcome (systemAfter callOutcome workedStart firstEvents) lastEvents ≡ false ∷ true ∷ []
+  -- the calls after it are further calls, the save and the read among them accepted, and two accepted advances finish the growth
+  pub all-further : AllFurther callOutcome (systemAfter callOutcome workedStart firstEvents) furtherEvents
+  pub further-fed : fedAll callOutcome (systemAfter callOutcome workedStart firstEvents) furtherEvents
+      ≡ ended (write 0 (blockOf 5)) true
+      ∷ ended flushed true
+      ∷ ended advance true
+      ∷ ended (read 0 (blockOf 0)) true
+      ∷ ended advance false
+      ∷ ended flushed true
+      ∷ ended advance true
+      ∷ []
+  pub finishing : Finishing callOutcome workedStart firstEvents furtherEvents 2
+  pub finished : isRunning (modelOf callOutcome workedStart (firstEvents ++ furtherEvents) .tally .mode) ≡ false
+  pub told : finishedTold callOutcome (systemAfter callOutcome workedStart firstEvents) furtherEvents ≡ false ∷ true ∷ []
+  -- after the first of them it still runs
+  pub copied-finishing : Finishing callOutcome workedStart firstEvents copiedEvents 2
+  pub still-runs : isRunning (modelOf callOutcome workedStart (firstEvents ++ copiedEvents) .tally .mode) ≡ true
+  pub none-told : finishedTold callOutcome (systemAfter callOutcome workedStart firstEvents) copiedEvents ≡ false ∷ []
   -- it is finished: two blocks are open, the added one is unset
   pub open-finished : modelOf callOutcome workedStart finishedEvents .plain .blocks ≡ 2
   pub added-unset : modelOf callOutcome workedStart finishedEvents .plain .bytes 1 ≡ none
   -- it is taken back: it runs again, one block is open, and the save that was down is read back
   pub runs-again : isRunning (modelOf callOutcome workedStart beforeRead .tally .mode) ≡ true
   pub open-after : modelOf callOutcome workedStart beforeRead .plain .blocks ≡ 1
-  pub block-set : modelOf callOutcome workedStart beforeRead .plain .bytes 0 ≡ some (blockOf 3)
-  pub read-back : outcome callOutcome (read 0 (blockOf 0)) (systemAfter callOutcome workedStart beforeRead) .piece ≡ blockOf 3
+  pub block-set : modelOf callOutcome workedStart beforeRead .plain .bytes 0 ≡ some (blockOf 5)
+  pub read-back : outcome callOutcome (read 0 (blockOf 0)) (systemAfter callOutcome workedStart beforeRead) .piece ≡ blockOf 5
 
 -- ---- lists that are not lawful
 

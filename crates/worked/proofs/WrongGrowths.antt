@@ -1,0 +1,125 @@
+-- Programs whose growths are wrong: for each a list, computed, after which what is told breaks a part of demand 3.
+use Prim.Native.Nat.{ℕ}
+use mathlib.Core.Path.{_≡_, refl}
+use mathlib.Core.Bool.{Bool, true}
+use mathlib.Core.List.{List, [], _∷_}
+use lib.ListN.{replicate}
+use Rattle.layout.specs.Tally.{Mode}
+use Rattle.record.specs.Sector.{fieldsHold, marksHold, spacesHold, isRecord, readRecord}
+use Rattle.volume.specs.Answers.{isFinished, toldFinished}
+use Rattle.volume.specs.Calls.{restartTable}
+use Rattle.volume.specs.Records.{stateRead, isSoundRecord}
+use Rattle.promise.specs.Calls.{Call, grow, copy, advance, restart, isAdvance}
+use Rattle.promise.specs.Promise.{Start}
+use Rattle.promise.specs.WithoutCache.{DirectEvent, ends, flushedAfter, fromFormat, no-call, an-advance}
+use Rattle.worked.specs.Worked.{workedStart}
+use Rattle.worked.specs.WrongPrograms.{Act, program, neverAdvances, endsEarly, endsLate, madeUpCount, keepsCopies, growsAlways}
+use Rattle.worked.specs.Parts.{NoneTold, Finished, LastTold, CallsLeftTold, AdvanceAccepted, EveryGrowth, EveryFurther, EveryDirectGrowth, EveryDirectFurther}
+use Rattle.worked.proofs.Computed.{Tested, tested}
+use Rattle.worked.proofs.Computing.{computing}
+use Rattle.worked.proofs.BrokenGrowths.{acceptedOnly, allOf, noAdvance, endsUp, growthTest, broken-growth, broken-direct-growth, otherThan, otherCount, someRefused, refusedAdvance, advanceAfterFlushed, refutes-count, refutes-advance}
+use Rattle.worked.proofs.BrokenFurther.{wrongFor, wrongTwice, broken-direct, broken-twice, sameTold, toldEarly, runsOn, toldLate, refutes-none-told, refutes-finished, refutes-last-told}
+
+-- unfolded, it opens what a computed list with a growth needs
+unfoldable testing : Unit {0}
+unfolding computing growthTest acceptedOnly allOf noAdvance endsUp otherThan someRefused sameTold isFinished toldFinished isAdvance program
+testing = tt
+
+abbrev oneGrowth : List DirectEvent
+oneGrowth = ends (grow 2) ∷ []
+
+-- ---- the number reported
+
+abbrev BreaksCount : (calls : (c : Call) → Act) → Type 0
+BreaksCount calls = (EveryGrowth calls (CallsLeftTold calls) → ⊥) × (EveryDirectGrowth calls (λ a es. CallsLeftTold calls a (fromFormat es)) → ⊥)
+
+breaks-count : (calls : (c : Call) → Act) (a : Start) (es : List DirectEvent) → growthTest calls a (fromFormat es) [] otherCount ≡ true → BreaksCount calls
+breaks-count calls a es t = (
+  broken-growth calls (CallsLeftTold calls) [] otherCount (refutes-count calls) a es t,
+  broken-direct-growth calls (CallsLeftTold calls) [] otherCount (refutes-count calls) a es t,
+)
+
+-- a made-up count of calls left: grow reports 7, and 2 are left
+made-up-tested : Tested madeUpCount (λ p. growthTest p workedStart (fromFormat oneGrowth) [] otherCount)
+unfolding testing madeUpCount
+made-up-tested = (λ v o. refl, refl)
+
+pub made-up-count : BreaksCount madeUpCount
+made-up-count = breaks-count madeUpCount workedStart oneGrowth (tested madeUpCount (λ p. growthTest p workedStart (fromFormat oneGrowth) [] otherCount) made-up-tested)
+
+-- a restart that keeps unrecorded copies: it reports one call less than the tally has left
+abbrev oneCopy : List DirectEvent
+oneCopy = ends (grow 2) ∷ ends (copy 0) ∷ ends restart ∷ []
+
+copies-tested : growthTest keepsCopies workedStart (fromFormat oneCopy) [] otherCount ≡ true
+unfolding testing keepsCopies restartTable isSoundRecord stateRead readRecord isRecord fieldsHold marksHold spacesHold
+copies-tested = refl
+
+pub keeps-copies : BreaksCount keepsCopies
+keeps-copies = breaks-count keepsCopies workedStart oneCopy copies-tested
+
+-- ---- an advance that always refuses: directly after flushed too, and so that two calls do not finish
+
+never-refused : Tested neverAdvances (λ p. growthTest p workedStart (fromFormat oneGrowth) advanceAfterFlushed refusedAdvance)
+unfolding testing neverAdvances
+never-refused = (λ v o. refl, refl)
+
+pub never-advances : EveryGrowth neverAdvances (AdvanceAccepted neverAdvances) → ⊥
+never-advances =
+    broken-growth neverAdvances (AdvanceAccepted neverAdvances) advanceAfterFlushed refusedAdvance (refutes-advance neverAdvances) workedStart oneGrowth
+    (tested neverAdvances (λ p. growthTest p workedStart (fromFormat oneGrowth) advanceAfterFlushed refusedAdvance) never-refused)
+
+abbrev oneAdvance : List DirectEvent
+oneAdvance = ends advance ∷ []
+
+abbrev twoAdvances : List DirectEvent
+twoAdvances = ends advance ∷ oneAdvance
+
+abbrev threeAdvances : List DirectEvent
+threeAdvances = ends advance ∷ twoAdvances
+
+never-runs-on : Tested neverAdvances (λ p. growthTest p workedStart (fromFormat oneGrowth) (flushedAfter twoAdvances) (wrongFor runsOn allOf))
+unfolding testing neverAdvances
+never-runs-on = (λ v o. refl, refl)
+
+pub never-finishes : EveryDirectFurther neverAdvances Finished → ⊥
+never-finishes =
+    broken-direct Finished runsOn refutes-finished neverAdvances workedStart oneGrowth twoAdvances (an-advance (an-advance no-call)) never-runs-on
+
+-- ---- what further calls tell
+
+abbrev BreaksFurther : (calls : (c : Call) → Act) (P : (told : List Bool) (mode : Mode) (n : ℕ) → Type 0) → Type 0
+BreaksFurther calls P = (EveryFurther calls P → ⊥) × (EveryDirectFurther calls P → ⊥)
+
+-- an advance that ends the growth a call early: the first of two tells finished
+early-tested : Tested endsEarly (λ p. growthTest p workedStart (fromFormat oneGrowth) (flushedAfter oneAdvance) (wrongTwice toldEarly))
+unfolding testing endsEarly
+early-tested = (λ v o. refl, refl)
+
+pub ends-early : BreaksFurther endsEarly NoneTold
+ends-early = broken-twice NoneTold toldEarly refutes-none-told endsEarly workedStart oneGrowth oneAdvance (an-advance no-call) early-tested
+
+-- one that ends it a call late: with two blocks to copy, the third of three does not tell it
+unfoldable twoDisks : Start
+twoDisks = record { size = 512; rows = 2; disks = 2; medium = replicate 3_584 0 }
+
+abbrev toThree : List DirectEvent
+toThree = ends (grow 3) ∷ []
+
+late-tested : Tested endsLate (λ p. growthTest p twoDisks (fromFormat toThree) (flushedAfter threeAdvances) (wrongTwice toldLate))
+unfolding testing endsLate twoDisks
+late-tested = (λ v o. refl, refl)
+
+pub ends-late : BreaksFurther endsLate LastTold
+ends-late = broken-twice LastTold toldLate refutes-last-told endsLate twoDisks toThree threeAdvances (an-advance (an-advance (an-advance no-call))) late-tested
+
+-- a grow that refuses nothing: from 0 disks to 0 there are no windows, no call is left, and the growth runs
+abbrev toNone : List DirectEvent
+toNone = ends (grow 0) ∷ ends (grow 0) ∷ []
+
+always-tested : Tested growsAlways (λ p. growthTest p workedStart (fromFormat toNone) (flushedAfter []) (wrongTwice runsOn))
+unfolding testing growsAlways
+always-tested = (λ v o. refl, refl)
+
+pub grows-always : BreaksFurther growsAlways Finished
+grows-always = broken-twice Finished runsOn refutes-finished growsAlways workedStart toNone [] no-call always-tested
