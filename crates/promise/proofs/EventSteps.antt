@@ -27,18 +27,18 @@ use Rattle.promise.proofs.PendingStores.{seen, Live, not-yet, record-pe
 
 -- ---- what is stored lies in the medium; read, restart and flushed store nothing
 
-read-fits : (v : Volume) (x : ℕ) (piece : List ℕ) (o : Observations) → StoreFits (geometry v) (o .byteCount) (readOutcome v x piece o .store)
-unfolding readOutcome readEffect doing refused StoreFits
-read-fits v x piece o =
-    judged-cases (λ (out : Outcome). StoreFits (geometry v) (o .byteCount) (out .store)) (readTable v x (length piece) (o .byteCount))
-    (λ n. refused v n piece) _ (λ _. tt) (λ _. tt)
+pub read-stores : (v : Volume) (x : ℕ) (piece : List ℕ) (o : Observations) → readOutcome v x piece o .store ≡ noStore
+unfolding readOutcome readEffect doing refused
+read-stores v x piece o =
+    judged-cases (λ (out : Outcome). out .store ≡ noStore) (readTable v x (length piece) (o .byteCount)) (λ n. refused v n piece) _ (λ _. refl)
+    (λ _. refl)
 
-restart-stores : (o : Observations) → restartOutcome o .store ≡ noStore
+pub restart-stores : (o : Observations) → restartOutcome o .store ≡ noStore
 unfolding restartOutcome restartEffect reporting refused
 restart-stores o =
     judged-cases (λ (out : Outcome). out .store ≡ noStore) (restartTable o) (λ n. refused zeros n []) _ (λ _. refl) (λ _. refl)
 
-flushed-stores : (v : Volume) → flushedOutcome v .store ≡ noStore
+pub flushed-stores : (v : Volume) → flushedOutcome v .store ≡ noStore
 unfolding flushedOutcome flushedEffect doing refused
 flushed-stores v =
     judged-cases (λ (out : Outcome). out .store ≡ noStore) (flushedTable v) (λ n. refused v n []) _ (λ _. refl) (λ _. refl)
@@ -54,7 +54,7 @@ call-fits (copy x) v o s = sized-copy-fits v x o s
 call-fits checkpoint v o s = volume-laws .checkpoint-fits v o
 call-fits advance v o s = sized-advance-fits v o s
 call-fits (write x piece) v o s = volume-laws .write-fits v x piece o
-call-fits (read x piece) v o s = read-fits v x piece o
+call-fits (read x piece) v o s = nothing-fits _ _ _ (read-stores v x piece o)
 call-fits restart v o s = nothing-fits _ _ _ (restart-stores o)
 call-fits flushed v o s = nothing-fits _ _ _ (flushed-stores v)
 
