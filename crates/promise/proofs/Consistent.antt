@@ -9,7 +9,7 @@ use lib.Dec.{eqb}
 use Rattle.base.specs.Refusals.{refusal}
 use Rattle.base.proofs.Booleans.{cond-cases}
 use Rattle.layout.specs.History.{diskCount, oldCount, earlier}
-use Rattle.layout.specs.Tally.{Tally, notGrowing, openBlocks, liveSpotOf, waiting, movesNow, targetOf, windowFull, lastWindow}
+use Rattle.layout.specs.Tally.{Tally, notGrowing, openBlocks, liveSpotOf, waiting, movesNow, sourceOf, targetOf, windowFull, lastWindow}
 use Rattle.medium.specs.declared.Geometry.{Geometry}
 use Rattle.medium.specs.Laws.{Holds, OtherThanRecord, Stored}
 use Rattle.medium.specs.Medium.{bytesNeeded, Observations, Store, noStore, recordStore, blockStore}
@@ -20,6 +20,7 @@ use Rattle.volume.specs.Records.{numbersOf, recordOf}
 use Rattle.volume.specs.Sound.{sound}
 use Rattle.volume.specs.States.{geometry, historyOf, disks, tallyOf, newState, withPending, withGrowth, grown, recordedOnly, withCopy, checkpointed}
 use Rattle.volume.proofs.Accepted.{format-accepted, grow-accepted}
+use Rattle.volume.proofs.CopyLaws.{source-spot}
 use Rattle.volume.proofs.RecordLaws.{recorded-sound}
 use Rattle.volume.proofs.Theorems.{volume-laws}
 use Rattle.promise.specs.Model.{PlainVolume, startPlain, withAdded, unset, startTally, grownTally, withBlocks, copiedTally, nextWindowTally, finishedTally, recordedTally, restartedTally, checkpointFinishes}
@@ -226,12 +227,13 @@ module _ (v : Volume) (before after : Observations) (p : PlainVolume) (c : Consi
             (λ d e. stored .read-back ∙ right d e));
       }
 
-  -- what it finds at the live spot of a block that may be copied
+  -- what it finds at the old spot of a block that may be copied, where that block lives
   pub copy-finds : v .growing ≢ 0 → (x : ℕ) → movesNow (tallyOf v) x ≡ true → tallyOf v .copied x ≡ false → (d : List ℕ) → p .bytes x ≡ some d
-      → before .bytesAt (geometry v) (liveSpotOf (tallyOf v) x) ≡ d
+      → before .bytesAt (geometry v) (sourceOf (tallyOf v) x) ≡ d
   copy-finds on x moves new d e =
       let left = copy-unrecorded (tallyOf v) (running-of v (c .is-sound) on) x moves new in
-      c .held .stands x d (spots-apart (tallyOf v) (stage-of v (c .is-sound)) .copies-open x left) e .at-live
+      rw (source-spot v x (c .is-sound) on moves new)
+      at (c .held .stands x d (spots-apart (tallyOf v) (stage-of v (c .is-sound)) .copies-open x left) e .at-live)
 
   -- a checkpoint
   pub consistent-checkpointed : v .growing ≢ 0 → Stored (geometry v) (recordStore (recordOf (checkpointed v))) before after

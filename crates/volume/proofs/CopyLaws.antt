@@ -10,17 +10,17 @@ use borrow.Author.Tests.{eqb-true, eqb-false, ne-eqb, le-ltb}
 use Rattle.base.specs.Refusals.{refusal}
 use Rattle.base.proofs.Booleans.{and-left, and-right, clash, by-test}
 use Rattle.layout.specs.Live.{atNewSpot, liveSpot}
-use Rattle.layout.specs.Tally.{openBlocks, recordedBy, movedBlocks, liveSpotOf, movesNow, nextBlock}
-use Rattle.layout.specs.Windows.{oldSpot, moving, windowOf, movingIn}
+use Rattle.layout.specs.Tally.{openBlocks, recordedBy, movedBlocks, liveSpotOf, movesNow, sourceOf, nextBlock}
+use Rattle.layout.specs.Windows.{moving, windowOf, movingIn}
 use Rattle.layout.proofs.NextBlocks.{moving-in-old, next-some}
 use Rattle.marks.specs.Marks.{within}
 use Rattle.marks.proofs.MarkSets.{marked-within}
 use Rattle.marks.proofs.MarkWords.{words-both}
 use Rattle.volume.specs.declared.Volume.{Volume}
-use Rattle.volume.specs.Calls.{copyTable}
+use Rattle.volume.specs.Calls.{copyTable, advanceTable}
 use Rattle.volume.specs.Sound.{sound}
 use Rattle.volume.specs.States.{historyOf, modeOf, tallyOf}
-use Rattle.volume.proofs.Accepted.{AdvanceFacts, CopyFacts, copy-accepted}
+use Rattle.volume.proofs.Accepted.{AdvanceFacts, CopyFacts, copy-accepted, advance-accepted}
 use Rattle.volume.proofs.SoundLaws.{sound-facts, some-old}
 use Rattle.marks.specs.Words.{marksOf}
 
@@ -32,8 +32,8 @@ module _ (v : Volume) (x : ℕ) (runs : v .growing ≢ 0) (moves : movesNow (tal
   moves-open = rw (ne-eqb (v .growing) 0 runs) (moving-in-old (v .rows) (historyOf v) (v .window) x moves)
 
   -- it is at its old spot until it is recorded
-  at-old-spot : tallyOf v .recorded x ≡ false → liveSpotOf (tallyOf v) x ≡ oldSpot (v .rows) (historyOf v) x
-  unfolding liveSpotOf liveSpot atNewSpot movedBlocks recordedBy movesNow movingIn tallyOf modeOf
+  at-old-spot : tallyOf v .recorded x ≡ false → liveSpotOf (tallyOf v) x ≡ sourceOf (tallyOf v) x
+  unfolding sourceOf liveSpotOf liveSpot atNewSpot movedBlocks recordedBy movesNow movingIn tallyOf modeOf
   at-old-spot e =
       let s = v .rows in
       let h = historyOf v in
@@ -42,13 +42,18 @@ module _ (v : Volume) (x : ℕ) (runs : v .growing ≢ 0) (moves : movesNow (tal
       let k = eqb-true (windowOf s h x) (v .window) w in
       rw (ne-eqb (v .growing) 0 runs, m, le-ltb (windowOf s h x) (v .window) (omega (arith, k)), w, e)
 
--- in a sound state what is recorded is copied
+-- in a sound state what is recorded is copied, so that it is there until it is copied
 pub recorded-copied : (v : Volume) → sound v ≡ true → v .growing ≢ 0 → (x : ℕ) → tallyOf v .recorded x ≡ true → tallyOf v .copied x ≡ true
 unfolding tallyOf
 recorded-copied v e runs =
     let f = sound-facts v e in
     marked-within (v .rows) (historyOf v) (f .limits) (some-old v e runs) (v .window) (marksOf (v .recorded)) (marksOf (v .copied))
     (f .while-growing runs .recorded-copied)
+
+pub source-spot : (v : Volume) (x : ℕ) → sound v ≡ true → v .growing ≢ 0 → movesNow (tallyOf v) x ≡ true → tallyOf v .copied x ≡ false
+    → liveSpotOf (tallyOf v) x ≡ sourceOf (tallyOf v) x
+source-spot v x e runs moves new =
+    at-old-spot v x runs moves (by-test (tallyOf v .recorded x) (λ t. clash (recorded-copied v e runs x t) new) (λ t. t))
 
 -- ---- the block that is copied
 
@@ -58,15 +63,16 @@ next-facts v x len f e =
     let k = next-some (tallyOf v) x e in
     record { advances = f; block-open = moves-open v x (f .is-growing) (k .0); moves = k .0; not-copied = k .1 }
 
-pub source-spot : (v : Volume) (x len : ℕ) → CopyFacts v x len → liveSpotOf (tallyOf v) x ≡ oldSpot (v .rows) (historyOf v) x
-source-spot v x len f =
-    let runs = f .advances .is-growing in
-    at-old-spot v x runs (f .moves)
-    (by-test (tallyOf v .recorded x) (λ t. clash (recorded-copied v (f .advances .is-sound) runs x t) (f .not-copied)) (λ t. t))
+pub lives-at-source : (v : Volume) (x len : ℕ) → CopyFacts v x len → liveSpotOf (tallyOf v) x ≡ sourceOf (tallyOf v) x
+lives-at-source v x len f = source-spot v x (f .advances .is-sound) (f .advances .is-growing) (f .moves) (f .not-copied)
 
 pub copy-source : (v : Volume) (x byteCount : ℕ) → refusal (copyTable v x byteCount) ≡ 0
-    → liveSpotOf (tallyOf v) x ≡ oldSpot (v .rows) (historyOf v) x
-copy-source v x byteCount e = source-spot v x byteCount (copy-accepted v x byteCount e .0)
+    → liveSpotOf (tallyOf v) x ≡ sourceOf (tallyOf v) x
+copy-source v x byteCount e = lives-at-source v x byteCount (copy-accepted v x byteCount e .0)
+
+pub advance-source : (v : Volume) (x byteCount : ℕ) → refusal (advanceTable v byteCount) ≡ 0 → nextBlock (tallyOf v) ≡ some x
+    → liveSpotOf (tallyOf v) x ≡ sourceOf (tallyOf v) x
+advance-source v x byteCount e n = lives-at-source v x byteCount (next-facts v x byteCount (advance-accepted v byteCount e .0) n)
 
 -- ---- no copy waits to be recorded
 

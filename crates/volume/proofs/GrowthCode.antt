@@ -15,16 +15,15 @@ use Rattle.layout.specs.declared.Block.{Block}
 use Rattle.layout.specs.declared.GrowthDisks.{GrowthDisks}
 use Rattle.layout.specs.declared.Part.{Part}
 use Rattle.layout.specs.declared.Spot.{Spot}
-use Rattle.layout.specs.History.{history, oldCount, addedCount, newestGrowth, spotOf}
+use Rattle.layout.specs.History.{oldCount, addedCount, newestGrowth, spotOf}
 use Rattle.layout.specs.Limits.{mostRows}
-use Rattle.layout.specs.Tally.{openBlocks, liveSpotOf, callsLeftOf, movesNow, targetOf, nextBlock, windowFull, lastWindow}
+use Rattle.layout.specs.Tally.{openBlocks, callsLeftOf, movesNow, sourceOf, targetOf, nextBlock, windowFull, lastWindow}
 use Rattle.layout.specs.Windows.{windows, oldSpot, moving, windowOf, movingIn, markOf, markedBlocks, partMoved, allCopied}
 use Rattle.layout.proofs.Theorems.{some-added, marks-fit}
 use Rattle.layout.proofs.WindowsCode.{windows-most}
 use Rattle.marks.specs.declared.NextCopy.the-variants.{CopyOf, AllCopied}
 use Rattle.marks.specs.Marks.{markCount, within, asNextCopy}
 use Rattle.marks.specs.Words.{marksOf}
-use Rattle.marks.proofs.BlocksCode.{history-before}
 use Rattle.marks.proofs.MarkSets.{marks-law}
 use Rattle.medium.specs.declared.Geometry.{Geometry}
 use Rattle.medium.specs.Medium.{mostCopied, bytesNeeded, Observations, observe, recordStore, blockStore, apply, Inside}
@@ -39,12 +38,11 @@ use Rattle.volume.specs.Sound.{sound}
 use Rattle.volume.specs.States.{geometry, historyOf, disks, tallyOf, withPending, recordPending, blockPending, pendingWith, withGrowth, withMark, withCopy, checkpointed}
 use Rattle.volume.proofs.Accepted.{AdvanceFacts, CopyFacts}
 use Rattle.volume.proofs.CallsCode.{record-stored, tell-made}
-use Rattle.volume.proofs.CopyLaws.{moves-open, source-spot}
+use Rattle.volume.proofs.CopyLaws.{moves-open}
 use Rattle.volume.proofs.Judged.{refused-when, accepted-when}
-use Rattle.volume.proofs.LiveCode.{countsNow, history-limits, has-growth}
-use Rattle.volume.proofs.LookUpLaws.{live-inside}
+use Rattle.volume.proofs.LiveCode.{countsNow, history-limits}
 use Rattle.volume.proofs.SoundLaws.{sound-facts, some-old}
-use Rattle.volume.proofs.StoresFit.{copy-inside}
+use Rattle.volume.proofs.StoresFit.{source-inside, copy-inside}
 
 -- the copied blocks, as the code tests them
 abbrev markedNow : (v : Volume) (x : ℕ) → Bool
@@ -144,34 +142,27 @@ unfolding movesNow movingIn tallyOf historyOf
 now-moving v x m = and-left (moving (v .rows) (countsNow v) x) (eqb (windowOf (v .rows) (countsNow v) x) (v .window)) m
 
 module _ (v : Volume) (x len : ℕ) (f : CopyFacts v x len) where
-  -- it lives at its spot before the newest growth
-  pub lives-before : spotOf (v .rows) (history (v .growths - 1) (v .counts)) x ≡ liveSpotOf (tallyOf v) x
-  unfolding oldSpot historyOf
-  lives-before =
-      let a = f .advances in
-      rw (history-before (v .growths) (v .counts) (has-growth v (a .is-growing) (a .is-sound))) (sym (source-spot v x len f))
-
-  -- what copying it from its live spot to its new one requires
+  -- what copying it from its old spot to its new one requires
   pub copy-asks : (k : Geometry) → k ≡ geometry v
-      → (from to : Spot) → from ≡ liveSpotOf (tallyOf v) x → to ≡ spotOf (v .rows) (countsNow v) x
+      → (from to : Spot) → from ≡ oldSpot (v .rows) (historyOf v) x → to ≡ spotOf (v .rows) (countsNow v) x
       → ((0 < k .size) × (k .size ≤ mostCopied)) × (Inside k len from × Inside k len to)
-  unfolding geometry targetOf tallyOf historyOf
+  unfolding geometry sourceOf targetOf tallyOf historyOf
   copy-asks k same from to a b =
       let g = f .advances in
       let size = sound-facts v (g .is-sound) in
       rw (same, a, b) (
         (omega (arith, size .size-least), size .size-most),
         (
-          live-inside v x len (g .is-sound) (f .block-open) (g .room),
+          source-inside v x len f,
           copy-inside v x len (g .is-sound) (g .is-growing) (f .moves) (g .room),
         ),
       )
 
 pub copy-stored : (v : Volume) (x : ℕ) (k : Geometry) → k ≡ geometry v
-    → (from to : Spot) → from ≡ liveSpotOf (tallyOf v) x → to ≡ spotOf (v .rows) (countsNow v) x
+    → (from to : Spot) → from ≡ oldSpot (v .rows) (historyOf v) x → to ≡ spotOf (v .rows) (countsNow v) x
     → (m after : List ℕ) → after ≡ apply k (blockStore to (observe m .bytesAt k from)) m
     → after ≡ apply (geometry v) (copyStore v x (observe m)) m
-unfolding copyStore targetOf tallyOf historyOf
+unfolding copyStore sourceOf targetOf tallyOf historyOf
 copy-stored v x k same from to a b m after made = rw (same, a, b) at made
 
 -- ---- the state with a block copied, by its mark

@@ -11,7 +11,7 @@ use lib.ListN.{length, length-take, length-drop}
 use Rattle.base.specs.Refusals.{refusal}
 use Rattle.layout.specs.declared.Spot.{Spot}
 use Rattle.layout.specs.History.{diskCount, oldCount, spotOf}
-use Rattle.layout.specs.Tally.{liveSpotOf, movesNow, targetOf, nextBlock}
+use Rattle.layout.specs.Tally.{movesNow, sourceOf, targetOf, nextBlock}
 use Rattle.layout.proofs.NextBlocks.{moving-in-old}
 use Rattle.layout.proofs.Theorems.{spots-and-blocks, disks-sum}
 use Rattle.medium.specs.declared.Geometry.{Geometry}
@@ -24,7 +24,7 @@ use Rattle.volume.specs.Sound.{sound}
 use Rattle.volume.specs.States.{geometry, historyOf, disks, tallyOf, newState, zeros, grown, checkpointed}
 use Rattle.volume.proofs.Accepted.{AdvanceFacts, CopyFacts, format-accepted, grow-accepted, write-accepted, copy-accepted, checkpoint-accepted, advance-accepted}
 use Rattle.volume.proofs.ByteBounds.{record-room}
-use Rattle.volume.proofs.CopyLaws.{next-facts}
+use Rattle.volume.proofs.CopyLaws.{next-facts, lives-at-source}
 use Rattle.volume.proofs.Judged.{judged-cases}
 use Rattle.volume.proofs.LookUpLaws.{live-inside}
 use Rattle.volume.proofs.RecordLaws.{record-length}
@@ -79,6 +79,12 @@ copy-inside v x len e runs m room =
     let i = medium-laws .inside (geometry v) (disks v) (spotOf s h x) (w .disk) (w .row) in
     record { row = i .row; fits = omega (arith, i .fits) }
 
+-- the one that it is taken from, where the block lives
+pub source-inside : (v : Volume) (x len : ℕ) → CopyFacts v x len → Inside (geometry v) len (sourceOf (tallyOf v) x)
+source-inside v x len f =
+    let a = f .advances in
+    rw (lives-at-source v x len f) at (live-inside v x len (a .is-sound) (f .block-open) (a .room))
+
 -- a spot in the medium has a block's bytes
 pub record Sized (g : Geometry) (o : Observations) : Type 0 where
   pub bytes-whole : (p : Spot) → Inside g (o .byteCount) p → length (o .bytesAt g p) ≡ g .size
@@ -93,7 +99,7 @@ unfolding copyStore StoreFits
 copied-fits v x o s f =
     let a = f .advances in (
       copy-inside v x (o .byteCount) (a .is-sound) (a .is-growing) (f .moves) (a .room),
-      s .bytes-whole (liveSpotOf (tallyOf v) x) (live-inside v x (o .byteCount) (a .is-sound) (f .block-open) (a .room)),
+      s .bytes-whole (sourceOf (tallyOf v) x) (source-inside v x (o .byteCount) f),
     )
 
 recorded-fits : (v : Volume) (len : ℕ) → AdvanceFacts v len → StoreFits (geometry v) len (checkpointStore v)

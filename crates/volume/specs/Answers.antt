@@ -4,8 +4,9 @@ use Prim.Native.Nat.{ℕ}
 use mathlib.Core.Bool.{Bool, true, false}
 use mathlib.Core.Option.{Option, none, some}
 use lib.Dec.{eqb}
+use Rattle.layout.specs.declared.Part.{Part}
 use Rattle.layout.specs.declared.Reason.{Reason}
-use Rattle.layout.specs.declared.Reason.the-variants.{SetOut}
+use Rattle.layout.specs.declared.Reason.the-variants.{SetOut, AddedBy, MovedBy}
 use Rattle.layout.specs.declared.Spot.{Spot}
 use Rattle.volume.specs.declared.Advanced.{Advanced}
 use Rattle.volume.specs.declared.Advanced.the-variants.{Copied, Recorded, Finished}
@@ -50,6 +51,29 @@ toldFinished Done = false
 toldFinished (CallsLeft n) = false
 toldFinished (Told did n) = isFinished did
 
+-- the block that an advance tells as copied, and its part
+unfoldable pub copiedBlock : (did : Advanced) → ℕ
+copiedBlock (Copied x part) = x .0
+copiedBlock Recorded = 0
+copiedBlock Finished = 0
+
+unfoldable pub copiedPart : (did : Advanced) → Option Part
+copiedPart (Copied x part) = some part
+copiedPart Recorded = none
+copiedPart Finished = none
+
+unfoldable pub blockCopied : (a : Answer) → ℕ
+blockCopied (Refused k) = 0
+blockCopied Done = 0
+blockCopied (CallsLeft n) = 0
+blockCopied (Told did n) = copiedBlock did
+
+unfoldable pub partCopied : (a : Answer) → Option Part
+partCopied (Refused k) = none
+partCopied Done = none
+partCopied (CallsLeft n) = none
+partCopied (Told did n) = copiedPart did
+
 -- of address: the number, the spot, and why the block is there
 unfoldable pub addressNumber : (a : AddressAnswer) → ℕ
 addressNumber (address.Refused k) = k
@@ -62,6 +86,12 @@ spotTold (address.At p reason) = p
 unfoldable pub reasonTold : (a : AddressAnswer) → Reason
 reasonTold (address.Refused k) = SetOut
 reasonTold (address.At p reason) = reason
+
+-- the part of a block that was moved
+unfoldable pub partTold : (r : Reason) → Option Part
+partTold SetOut = none
+partTold (AddedBy k) = none
+partTold (MovedBy k part) = some part
 
 -- of holder: the number, and the block
 unfoldable pub holderNumber : (a : HolderAnswer) → ℕ

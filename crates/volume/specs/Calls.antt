@@ -9,7 +9,7 @@ use lib.ListN.{length, take}
 use Rattle.base.specs.Refusals.{refusal}
 use Rattle.layout.specs.declared.Spot.{Spot}
 use Rattle.layout.specs.Limits.{mostDisks, mostGrowths}
-use Rattle.layout.specs.Tally.{openBlocks, liveSpotOf, liveBlockOf, liveReasonOf, waiting, callsLeftOf, movesNow, targetOf, nextBlock}
+use Rattle.layout.specs.Tally.{openBlocks, liveSpotOf, liveBlockOf, liveReasonOf, waiting, callsLeftOf, movesNow, sourceOf, targetOf, nextBlock}
 use Rattle.layout.specs.Windows.{partMoved}
 use Rattle.marks.specs.Marks.{within}
 use Rattle.marks.specs.Words.{marksOf}
@@ -194,9 +194,9 @@ copyTable v x byteCount =
     ∷ (11, tallyOf v .copied x)
     ∷ blockRows v
 
--- a block that may be copied lives at its old spot
+-- "the old spot's bytes at the new one"
 unfoldable pub copyStore : (v : Volume) (x : ℕ) (o : Observations) → Store
-copyStore v x o = blockStore (targetOf (tallyOf v) x) (o .bytesAt (geometry v) (liveSpotOf (tallyOf v) x))
+copyStore v x o = blockStore (targetOf (tallyOf v) x) (o .bytesAt (geometry v) (sourceOf (tallyOf v) x))
 
 unfoldable pub copyEffect : (v : Volume) (x : ℕ) (o : Observations) → Outcome
 copyEffect v x o = reporting (withCopy v x) (copyStore v x o)

@@ -4,6 +4,7 @@ use mathlib.Core.Path.{_≡_}
 use mathlib.Core.Bool.{Bool, true, false}
 use mathlib.Core.List.{List, []}
 use mathlib.Core.Logic.{_≢_}
+use mathlib.Core.Option.{none, some}
 use lib.ListN.{length, getD}
 use Rattle.base.specs.Refusals.{refusal}
 use Rattle.layout.specs.declared.Spot.{Spot}
@@ -11,14 +12,14 @@ use Rattle.layout.specs.History.{oldCount, addedCount}
 use Rattle.layout.specs.Laws.{LookUps}
 use Rattle.layout.specs.Limits.{Limits}
 use Rattle.layout.specs.Reasons.{growthTold}
-use Rattle.layout.specs.Tally.{liveSpotOf, movesNow}
-use Rattle.layout.specs.Windows.{windows, oldSpot, movingIn}
+use Rattle.layout.specs.Tally.{liveSpotOf, movesNow, sourceOf, nextBlock}
+use Rattle.layout.specs.Windows.{windows, movingIn}
 use Rattle.marks.specs.Marks.{markCount, within}
 use Rattle.marks.specs.Words.{marksOf}
 use Rattle.medium.specs.Medium.{recordBytes, Observations, observe, noStore, StoreFits}
 use Rattle.volume.specs.declared.Pending.{Pending}
 use Rattle.volume.specs.declared.Volume.{Volume}
-use Rattle.volume.specs.Answers.{number, callsTold, addressNumber, spotTold, reasonTold, holderNumber, blockTold}
+use Rattle.volume.specs.Answers.{number, callsTold, blockCopied, partCopied, addressNumber, spotTold, reasonTold, partTold, holderNumber, blockTold}
 use Rattle.volume.specs.Calls.{Outcome, formatTable, formatOutcome, restartTable, restartOutcome, sectorTable, sectorOutcome, growTable, growOutcome, writeTable, writeOutcome, readTable, readOutcome, copyTable, copyOutcome, checkpointTable, checkpointOutcome, advanceTable, advanceOutcome, flushedTable, flushedOutcome, addressTable, addressReply, holderTable, holderReply}
 use Rattle.volume.specs.Records.{recordOf, stateRead, isSoundRecord}
 use Rattle.volume.specs.Sound.{sizeStep, mostSize, movingOf, sound}
@@ -59,7 +60,9 @@ pub record Refuses (table : List (ℕ × Bool)) (v : Volume) (piece : List ℕ) 
   pub state-kept : refusal table ≢ 0 → out .reply .state ≡ v
   pub nothing-stored : refusal table ≢ 0 → out .store ≡ noStore
   pub piece-kept : refusal table ≢ 0 → out .piece ≡ piece
-  pub no-figures : refusal table ≢ 0 → callsTold (out .reply .answer) ≡ 0
+  pub no-calls : refusal table ≢ 0 → callsTold (out .reply .answer) ≡ 0
+  pub no-block : refusal table ≢ 0 → blockCopied (out .reply .answer) ≡ 0
+  pub no-part : refusal table ≢ 0 → partCopied (out .reply .answer) ≡ none
 
 -- of a look-up, which stores nothing: the number told is the table's, the state is handed back, a refusal has no figures
 pub record AddressRefuses (v : Volume) (x : ℕ) : Type 0 where
@@ -67,6 +70,7 @@ pub record AddressRefuses (v : Volume) (x : ℕ) : Type 0 where
   pub state-kept : addressReply v x .state ≡ v
   pub no-spot : refusal (addressTable v x) ≢ 0 → spotTold (addressReply v x .answer) ≡ record { disk = 0; row = record { 0 = 0 } }
   pub no-growth : refusal (addressTable v x) ≢ 0 → growthTold (reasonTold (addressReply v x .answer)) ≡ 0
+  pub no-part : refusal (addressTable v x) ≢ 0 → partTold (reasonTold (addressReply v x .answer)) ≡ none
 
 pub record HolderRefuses (v : Volume) (p : Spot) : Type 0 where
   pub number-told : holderNumber (holderReply v p .answer) ≡ refusal (holderTable v p)
@@ -120,9 +124,11 @@ pub record VolumeLaws : Type 0 where
   pub flushed-refuses : (v : Volume) → Refuses (flushedTable v) v [] (flushedOutcome v)
   pub address-refuses : (v : Volume) (x : ℕ) → AddressRefuses v x
   pub holder-refuses : (v : Volume) (p : Spot) → HolderRefuses v p
-  -- a block that is copied lives at its old spot
+  -- a block that is copied lives at its old spot: one that copy accepts, and the one that advance copies
   pub copy-source : (v : Volume) (x byteCount : ℕ) → refusal (copyTable v x byteCount) ≡ 0
-      → liveSpotOf (tallyOf v) x ≡ oldSpot (v .rows) (historyOf v) x
+      → liveSpotOf (tallyOf v) x ≡ sourceOf (tallyOf v) x
+  pub advance-source : (v : Volume) (x byteCount : ℕ) → refusal (advanceTable v byteCount) ≡ 0 → nextBlock (tallyOf v) ≡ some x
+      → liveSpotOf (tallyOf v) x ≡ sourceOf (tallyOf v) x
   -- 12 is given exactly where copied equals recorded
   pub no-copy-waiting : (v : Volume) → sound v ≡ true → within (marksOf (v .copied)) (marksOf (v .recorded)) ≡ true → v .copied ≡ v .recorded
   -- address and holder are inverse to each other in every stage of a growth, and after a finished one 15 never occurs

@@ -1,22 +1,16 @@
 -- `store_copy` meets its contract.
-use mathlib.Core.Path.{_≡_, _∙_}
+use mathlib.Core.Path.{_≡_}
 use lib.ListN.{length}
 use borrow.Author.Needs.{needs}
 use Rattle.layout.specs.History.{history, newestGrowth, spotOf}
-use Rattle.layout.specs.Tally.{liveSpotOf}
-use Rattle.volume.specs.States.{tallyOf}
 use Rattle.volume.proofs.Accepted.{CopyFacts}
-use Rattle.volume.proofs.GrowthCode.{copy-facts, lives-before, copy-asks, copy-stored}
+use Rattle.volume.proofs.GrowthCode.{copy-facts, copy-asks, copy-stored}
 use Rattle.volume.proofs.LiveCode.{countsNow, newest-asked, spot-before-it, live-asks, new-read}
 use Rattle.volume.proofs.Volume.store_copy.Statement.{statement}
 use Rattle.volume.proofs.Volume.store_copy.Tie as tie
 
 facts : (c : tie.Start) → CopyFacts (c .args .self) (c .args .x .0) (length (c .args .medium .now))
 facts c = copy-facts _ _ _ (c .pre .0) (c .pre .1 .1 .0, c .pre .1 .1 .1 .0)
-
--- the spot that it is copied from is its live one
-from-live : (c : tie.Start) → c .args .p ≡ liveSpotOf (tallyOf (c .args .self)) (c .args .x .0)
-from-live c = spot-before-it _ (c .pre .0 .1) (c .pre .0 .0) _ _ (c .pre .1 .1 .1 .1) ∙ lives-before _ _ _ (facts c)
 
 newest-growth-requires : tie.Need-newest-growth-requires
 newest-growth-requires c κs =
@@ -51,7 +45,7 @@ copy-block-requires : tie.Need-copy-block-requires
 copy-block-requires c κs =
     let b = c .before .before in
     let s = b .before .before .before in
-    copy-asks _ _ _ (facts s) _ (c .before .geometry .ensures) _ _ (from-live s) (to-new b)
+    copy-asks _ _ _ (facts s) _ (c .before .geometry .ensures) _ _ (s .pre .1 .1 .1 .1) (to-new b)
 
 same-length : tie.Need-same-length
 same-length c = search needs
@@ -60,7 +54,7 @@ returns : tie.Need-returns
 returns c =
     let b = c .before .before .before .before .before in
     let s = b .before .before .before in
-    copy-stored _ _ _ (c .before .before .before .before .geometry .ensures) _ _ (from-live s) (to-new b) _ _ (c .before .before .copy-block .ensures)
+    copy-stored _ _ _ (c .before .before .before .before .geometry .ensures) _ _ (s .pre .1 .1 .1 .1) (to-new b) _ _ (c .before .before .copy-block .ensures)
 
 pub store-copy-spec : {M : Type 1} → statement M
 store-copy-spec =
