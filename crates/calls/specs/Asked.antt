@@ -7,7 +7,7 @@ use Rattle.calls.specs.declared.Call.{Call}
 use Rattle.calls.specs.declared.Call.the-variants.{Grow, Copy, Checkpoint, Advance, Write, Read, Restart, Flushed}
 
 -- the same call; write and read take the lent piece
-unfoldable pub asked : (call : Call) (piece : List ℕ) → promise.Call
+abbrev pub asked : (call : Call) (piece : List ℕ) → promise.Call
 asked (Grow count) piece = promise.grow count
 asked (Copy x) piece = promise.copy (x .0)
 asked Checkpoint piece = promise.checkpoint

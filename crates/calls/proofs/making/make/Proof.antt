@@ -3,7 +3,7 @@ use mathlib.Core.Path.{refl}
 use borrow.Author.Needs.{needs}
 use Rattle.promise.specs.Lists.{callOutcome}
 use Rattle.promise.proofs.EventSteps.{read-stores, restart-stores, flushed-stores}
-use Rattle.calls.specs.Asked.{asked, pieceAfter}
+use Rattle.calls.specs.Asked.{pieceAfter}
 use Rattle.calls.proofs.MakingCode.{write-piece, stored-nothing}
 use Rattle.calls.proofs.making.make.Statement.{statement}
 use Rattle.calls.proofs.making.make.Tie as tie
@@ -60,28 +60,28 @@ same-length : tie.Need-same-length
 same-length c = search needs
 
 returns : tie.Need-returns
-unfolding asked pieceAfter callOutcome
+unfolding pieceAfter callOutcome
 returns c = rw (c .before .before .before .before .before .call .given .1) (c .before .before .grow .ensures .0, (c .before .before .grow .ensures .1, refl))
 
 same-length-2 : tie.Need-same-length-2
 same-length-2 c = search needs
 
 returns-2 : tie.Need-returns-2
-unfolding asked pieceAfter callOutcome
+unfolding pieceAfter callOutcome
 returns-2 c = rw (c .before .before .before .before .before .call2 .given .1) (c .before .before .copy .ensures .0, (c .before .before .copy .ensures .1, refl))
 
 same-length-3 : tie.Need-same-length-3
 same-length-3 c = search needs
 
 returns-3 : tie.Need-returns-3
-unfolding asked pieceAfter callOutcome
+unfolding pieceAfter callOutcome
 returns-3 c = rw (c .before .before .before .before .enum-told .given .1) (c .before .before .checkpoint .ensures .0, (c .before .before .checkpoint .ensures .1, refl))
 
 same-length-4 : tie.Need-same-length-4
 same-length-4 c = search needs
 
 returns-4 : tie.Need-returns-4
-unfolding asked pieceAfter callOutcome
+unfolding pieceAfter callOutcome
 returns-4 c = rw (c .before .before .before .before .enum-told2 .given .1) (c .before .before .advance .ensures .0, (c .before .before .advance .ensures .1, refl))
 
 same-length-5 : tie.Need-same-length-5
@@ -91,7 +91,7 @@ same-length-6 : tie.Need-same-length-6
 same-length-6 c = search needs
 
 returns-5 : tie.Need-returns-5
-unfolding asked pieceAfter callOutcome
+unfolding pieceAfter callOutcome
 returns-5 c = rw (c .before .before .before .before .before .before .call3 .given .1) (c .before .before .write .ensures .0, (c .before .before .write .ensures .1, write-piece _ _ _ _))
 
 same-length-7 : tie.Need-same-length-7
@@ -101,18 +101,18 @@ same-length-8 : tie.Need-same-length-8
 same-length-8 c = search needs
 
 returns-6 : tie.Need-returns-6
-unfolding asked pieceAfter callOutcome
+unfolding pieceAfter callOutcome
 returns-6 c = rw (c .before .before .before .before .before .before .call4 .given .1) (c .before .before .read .ensures .0, (stored-nothing _ _ _ (read-stores _ _ _ _), c .before .before .read .ensures .1))
 
 same-length-9 : tie.Need-same-length-9
 same-length-9 c = search needs
 
 returns-7 : tie.Need-returns-7
-unfolding asked pieceAfter callOutcome
+unfolding pieceAfter callOutcome
 returns-7 c = rw (c .before .before .enum-told3 .given .1) (c .restart .ensures, (stored-nothing _ _ _ (restart-stores _), refl))
 
 returns-8 : tie.Need-returns-8
-unfolding asked pieceAfter callOutcome
+unfolding pieceAfter callOutcome
 returns-8 c = rw (c .before .enum-told4 .given .1) (c .flushed .ensures, (stored-nothing _ _ _ (flushed-stores _), refl))
 
 pub make-spec : {M : Type 1} → statement M
