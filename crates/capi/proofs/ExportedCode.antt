@@ -1,24 +1,29 @@
 -- What the code of the exported functions needs: the tests of the lengths, and what load puts and leaves.
 use Prim.Native.Nat.{ℕ}
 use mathlib.Core.Path.{_≡_, refl, sym, ap, _∙_}
-use mathlib.Core.Bool.{Bool, true, false, cond, not}
+use mathlib.Core.Bool.{Bool, true, false, cond, not, _&&_}
 use mathlib.Core.List.{List, [], _∷_, _++_, append-nil}
 use mathlib.Core.Logic.{_≢_}
 use native.Mathlib.Omega.{arith}
 use lib.Dec.{eqb}
 use lib.ListN.{length, take, drop, set, drop-of-length-le}
-use borrow.Author.Tests.{eq-eqb, ne-eqb, not-true, not-false}
+use borrow.Author.Tests.{eqb-true, eq-eqb, ne-eqb, not-true, not-false}
 use Rattle.base.specs.Refusals.{refusal}
-use Rattle.base.proofs.Booleans.{and-left, by-test}
+use Rattle.base.proofs.Booleans.{and-left, and-right, by-test}
 use Rattle.medium.specs.declared.Geometry.{Geometry}
-use Rattle.medium.specs.Medium.{Observations, apply}
+use Rattle.medium.specs.Medium.{Observations, observe, apply}
+use Rattle.volume.specs.declared.Answer.{Answer}
+use Rattle.volume.specs.declared.Reply.{Reply}
 use Rattle.volume.specs.declared.Volume.{Volume}
-use Rattle.volume.specs.States.{withPending}
+use Rattle.volume.specs.Answers.{number}
+use Rattle.volume.specs.States.{geometry, withPending}
 use Rattle.volume.specs.Calls.{refused, doing, formatTable, formatEffect, formatOutcome}
+use Rattle.promise.specs.Calls.{Call}
+use Rattle.promise.specs.Lists.{callOutcome}
 use Rattle.scene_load.specs.declared.Load.{Load}
 use Rattle.scene_load.specs.declared.Scene.{Scene}
 use Rattle.scene_load.specs.Loads.{loadOf, loadNumber}
-use Rattle.capi.specs.Exported.{wrongLength, lengthsFit, stateFits, untouched, lookedUp, stateTaken, loadLeft}
+use Rattle.capi.specs.Exported.{Left, wrongLength, lengthsFit, stateFits, untouched, handedBack, lookedUp, callLeft, stateTaken, loadLeft}
 use Rattle.capi.specs.Figures.{loadFigures}
 use Rattle.capi.specs.Words.{stateWords, pendingWord, wordsOf, stateFrom, areState}
 use Rattle.capi.proofs.WordLaws.{words-pending, state-words}
@@ -36,26 +41,64 @@ pub lengths-right : (words : List ℕ) (n : ℕ) (figures : List ℕ) → length
 unfolding lengthsFit
 lengths-right words n figures e f = rw (eq-eqb (length words) stateWords e, eq-eqb (length figures) n f)
 
--- the same of the tests of a state: what `is_state` tells
-pub words-length : (words : List ℕ) (told : Bool) → told ≡ areState words → not told ≡ false → length words ≡ stateWords
-words-length words told e h = state-words words (sym e ∙ not-false told h) .count
+-- what `state_fits` tells
+pub record Fits (words : List ℕ) (n : ℕ) (figures : List ℕ) : Type 0 where
+  pub fits : stateFits words n figures ≡ true
+  pub are-state : areState words ≡ true
+  pub words-length : length words ≡ stateWords
+  pub figures-length : length figures ≡ n
 
-module _ (words : List ℕ) (n : ℕ) (figures : List ℕ) (told : Bool) (e : told ≡ areState words) where
-  pub no-state : not told ≡ true → stateFits words n figures ≡ false
+module _ (words : List ℕ) (n : ℕ) (figures : List ℕ) (told : Bool) (e : told ≡ (areState words && eqb (length figures) n)) where
+  pub fits-not : not told ≡ true → stateFits words n figures ≡ false
   unfolding stateFits
-  no-state h = rw (← e, not-true told h)
+  fits-not h = sym e ∙ not-true told h
 
-  module _ (h : not told ≡ false) where
-    pub are-state : areState words ≡ true
-    are-state = sym e ∙ not-false told h
+  pub fitting : not told ≡ false → Fits words n figures
+  unfolding stateFits
+  fitting h =
+      let both : (areState words && eqb (length figures) n) ≡ true = sym e ∙ not-false told h in
+      let state = and-left (areState words) (eqb (length figures) n) both in
+      record {
+        fits = both;
+        are-state = state;
+        words-length = state-words words state .count;
+        figures-length = eqb-true (length figures) n (and-right (areState words) (eqb (length figures) n) both);
+      }
 
-    pub state-figures-wrong : length figures ≢ n → stateFits words n figures ≡ false
-    unfolding stateFits
-    state-figures-wrong f = rw (are-state, ne-eqb (length figures) n f)
+-- what `is_state` tells, where no figures are lent
+module _ (words : List ℕ) (told : Bool) (e : told ≡ areState words) where
+  no-figures : told ≡ (areState words && eqb (length {A = ℕ} []) 0)
+  no-figures = e ∙ and-true (areState words)
+    where
+      and-true : (b : Bool) → b ≡ (b && true)
+      and-true true = refl
+      and-true false = refl
 
-    pub state-right : length figures ≡ n → stateFits words n figures ≡ true
-    unfolding stateFits
-    state-right f = rw (are-state, eq-eqb (length figures) n f)
+  pub no-state : not told ≡ true → stateFits words 0 [] ≡ false
+  no-state = fits-not words 0 [] told no-figures
+
+  pub state-told : not told ≡ false → Fits words 0 []
+  state-told = fitting words 0 [] told no-figures
+
+-- what a call on a state leaves, as the code makes it: where the lent slices do not fit, and where they do
+module _ (n : ℕ) (figuresOf : Answer → List ℕ) (c : Call) (words figures piece m : List ℕ) where
+  abbrev left : Left
+  left = callLeft n figuresOf c words figures piece (observe m)
+
+  pub call-not-made : (g : Geometry) (told : Bool) → told ≡ (areState words && eqb (length figures) n) → not told ≡ true
+      → (wrongLength ≡ left .number) × ((words ≡ left .words) × ((figures ≡ left .figures) × (m ≡ apply g (left .store) m)))
+  unfolding callLeft untouched apply
+  call-not-made g told e h = rw (fits-not words n figures told e h) (refl, (refl, (refl, refl)))
+
+  pub call-made : Fits words n figures → (v : Volume) → v ≡ stateFrom words
+      → (r : Reply) (stored : List ℕ)
+      → (r ≡ callOutcome c v (observe m) .reply) × (stored ≡ apply (geometry v) (callOutcome c v (observe m) .store) m)
+      → (k : ℕ) (next told : List ℕ) → (k ≡ number (r .answer)) × ((next ≡ wordsOf (r .state)) × (told ≡ figuresOf (r .answer)))
+      → (k ≡ left .number) × ((next ≡ left .words) × ((told ≡ left .figures) × (stored ≡ apply (geometry (stateFrom words)) (left .store) m)))
+  unfolding callLeft handedBack
+  call-made f v e r stored made k next told handed =
+      let same = rw e at made in
+      rw (f .fits, ← same .0) (handed .0, (handed .1 .0, (handed .1 .1, same .1)))
 
 -- putting what is pending into the words puts the state, where nothing else of it differs
 pub pending-put : (words : List ℕ) → areState words ≡ true → (u v : Volume) → u ≡ v → OnlyPending (stateFrom words) v

@@ -1,5 +1,5 @@
--- What the exported functions leave: no call has the number of a wrong length, and a refused call leaves the words as they were, zeros as
--- figures and nothing stored.
+-- What the exported functions leave: no call has the number of a wrong length, and a refused call leaves the words and the piece as they
+-- were, zeros as figures and nothing stored.
 use Prim.Native.Nat.{ℕ, _<_}
 use mathlib.Core.Path.{_≡_, refl, ap, _∙_}
 use mathlib.Core.Bool.{Bool, true, false, cond, _&&_, false≢true}
@@ -22,7 +22,7 @@ use Rattle.volume.specs.declared.AddressAnswer.{AddressAnswer}
 use Rattle.volume.specs.declared.AddressAnswer.the-variants as address
 use Rattle.volume.specs.declared.HolderAnswer.{HolderAnswer}
 use Rattle.volume.specs.declared.HolderAnswer.the-variants as holder
-use Rattle.volume.specs.Answers.{number, callsTold, addressNumber, holderNumber, blockTold}
+use Rattle.volume.specs.Answers.{number, callsTold, blockCopied, partCopied, addressNumber, holderNumber, blockTold}
 use Rattle.volume.specs.Calls.{Outcome, refused, formatTable, formatOutcome, restartTable, restartOutcome, growTable, growOutcome, writeTable, writeOutcome, readTable, readOutcome, flushedTable, flushedEffect, flushedOutcome, doing, writeEffect, readEffect, copyTable, copyOutcome, checkpointTable, checkpointOutcome, advanceTable, advanceOutcome, addressTable, addressReply, holderTable, holderReply}
 use Rattle.volume.specs.Laws.{Refuses}
 use Rattle.volume.specs.Records.{numbersOf}
@@ -30,11 +30,13 @@ use Rattle.volume.specs.States.{nonePending, pendingWith, newState, withPending
 use Rattle.volume.proofs.Judged.{judged-cases}
 use Rattle.volume.proofs.RecordCode.{eight-listed}
 use Rattle.volume.proofs.Theorems.{volume-laws}
+use Rattle.promise.specs.Calls.{Call, grow, copy, checkpoint, advance, write, read, restart, flushed}
+use Rattle.promise.specs.Lists.{callOutcome}
 use Rattle.scene_load.specs.declared.Scene.{Scene}
 use Rattle.scene_load.specs.Loads.{placeTold, loadTable, loadOf, loadNumber}
 use Rattle.scene_load.proofs.Theorems.{load-laws}
-use Rattle.capi.specs.Exported.{Left, wrongLength, lengthsFit, stateFits, untouched, handedBack, lookedUp, formatLeft, restartLeft, growLeft, copyLeft, checkpointLeft, advanceLeft, writeLeft, readLeft, flushedLeft, addressLeft, holderLeft, loadLeft}
-use Rattle.capi.specs.Figures.{toldFigures, noFigures, callsFigures, advanceFigures, addressFigures, holderFigures}
+use Rattle.capi.specs.Exported.{Left, wrongLength, lengthsFit, stateFits, untouched, handedBack, lookedUp, callLeft, formatLeft, restartLeft, growLeft, copyLeft, checkpointLeft, advanceLeft, writeLeft, readLeft, flushedLeft, addressLeft, holderLeft, loadLeft}
+use Rattle.capi.specs.Figures.{partNumber, didTold, noFigures, callsFigures, advanceFigures, addressFigures, holderFigures}
 use Rattle.capi.specs.Laws.{RefusedLeft}
 use Rattle.capi.specs.Words.{stateWords, pendingWord, wordsOf, stateFrom, areState}
 use Rattle.capi.proofs.WordLaws.{state-arrays, words-back, state-words}
@@ -62,10 +64,6 @@ pub format-number : (z s n : ℕ) (o : Observations) → number (formatOutcome z
 unfolding formatTable
 format-number z s n o = other-number (formatTable z s n (o .byteCount)) _ (volume-laws .format-refuses z s n o .number-told) refl
 
-pub restart-number : (o : Observations) → number (restartOutcome o .reply .answer) ≢ wrongLength
-unfolding restartTable
-restart-number o = other-number (restartTable o) _ (volume-laws .restart-refuses o .number-told) refl
-
 pub address-number : (v : Volume) (x : ℕ) → addressNumber (addressReply v x .answer) ≢ wrongLength
 unfolding addressTable
 address-number v x = other-number (addressTable v x) _ (volume-laws .address-refuses v x .number-told) refl
@@ -78,36 +76,18 @@ pub load-number : (v : Volume) (scenes : List Scene) → loadNumber (loadOf v sc
 unfolding loadTable
 load-number v scenes = other-number (loadTable v scenes (length scenes)) _ (load-laws .load-refuses v scenes .number-told) refl
 
-module _ (v : Volume) where
-  pub grow-number : (count : ℕ) (o : Observations) → number (growOutcome v count o .reply .answer) ≢ wrongLength
-  unfolding growTable
-  grow-number count o = other-number (growTable v count (o .byteCount)) _ (volume-laws .grow-refuses v count o .number-told) refl
-
-  pub copy-number : (x : ℕ) (o : Observations) → number (copyOutcome v x o .reply .answer) ≢ wrongLength
-  unfolding copyTable
-  copy-number x o = other-number (copyTable v x (o .byteCount)) _ (volume-laws .copy-refuses v x o .number-told) refl
-
-  pub checkpoint-number : (o : Observations) → number (checkpointOutcome v o .reply .answer) ≢ wrongLength
-  unfolding checkpointTable
-  checkpoint-number o = other-number (checkpointTable v (o .byteCount)) _ (volume-laws .checkpoint-refuses v o .number-told) refl
-
-  pub advance-number : (o : Observations) → number (advanceOutcome v o .reply .answer) ≢ wrongLength
-  unfolding advanceTable
-  advance-number o = other-number (advanceTable v (o .byteCount)) _ (volume-laws .advance-refuses v o .number-told) refl
-
-  pub write-number : (x : ℕ) (piece : List ℕ) (o : Observations) → number (writeOutcome v x piece o .reply .answer) ≢ wrongLength
-  unfolding writeTable
-  write-number x piece o =
-      other-number (writeTable v x (length piece) (o .byteCount)) _ (volume-laws .write-refuses v x piece o .number-told) refl
-
-  pub read-number : (x : ℕ) (piece : List ℕ) (o : Observations) → number (readOutcome v x piece o .reply .answer) ≢ wrongLength
-  unfolding readTable
-  read-number x piece o =
-      other-number (readTable v x (length piece) (o .byteCount)) _ (volume-laws .read-refuses v x piece o .number-told) refl
-
-  pub flushed-number : number (flushedOutcome v .reply .answer) ≢ wrongLength
-  unfolding flushedTable
-  flushed-number = other-number (flushedTable v) _ (volume-laws .flushed-refuses v .number-told) refl
+pub call-number : (c : Call) (v : Volume) (o : Observations) → number (callOutcome c v o .reply .answer) ≢ wrongLength
+unfolding callOutcome growTable copyTable checkpointTable advanceTable writeTable readTable restartTable flushedTable
+call-number (grow count) v o = other-number (growTable v count (o .byteCount)) _ (volume-laws .grow-refuses v count o .number-told) refl
+call-number (copy x) v o = other-number (copyTable v x (o .byteCount)) _ (volume-laws .copy-refuses v x o .number-told) refl
+call-number checkpoint v o = other-number (checkpointTable v (o .byteCount)) _ (volume-laws .checkpoint-refuses v o .number-told) refl
+call-number advance v o = other-number (advanceTable v (o .byteCount)) _ (volume-laws .advance-refuses v o .number-told) refl
+call-number (write x piece) v o =
+    other-number (writeTable v x (length piece) (o .byteCount)) _ (volume-laws .write-refuses v x piece o .number-told) refl
+call-number (read x piece) v o =
+    other-number (readTable v x (length piece) (o .byteCount)) _ (volume-laws .read-refuses v x piece o .number-told) refl
+call-number restart v o = other-number (restartTable o) _ (volume-laws .restart-refuses o .number-told) refl
+call-number flushed v o = other-number (flushedTable v) _ (volume-laws .flushed-refuses v .number-told) refl
 
 -- ---- figures of refusals
 
@@ -119,7 +99,7 @@ calls-zero (CallsLeft n) h = absurd (h refl)
 calls-zero (Told did n) h = absurd (h refl)
 
 advance-zero : (a : Answer) → number a ≢ 0 → advanceFigures a ≡ replicate 4 0
-unfolding number callsTold toldFigures
+unfolding number callsTold didTold blockCopied partCopied partNumber
 advance-zero (Refused k) h = refl
 advance-zero Done h = refl
 advance-zero (CallsLeft n) h = absurd (h refl)
@@ -138,17 +118,18 @@ holder-zero (holder.Has x) h = absurd (h refl)
 -- ---- refused calls
 
 -- a call that has refused a state
-module _ (words : List ℕ) (figureCount : ℕ) (figuresOf : Answer → List ℕ)
+module _ (words : List ℕ) (figureCount : ℕ) (piece : List ℕ) (figuresOf : Answer → List ℕ)
     (zero-figures : (a : Answer) → number a ≢ 0 → figuresOf a ≡ replicate figureCount 0) where
-  refused-left : {table : List (ℕ × Bool)} {v : Volume} {piece : List ℕ} {out : Outcome} (fits : Bool) (other : Left) → Refuses table v piece out
+  refused-left : {table : List (ℕ × Bool)} {v : Volume} {out : Outcome} (fits : Bool) (other : Left) → Refuses table v piece out
       → wordsOf v ≡ words → fits ≡ true → cond fits (handedBack figuresOf out) other .number ≢ 0
-      → RefusedLeft words figureCount (cond fits (handedBack figuresOf out) other)
+      → RefusedLeft words figureCount piece (cond fits (handedBack figuresOf out) other)
   unfolding handedBack
   refused-left {table = table} {out = out} true other r same e h =
       let f : refusal table ≢ 0 = λ z. h (r .number-told ∙ z) in
       record {
         words-kept = ap wordsOf (r .state-kept f) ∙ same;
         figures-zero = zero-figures (out .reply .answer) h;
+        piece-kept = r .piece-kept f;
         nothing-stored = r .nothing-stored f;
       }
   refused-left false other r same e h = absurd (false≢true e)
@@ -156,9 +137,10 @@ module _ (words : List ℕ) (figureCount : ℕ) (figuresOf : Answer → List ℕ
 -- a look-up that has refused
 looked-left : (words : List ℕ) (figureCount k : ℕ) (figures : List ℕ) (fits : Bool) (other : Left)
     → (k ≢ 0 → figures ≡ replicate figureCount 0) → fits ≡ true → cond fits (lookedUp k figures words) other .number ≢ 0
-    → RefusedLeft words figureCount (cond fits (lookedUp k figures words) other)
+    → RefusedLeft words figureCount [] (cond fits (lookedUp k figures words) other)
 unfolding lookedUp
-looked-left words figureCount k figures true other none e h = record { words-kept = refl; figures-zero = none h; nothing-stored = refl }
+looked-left words figureCount k figures true other none e h =
+    record { words-kept = refl; figures-zero = none h; piece-kept = refl; nothing-stored = refl }
 looked-left words figureCount k figures false other none e h = absurd (false≢true e)
 
 module _ (words : List ℕ) where
@@ -168,56 +150,67 @@ module _ (words : List ℕ) where
   fits-back figureCount figures e =
       words-back words (state-words words (and-left (areState words) (eqb (length figures) figureCount) e))
 
+  module _ (figureCount : ℕ) (figuresOf : Answer → List ℕ) (zero-figures : (a : Answer) → number a ≢ 0 → figuresOf a ≡ replicate figureCount 0)
+    where
+      call-refused : {table : List (ℕ × Bool)} (c : Call) (figures piece : List ℕ) (o : Observations)
+          → Refuses table (stateFrom words) piece (callOutcome c (stateFrom words) o)
+          → stateFits words figureCount figures ≡ true → callLeft figureCount figuresOf c words figures piece o .number ≢ 0
+          → RefusedLeft words figureCount piece (callLeft figureCount figuresOf c words figures piece o)
+      unfolding callLeft
+      call-refused c figures piece o r e =
+          refused-left words figureCount piece figuresOf zero-figures (stateFits words figureCount figures) (untouched words figures piece) r
+          (fits-back figureCount figures e) e
+
   pub grow-refused : (count : ℕ) (figures : List ℕ) (o : Observations)
-      → stateFits words 1 figures ≡ true → growLeft words count figures o .number ≢ 0 → RefusedLeft words 1 (growLeft words count figures o)
-  unfolding growLeft
-  grow-refused count figures o e =
-      refused-left words 1 callsFigures calls-zero (stateFits words 1 figures) (untouched words figures [])
-      (volume-laws .grow-refuses (stateFrom words) count o) (fits-back 1 figures e) e
+      → stateFits words 1 figures ≡ true → growLeft words count figures o .number ≢ 0 → RefusedLeft words 1 [] (growLeft words count figures o)
+  unfolding callOutcome
+  grow-refused count figures o =
+      call-refused 1 callsFigures calls-zero (grow count) figures [] o (volume-laws .grow-refuses (stateFrom words) count o)
 
   pub copy-refused : (x : ℕ) (figures : List ℕ) (o : Observations)
-      → stateFits words 1 figures ≡ true → copyLeft words x figures o .number ≢ 0 → RefusedLeft words 1 (copyLeft words x figures o)
-  unfolding copyLeft
-  copy-refused x figures o e =
-      refused-left words 1 callsFigures calls-zero (stateFits words 1 figures) (untouched words figures [])
-      (volume-laws .copy-refuses (stateFrom words) x o) (fits-back 1 figures e) e
+      → stateFits words 1 figures ≡ true → copyLeft words x figures o .number ≢ 0 → RefusedLeft words 1 [] (copyLeft words x figures o)
+  unfolding callOutcome
+  copy-refused x figures o = call-refused 1 callsFigures calls-zero (copy x) figures [] o (volume-laws .copy-refuses (stateFrom words) x o)
 
   pub checkpoint-refused : (figures : List ℕ) (o : Observations)
-      → stateFits words 1 figures ≡ true → checkpointLeft words figures o .number ≢ 0 → RefusedLeft words 1 (checkpointLeft words figures o)
-  unfolding checkpointLeft
-  checkpoint-refused figures o e =
-      refused-left words 1 callsFigures calls-zero (stateFits words 1 figures) (untouched words figures [])
-      (volume-laws .checkpoint-refuses (stateFrom words) o) (fits-back 1 figures e) e
+      → stateFits words 1 figures ≡ true → checkpointLeft words figures o .number ≢ 0 → RefusedLeft words 1 [] (checkpointLeft words figures o)
+  unfolding callOutcome
+  checkpoint-refused figures o =
+      call-refused 1 callsFigures calls-zero checkpoint figures [] o (volume-laws .checkpoint-refuses (stateFrom words) o)
 
   pub advance-refused : (figures : List ℕ) (o : Observations)
-      → stateFits words 4 figures ≡ true → advanceLeft words figures o .number ≢ 0 → RefusedLeft words 4 (advanceLeft words figures o)
-  unfolding advanceLeft
-  advance-refused figures o e =
-      refused-left words 4 advanceFigures advance-zero (stateFits words 4 figures) (untouched words figures [])
-      (volume-laws .advance-refuses (stateFrom words) o) (fits-back 4 figures e) e
+      → stateFits words 4 figures ≡ true → advanceLeft words figures o .number ≢ 0 → RefusedLeft words 4 [] (advanceLeft words figures o)
+  unfolding callOutcome
+  advance-refused figures o =
+      call-refused 4 advanceFigures advance-zero advance figures [] o (volume-laws .advance-refuses (stateFrom words) o)
 
   pub write-refused : (x : ℕ) (piece : List ℕ) (o : Observations)
-      → stateFits words 0 [] ≡ true → writeLeft words x piece o .number ≢ 0 → RefusedLeft words 0 (writeLeft words x piece o)
-  unfolding writeLeft
-  write-refused x piece o e =
-      refused-left words 0 noFigures (λ _ _. refl) (stateFits words 0 []) (untouched words [] piece)
-      (volume-laws .write-refuses (stateFrom words) x piece o) (fits-back 0 [] e) e
+      → stateFits words 0 [] ≡ true → writeLeft words x piece o .number ≢ 0 → RefusedLeft words 0 piece (writeLeft words x piece o)
+  unfolding callOutcome
+  write-refused x piece o =
+      call-refused 0 noFigures (λ _ _. refl) (write x piece) [] piece o (volume-laws .write-refuses (stateFrom words) x piece o)
 
-  pub flushed-refused : stateFits words 0 [] ≡ true → flushedLeft words .number ≢ 0 → RefusedLeft words 0 (flushedLeft words)
+  pub read-refused : (x : ℕ) (piece : List ℕ) (o : Observations)
+      → stateFits words 0 [] ≡ true → readLeft words x piece o .number ≢ 0 → RefusedLeft words 0 piece (readLeft words x piece o)
+  unfolding callOutcome
+  read-refused x piece o =
+      call-refused 0 noFigures (λ _ _. refl) (read x piece) [] piece o (volume-laws .read-refuses (stateFrom words) x piece o)
+
+  pub flushed-refused : stateFits words 0 [] ≡ true → flushedLeft words .number ≢ 0 → RefusedLeft words 0 [] (flushedLeft words)
   unfolding flushedLeft
   flushed-refused e =
-      refused-left words 0 noFigures (λ _ _. refl) (stateFits words 0 []) (untouched words [] [])
+      refused-left words 0 [] noFigures (λ _ _. refl) (stateFits words 0 []) (untouched words [] [])
       (volume-laws .flushed-refuses (stateFrom words)) (fits-back 0 [] e) e
 
   pub address-refused : (x : ℕ) (figures : List ℕ)
-      → stateFits words 5 figures ≡ true → addressLeft words x figures .number ≢ 0 → RefusedLeft words 5 (addressLeft words x figures)
+      → stateFits words 5 figures ≡ true → addressLeft words x figures .number ≢ 0 → RefusedLeft words 5 [] (addressLeft words x figures)
   unfolding addressLeft
   address-refused x figures =
       let answer = addressReply (stateFrom words) x .answer in
       looked-left words 5 (addressNumber answer) (addressFigures answer) (stateFits words 5 figures) (untouched words figures []) (address-zero answer)
 
   pub holder-refused : (p : Spot) (figures : List ℕ)
-      → stateFits words 1 figures ≡ true → holderLeft words p figures .number ≢ 0 → RefusedLeft words 1 (holderLeft words p figures)
+      → stateFits words 1 figures ≡ true → holderLeft words p figures .number ≢ 0 → RefusedLeft words 1 [] (holderLeft words p figures)
   unfolding holderLeft
   holder-refused p figures =
       let answer = holderReply (stateFrom words) p .answer in
@@ -239,18 +232,18 @@ unfolding wordsOf numbersOf pendingWord zeros newState nonePending
 zero-words = refl
 
 pub format-refused : (words : List ℕ) (z s n : ℕ) (o : Observations)
-    → lengthsFit words 0 [] ≡ true → formatLeft words z s n o .number ≢ 0 → RefusedLeft (replicate stateWords 0) 0 (formatLeft words z s n o)
+    → lengthsFit words 0 [] ≡ true → formatLeft words z s n o .number ≢ 0 → RefusedLeft (replicate stateWords 0) 0 [] (formatLeft words z s n o)
 unfolding formatLeft
 format-refused words z s n o =
-    refused-left (replicate stateWords 0) 0 noFigures (λ _ _. refl) (lengthsFit words 0 []) (untouched words [] [])
+    refused-left (replicate stateWords 0) 0 [] noFigures (λ _ _. refl) (lengthsFit words 0 []) (untouched words [] [])
     (volume-laws .format-refuses z s n o) zero-words
 
 pub restart-refused : (words figures : List ℕ) (o : Observations)
     → lengthsFit words 1 figures ≡ true → restartLeft words figures o .number ≢ 0
-    → RefusedLeft (replicate stateWords 0) 1 (restartLeft words figures o)
+    → RefusedLeft (replicate stateWords 0) 1 [] (restartLeft words figures o)
 unfolding restartLeft
 restart-refused words figures o =
-    refused-left (replicate stateWords 0) 1 callsFigures calls-zero (lengthsFit words 1 figures) (untouched words figures [])
+    refused-left (replicate stateWords 0) 1 [] callsFigures calls-zero (lengthsFit words 1 figures) (untouched words figures [])
     (volume-laws .restart-refuses o) zero-words
 
 -- ---- write and flushed, which change the last word, and read, which hands back the state
@@ -291,7 +284,7 @@ module _ (words : List ℕ) where
   counts-of e = state-arrays words (state-words words (and-left (areState words) (eqb (length {A = ℕ} []) 0) e) .count) .counts-length
 
   pub write-keeps : (x : ℕ) (piece : List ℕ) (o : Observations) → take 15 (writeLeft words x piece o .words) ≡ take 15 words
-  unfolding writeLeft handedBack untouched
+  unfolding callLeft callOutcome handedBack untouched
   write-keeps x piece o =
       cond-cases (λ (left : Left). take 15 (left .words) ≡ take 15 words) (stateFits words 0 [])
       (λ e. only-last (stateFrom words) _ (counts-of e) (write-pending (stateFrom words) x piece o) ∙ ap (take 15) (fits-back words 0 [] e)) (λ _. refl)
@@ -303,7 +296,7 @@ module _ (words : List ℕ) where
       (λ e. only-last (stateFrom words) _ (counts-of e) (flushed-pending (stateFrom words)) ∙ ap (take 15) (fits-back words 0 [] e)) (λ _. refl)
 
   pub read-keeps : (x : ℕ) (piece : List ℕ) (o : Observations) → readLeft words x piece o .words ≡ words
-  unfolding readLeft handedBack untouched
+  unfolding callLeft callOutcome handedBack untouched
   read-keeps x piece o =
       cond-cases (λ (left : Left). left .words ≡ words) (stateFits words 0 [])
       (λ e. ap wordsOf (read-state (stateFrom words) x piece o) ∙ fits-back words 0 [] e) (λ _. refl)

@@ -1,6 +1,6 @@
 -- The laws of words and of the exported functions: `capi-laws` proves all of `CapiLaws` in `specs/Laws.antt`.
 use Rattle.capi.specs.Laws.{CapiLaws}
-use Rattle.capi.proofs.RefusedLaws.{format-number, restart-number, grow-number, copy-number, checkpoint-number, advance-number, write-number, read-number, flushed-number, address-number, holder-number, load-number, grow-refused, copy-refused, checkpoint-refused, advance-refused, format-refused, restart-refused, address-refused, holder-refused, load-refused, write-refused, flushed-refused, write-keeps, flushed-keeps, read-keeps}
+use Rattle.capi.proofs.RefusedLaws.{format-number, call-number, address-number, holder-number, load-number, grow-refused, copy-refused, checkpoint-refused, advance-refused, format-refused, restart-refused, address-refused, holder-refused, load-refused, write-refused, read-refused, flushed-refused, write-keeps, flushed-keeps, read-keeps}
 use Rattle.capi.proofs.WordLaws.{words-count, state-back, state-arrays, words-back}
 
 pub capi-laws : CapiLaws
@@ -11,14 +11,7 @@ capi-laws =
       state-arrays = state-arrays;
       words-back = words-back;
       format-number = format-number;
-      restart-number = restart-number;
-      grow-number = grow-number;
-      copy-number = copy-number;
-      checkpoint-number = checkpoint-number;
-      advance-number = advance-number;
-      write-number = write-number;
-      read-number = read-number;
-      flushed-number = flushed-number;
+      call-number = call-number;
       address-number = address-number;
       holder-number = holder-number;
       load-number = load-number;
@@ -32,6 +25,7 @@ capi-laws =
       holder-refused = holder-refused;
       load-refused = load-refused;
       write-refused = write-refused;
+      read-refused = read-refused;
       flushed-refused = flushed-refused;
       write-keeps = write-keeps;
       flushed-keeps = flushed-keeps;

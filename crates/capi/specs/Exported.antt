@@ -10,9 +10,11 @@ use Rattle.medium.specs.Medium.{Observations, Store, noStore}
 use Rattle.volume.specs.declared.Answer.{Answer}
 use Rattle.volume.specs.declared.Volume.{Volume}
 use Rattle.volume.specs.Answers.{number, addressNumber, holderNumber}
-use Rattle.volume.specs.Calls.{Outcome, formatOutcome, restartOutcome, growOutcome, copyOutcome, checkpointOutcome, advanceOutcome, writeOutcome, readOutcome, flushedOutcome, addressReply, holderReply}
+use Rattle.volume.specs.Calls.{Outcome, formatOutcome, restartOutcome, flushedOutcome, addressReply, holderReply}
 use Rattle.volume.specs.Sound.{sound}
 use Rattle.volume.specs.States.{zeros}
+use Rattle.promise.specs.Calls.{Call, grow, copy, checkpoint, advance, write, read}
+use Rattle.promise.specs.Lists.{callOutcome}
 use Rattle.scene_load.specs.declared.Scene.{Scene}
 use Rattle.scene_load.specs.Loads.{loadOf, loadNumber}
 use Rattle.capi.specs.Figures.{noFigures, callsFigures, advanceFigures, addressFigures, holderFigures, loadFigures}
@@ -64,29 +66,28 @@ unfoldable pub restartLeft : (words figures : List ℕ) (o : Observations) → L
 restartLeft words figures o =
     cond (lengthsFit words 1 figures) (handedBack callsFigures (restartOutcome o)) (untouched words figures [])
 
-unfoldable pub growLeft : (words : List ℕ) (count : ℕ) (figures : List ℕ) (o : Observations) → Left
-growLeft words count figures o =
-    cond (stateFits words 1 figures) (handedBack callsFigures (growOutcome (stateFrom words) count o)) (untouched words figures [])
+-- a call on the state that the words hold
+unfoldable pub callLeft : (figureCount : ℕ) (figuresOf : Answer → List ℕ) (c : Call) (words figures piece : List ℕ) (o : Observations) → Left
+callLeft figureCount figuresOf c words figures piece o =
+    cond (stateFits words figureCount figures) (handedBack figuresOf (callOutcome c (stateFrom words) o)) (untouched words figures piece)
 
-unfoldable pub copyLeft : (words : List ℕ) (x : ℕ) (figures : List ℕ) (o : Observations) → Left
-copyLeft words x figures o =
-    cond (stateFits words 1 figures) (handedBack callsFigures (copyOutcome (stateFrom words) x o)) (untouched words figures [])
+abbrev pub growLeft : (words : List ℕ) (count : ℕ) (figures : List ℕ) (o : Observations) → Left
+growLeft words count figures o = callLeft 1 callsFigures (grow count) words figures [] o
 
-unfoldable pub checkpointLeft : (words figures : List ℕ) (o : Observations) → Left
-checkpointLeft words figures o =
-    cond (stateFits words 1 figures) (handedBack callsFigures (checkpointOutcome (stateFrom words) o)) (untouched words figures [])
+abbrev pub copyLeft : (words : List ℕ) (x : ℕ) (figures : List ℕ) (o : Observations) → Left
+copyLeft words x figures o = callLeft 1 callsFigures (copy x) words figures [] o
 
-unfoldable pub advanceLeft : (words figures : List ℕ) (o : Observations) → Left
-advanceLeft words figures o =
-    cond (stateFits words 4 figures) (handedBack advanceFigures (advanceOutcome (stateFrom words) o)) (untouched words figures [])
+abbrev pub checkpointLeft : (words figures : List ℕ) (o : Observations) → Left
+checkpointLeft words figures o = callLeft 1 callsFigures checkpoint words figures [] o
 
-unfoldable pub writeLeft : (words : List ℕ) (x : ℕ) (piece : List ℕ) (o : Observations) → Left
-writeLeft words x piece o =
-    cond (stateFits words 0 []) (handedBack noFigures (writeOutcome (stateFrom words) x piece o)) (untouched words [] piece)
+abbrev pub advanceLeft : (words figures : List ℕ) (o : Observations) → Left
+advanceLeft words figures o = callLeft 4 advanceFigures advance words figures [] o
 
-unfoldable pub readLeft : (words : List ℕ) (x : ℕ) (piece : List ℕ) (o : Observations) → Left
-readLeft words x piece o =
-    cond (stateFits words 0 []) (handedBack noFigures (readOutcome (stateFrom words) x piece o)) (untouched words [] piece)
+abbrev pub writeLeft : (words : List ℕ) (x : ℕ) (piece : List ℕ) (o : Observations) → Left
+writeLeft words x piece o = callLeft 0 noFigures (write x piece) words [] piece o
+
+abbrev pub readLeft : (words : List ℕ) (x : ℕ) (piece : List ℕ) (o : Observations) → Left
+readLeft words x piece o = callLeft 0 noFigures (read x piece) words [] piece o
 
 unfoldable pub addressLeft : (words : List ℕ) (x : ℕ) (figures : List ℕ) → Left
 addressLeft words x figures =

@@ -10,7 +10,9 @@ use Rattle.layout.specs.Limits.{mostDisks}
 use Rattle.medium.specs.Medium.{Observations, noStore}
 use Rattle.volume.specs.declared.Volume.{Volume}
 use Rattle.volume.specs.Answers.{number, addressNumber, holderNumber}
-use Rattle.volume.specs.Calls.{formatOutcome, restartOutcome, growOutcome, copyOutcome, checkpointOutcome, advanceOutcome, writeOutcome, readOutcome, flushedOutcome, addressReply, holderReply}
+use Rattle.volume.specs.Calls.{formatOutcome, addressReply, holderReply}
+use Rattle.promise.specs.Calls.{Call}
+use Rattle.promise.specs.Lists.{callOutcome}
 use Rattle.scene_load.specs.declared.Scene.{Scene}
 use Rattle.scene_load.specs.Loads.{placeTold, loadOf, loadNumber}
 use Rattle.capi.specs.Exported.{Left, wrongLength, lengthsFit, stateFits, formatLeft, restartLeft, growLeft, copyLeft, checkpointLeft, advanceLeft, writeLeft, readLeft, flushedLeft, addressLeft, holderLeft, loadLeft}
@@ -25,10 +27,11 @@ pub record Words (words : List ℕ) : Type 0 where
   pub count : length words ≡ stateWords
   pub pending-most : getD words 15 0 ≤ mostPending
 
--- what a call leaves that refuses a state: the words as they were, zeros as figures, nothing stored
-pub record RefusedLeft (words : List ℕ) (figureCount : ℕ) (left : Left) : Type 0 where
+-- what a refused call leaves: these words, so many zeros as figures, this piece, nothing stored
+pub record RefusedLeft (words : List ℕ) (figureCount : ℕ) (piece : List ℕ) (left : Left) : Type 0 where
   pub words-kept : left .words ≡ words
   pub figures-zero : left .figures ≡ replicate figureCount 0
+  pub piece-kept : left .piece ≡ piece
   pub nothing-stored : left .store ≡ noStore
 
 pub record CapiLaws : Type 0 where
@@ -39,42 +42,37 @@ pub record CapiLaws : Type 0 where
   pub words-back : (words : List ℕ) → Words words → wordsOf (stateFrom words) ≡ words
   -- no call has the number of a wrong length
   pub format-number : (z s n : ℕ) (o : Observations) → number (formatOutcome z s n o .reply .answer) ≢ wrongLength
-  pub restart-number : (o : Observations) → number (restartOutcome o .reply .answer) ≢ wrongLength
-  pub grow-number : (v : Volume) (count : ℕ) (o : Observations) → number (growOutcome v count o .reply .answer) ≢ wrongLength
-  pub copy-number : (v : Volume) (x : ℕ) (o : Observations) → number (copyOutcome v x o .reply .answer) ≢ wrongLength
-  pub checkpoint-number : (v : Volume) (o : Observations) → number (checkpointOutcome v o .reply .answer) ≢ wrongLength
-  pub advance-number : (v : Volume) (o : Observations) → number (advanceOutcome v o .reply .answer) ≢ wrongLength
-  pub write-number : (v : Volume) (x : ℕ) (piece : List ℕ) (o : Observations) → number (writeOutcome v x piece o .reply .answer) ≢ wrongLength
-  pub read-number : (v : Volume) (x : ℕ) (piece : List ℕ) (o : Observations) → number (readOutcome v x piece o .reply .answer) ≢ wrongLength
-  pub flushed-number : (v : Volume) → number (flushedOutcome v .reply .answer) ≢ wrongLength
+  pub call-number : (c : Call) (v : Volume) (o : Observations) → number (callOutcome c v o .reply .answer) ≢ wrongLength
   pub address-number : (v : Volume) (x : ℕ) → addressNumber (addressReply v x .answer) ≢ wrongLength
   pub holder-number : (v : Volume) (p : Spot) → holderNumber (holderReply v p .answer) ≢ wrongLength
   pub load-number : (v : Volume) (scenes : List Scene) → loadNumber (loadOf v scenes .answer) ≢ wrongLength
-  -- a refused call leaves the words as they were, has zeros as figures and stores nothing
+  -- a refused call leaves the words and the piece as they were, has zeros as figures and stores nothing
   pub grow-refused : (words : List ℕ) (count : ℕ) (figures : List ℕ) (o : Observations)
-      → stateFits words 1 figures ≡ true → growLeft words count figures o .number ≢ 0 → RefusedLeft words 1 (growLeft words count figures o)
+      → stateFits words 1 figures ≡ true → growLeft words count figures o .number ≢ 0 → RefusedLeft words 1 [] (growLeft words count figures o)
   pub copy-refused : (words : List ℕ) (x : ℕ) (figures : List ℕ) (o : Observations)
-      → stateFits words 1 figures ≡ true → copyLeft words x figures o .number ≢ 0 → RefusedLeft words 1 (copyLeft words x figures o)
+      → stateFits words 1 figures ≡ true → copyLeft words x figures o .number ≢ 0 → RefusedLeft words 1 [] (copyLeft words x figures o)
   pub checkpoint-refused : (words figures : List ℕ) (o : Observations)
-      → stateFits words 1 figures ≡ true → checkpointLeft words figures o .number ≢ 0 → RefusedLeft words 1 (checkpointLeft words figures o)
+      → stateFits words 1 figures ≡ true → checkpointLeft words figures o .number ≢ 0 → RefusedLeft words 1 [] (checkpointLeft words figures o)
   pub advance-refused : (words figures : List ℕ) (o : Observations)
-      → stateFits words 4 figures ≡ true → advanceLeft words figures o .number ≢ 0 → RefusedLeft words 4 (advanceLeft words figures o)
+      → stateFits words 4 figures ≡ true → advanceLeft words figures o .number ≢ 0 → RefusedLeft words 4 [] (advanceLeft words figures o)
   pub format-refused : (words : List ℕ) (z s n : ℕ) (o : Observations)
-      → lengthsFit words 0 [] ≡ true → formatLeft words z s n o .number ≢ 0 → RefusedLeft (replicate stateWords 0) 0 (formatLeft words z s n o)
+      → lengthsFit words 0 [] ≡ true → formatLeft words z s n o .number ≢ 0 → RefusedLeft (replicate stateWords 0) 0 [] (formatLeft words z s n o)
   pub restart-refused : (words figures : List ℕ) (o : Observations)
-      → lengthsFit words 1 figures ≡ true → restartLeft words figures o .number ≢ 0 → RefusedLeft (replicate stateWords 0) 1 (restartLeft words figures o)
+      → lengthsFit words 1 figures ≡ true → restartLeft words figures o .number ≢ 0 → RefusedLeft (replicate stateWords 0) 1 [] (restartLeft words figures o)
   pub address-refused : (words : List ℕ) (x : ℕ) (figures : List ℕ)
-      → stateFits words 5 figures ≡ true → addressLeft words x figures .number ≢ 0 → RefusedLeft words 5 (addressLeft words x figures)
+      → stateFits words 5 figures ≡ true → addressLeft words x figures .number ≢ 0 → RefusedLeft words 5 [] (addressLeft words x figures)
   pub holder-refused : (words : List ℕ) (p : Spot) (figures : List ℕ)
-      → stateFits words 1 figures ≡ true → holderLeft words p figures .number ≢ 0 → RefusedLeft words 1 (holderLeft words p figures)
+      → stateFits words 1 figures ≡ true → holderLeft words p figures .number ≢ 0 → RefusedLeft words 1 [] (holderLeft words p figures)
   -- a refused load has zeros as numbers, beside the place that it tells
   pub load-refused : (words : List ℕ) (scenes : List Scene) (figures : List ℕ)
       → stateFits words 17 figures ≡ true → loadLeft words scenes figures .number ≢ 0
       → loadLeft words scenes figures .figures ≡ placeTold (loadOf (stateFrom words) scenes .answer) ∷ replicate mostDisks 0
   pub write-refused : (words : List ℕ) (x : ℕ) (piece : List ℕ) (o : Observations)
-      → stateFits words 0 [] ≡ true → writeLeft words x piece o .number ≢ 0 → RefusedLeft words 0 (writeLeft words x piece o)
+      → stateFits words 0 [] ≡ true → writeLeft words x piece o .number ≢ 0 → RefusedLeft words 0 piece (writeLeft words x piece o)
+  pub read-refused : (words : List ℕ) (x : ℕ) (piece : List ℕ) (o : Observations)
+      → stateFits words 0 [] ≡ true → readLeft words x piece o .number ≢ 0 → RefusedLeft words 0 piece (readLeft words x piece o)
   pub flushed-refused : (words : List ℕ)
-      → stateFits words 0 [] ≡ true → flushedLeft words .number ≢ 0 → RefusedLeft words 0 (flushedLeft words)
+      → stateFits words 0 [] ≡ true → flushedLeft words .number ≢ 0 → RefusedLeft words 0 [] (flushedLeft words)
   -- write and flushed leave all words but the last as they were; read leaves them all, which is why they are lent to be read only
   pub write-keeps : (words : List ℕ) (x : ℕ) (piece : List ℕ) (o : Observations) → take 15 (writeLeft words x piece o .words) ≡ take 15 words
   pub flushed-keeps : (words : List ℕ) → take 15 (flushedLeft words .words) ≡ take 15 words

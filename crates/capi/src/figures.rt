@@ -1,7 +1,9 @@
 // Answers as numbers and figures.
 ghost use mathlib.Core.Path.{_≡_};
-ghost use Rattle.volume.specs.Answers.{number, callsTold, addressNumber, holderNumber, blockTold};
-ghost use Rattle.capi.specs.Figures.{partNumber, didFigures, advanceFigures, reasonFigures, addressFigures};
+ghost use mathlib.Core.List.{[], _∷_};
+ghost use mathlib.Core.Option.{some};
+ghost use Rattle.volume.specs.Answers.{number, callsTold, copiedBlock, copiedPart, addressNumber, holderNumber, blockTold};
+ghost use Rattle.capi.specs.Figures.{partNumber, didNumber, advanceFigures, reasonFigures, addressFigures};
 use layout::Part;
 use layout::Reason;
 use volume::AddressAnswer;
@@ -34,7 +36,7 @@ pub fn calls_told(a: Answer) -> usize
 }
 
 fn part_number(part: Part) -> usize
-    ensures { λ r. ⌜ r ≡ partNumber part ⌝ }
+    ensures { λ r. ⌜ r ≡ partNumber (some part) ⌝ }
 {
     match part {
         Part::Head => 1,
@@ -44,7 +46,7 @@ fn part_number(part: Part) -> usize
 }
 
 fn did_figures(did: Advanced) -> [usize; 3]
-    ensures { λ r. ⌜ r ≡ didFigures did ⌝ }
+    ensures { λ r. ⌜ r ≡ didNumber did ∷ copiedBlock did ∷ partNumber (copiedPart did) ∷ [] ⌝ }
 {
     match did {
         Advanced::Copied(x, part) => [1, x.0, part_number(part)],

@@ -12,7 +12,7 @@ use super::figures::number;
 use super::handed::hand_back;
 use super::handed::put;
 use super::handed::put_state;
-use super::words::is_state;
+use super::words::state_fits;
 use super::words::state_of;
 use layout::Block;
 
@@ -29,10 +29,7 @@ pub extern "C" fn streterva_grow(
     ensures { λ _. ⌜ now (figures .exit) ≡ growLeft (now (state .entry)) count (now (figures .entry)) (observe (now (medium .entry))) .figures ⌝ }
     ensures { λ _. ⌜ now (medium .exit) ≡ apply (geometry (stateFrom (now (state .entry)))) (growLeft (now (state .entry)) count (now (figures .entry)) (observe (now (medium .entry))) .store) (now (medium .entry)) ⌝ }
 {
-    if !is_state(state) {
-        return WRONG_LENGTH;
-    }
-    if figures.len() != CALLS_FIGURES {
+    if !state_fits(state, figures.len(), CALLS_FIGURES) {
         return WRONG_LENGTH;
     }
     let v = state_of(state);
@@ -53,10 +50,7 @@ pub extern "C" fn streterva_copy(
     ensures { λ _. ⌜ now (figures .exit) ≡ copyLeft (now (state .entry)) block (now (figures .entry)) (observe (now (medium .entry))) .figures ⌝ }
     ensures { λ _. ⌜ now (medium .exit) ≡ apply (geometry (stateFrom (now (state .entry)))) (copyLeft (now (state .entry)) block (now (figures .entry)) (observe (now (medium .entry))) .store) (now (medium .entry)) ⌝ }
 {
-    if !is_state(state) {
-        return WRONG_LENGTH;
-    }
-    if figures.len() != CALLS_FIGURES {
+    if !state_fits(state, figures.len(), CALLS_FIGURES) {
         return WRONG_LENGTH;
     }
     let v = state_of(state);
@@ -76,10 +70,7 @@ pub extern "C" fn streterva_checkpoint(
     ensures { λ _. ⌜ now (figures .exit) ≡ checkpointLeft (now (state .entry)) (now (figures .entry)) (observe (now (medium .entry))) .figures ⌝ }
     ensures { λ _. ⌜ now (medium .exit) ≡ apply (geometry (stateFrom (now (state .entry)))) (checkpointLeft (now (state .entry)) (now (figures .entry)) (observe (now (medium .entry))) .store) (now (medium .entry)) ⌝ }
 {
-    if !is_state(state) {
-        return WRONG_LENGTH;
-    }
-    if figures.len() != CALLS_FIGURES {
+    if !state_fits(state, figures.len(), CALLS_FIGURES) {
         return WRONG_LENGTH;
     }
     let v = state_of(state);
@@ -99,10 +90,7 @@ pub extern "C" fn streterva_advance(
     ensures { λ _. ⌜ now (figures .exit) ≡ advanceLeft (now (state .entry)) (now (figures .entry)) (observe (now (medium .entry))) .figures ⌝ }
     ensures { λ _. ⌜ now (medium .exit) ≡ apply (geometry (stateFrom (now (state .entry)))) (advanceLeft (now (state .entry)) (now (figures .entry)) (observe (now (medium .entry))) .store) (now (medium .entry)) ⌝ }
 {
-    if !is_state(state) {
-        return WRONG_LENGTH;
-    }
-    if figures.len() != ADVANCE_FIGURES {
+    if !state_fits(state, figures.len(), ADVANCE_FIGURES) {
         return WRONG_LENGTH;
     }
     let v = state_of(state);

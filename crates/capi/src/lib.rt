@@ -4,12 +4,13 @@
 // include/streterva.h.
 //
 // The exported functions take any input. What has a `requires` is seen in this crate alone.
-mod calls;
 mod figures;
 mod growth;
 mod handed;
 mod loads;
 mod lookups;
+mod pieces;
+mod states;
 mod words;
 
 // The number where the lent words are no state's or the lent figures have the wrong length.

@@ -9,6 +9,7 @@ use super::LOAD_FIGURES;
 use super::WRONG_LENGTH;
 use super::handed::put;
 use super::words::is_state;
+use super::words::state_fits;
 use super::words::state_of;
 use scene_load::Load;
 use scene_load::LoadAnswer;
@@ -52,10 +53,7 @@ fn hand_load(state: &[usize], load: Load, figures: &mut [usize]) -> usize
     ensures { λ r. ⌜ (r ≡ cond (stateFits (now (state .entry)) 17 (now (figures .entry))) (loadNumber (load .answer)) wrongLength)
         × (now (figures .exit) ≡ cond (stateFits (now (state .entry)) 17 (now (figures .entry))) (loadFigures load) (now (figures .entry))) ⌝ }
 {
-    if !is_state(state) {
-        return WRONG_LENGTH;
-    }
-    if figures.len() != LOAD_FIGURES {
+    if !state_fits(state, figures.len(), LOAD_FIGURES) {
         return WRONG_LENGTH;
     }
     let served = load.served;

@@ -9,7 +9,7 @@ use super::figures::address_number;
 use super::figures::block_told;
 use super::figures::holder_number;
 use super::handed::put;
-use super::words::is_state;
+use super::words::state_fits;
 use super::words::state_of;
 use layout::Block;
 use layout::Row;
@@ -21,10 +21,7 @@ pub extern "C" fn streterva_address(state: &[usize], block: usize, figures: &mut
     ensures { λ r. ⌜ r ≡ addressLeft (now (state .entry)) block (now (figures .entry)) .number ⌝ }
     ensures { λ _. ⌜ now (figures .exit) ≡ addressLeft (now (state .entry)) block (now (figures .entry)) .figures ⌝ }
 {
-    if !is_state(state) {
-        return WRONG_LENGTH;
-    }
-    if figures.len() != ADDRESS_FIGURES {
+    if !state_fits(state, figures.len(), ADDRESS_FIGURES) {
         return WRONG_LENGTH;
     }
     let v = state_of(state);
@@ -46,10 +43,7 @@ pub extern "C" fn streterva_holder(
     ensures { λ r. ⌜ r ≡ holderLeft (now (state .entry)) (record { disk = disk; row = record { 0 = row } }) (now (figures .entry)) .number ⌝ }
     ensures { λ _. ⌜ now (figures .exit) ≡ holderLeft (now (state .entry)) (record { disk = disk; row = record { 0 = row } }) (now (figures .entry)) .figures ⌝ }
 {
-    if !is_state(state) {
-        return WRONG_LENGTH;
-    }
-    if figures.len() != HOLDER_FIGURES {
+    if !state_fits(state, figures.len(), HOLDER_FIGURES) {
         return WRONG_LENGTH;
     }
     let v = state_of(state);

@@ -1,5 +1,7 @@
 // The state in sixteen words.
 ghost use mathlib.Core.Path.{_≡_};
+ghost use mathlib.Core.Bool.{_&&_};
+ghost use lib.Dec.{eqb};
 ghost use lib.ListN.{length};
 ghost use Rattle.capi.specs.Words.{stateWords, pendingWord, pendingFrom, wordsOf, stateFrom, areState};
 use super::MOST_PENDING;
@@ -15,6 +17,16 @@ pub fn is_state(words: &[usize]) -> bool
         return false;
     }
     words[15] <= MOST_PENDING
+}
+
+// Are these the words of a state, and so many figures lent as there should be?
+pub fn state_fits(words: &[usize], lent: usize, count: usize) -> bool
+    ensures { λ r. ⌜ r ≡ areState (now (words .entry)) && eqb lent count ⌝ }
+{
+    if !is_state(words) {
+        return false;
+    }
+    lent == count
 }
 
 // What is pending, of its word.

@@ -14,24 +14,30 @@ use Rattle.medium.specs.Medium.{Observations, observe, Store, noStore, StoreFit
 use Rattle.medium.proofs.Theorems.{medium-laws}
 use Rattle.volume.specs.declared.Volume.{Volume}
 use Rattle.volume.specs.Answers.{number, accepted, reported}
-use Rattle.volume.specs.Calls.{Outcome, refused, doing, reporting, restartTable, restartEffect, restartOutcome, flushedTable, flushedEffect, flushedOutcome}
+use Rattle.volume.specs.Calls.{Outcome, refused, doing, reporting, readTable, readEffect, readOutcome, restartTable, restartEffect, restartOutcome, flushedTable, flushedEffect, flushedOutcome}
 use Rattle.volume.specs.States.{geometry, nonePending, pendingWith, withPending, withGrowth, recordedOnly, zeros}
 use Rattle.volume.proofs.Judged.{judged-cases, accepted-when}
-use Rattle.volume.proofs.StoresFit.{FitsDisks, grow-fits, write-fits, read-fits, Sized, sized, copy-fits, checkpoint-fits, advance-fits}
+use Rattle.volume.proofs.StoresFit.{FitsDisks, grow-fits, write-fits, Sized, sized, copy-fits, checkpoint-fits, advance-fits}
 use Rattle.promise.specs.Calls.{Call, grow, copy, checkpoint, advance, write, read, restart, flushed, settles, CutLeft, sameRecord, recordOld, recordNew, ended}
 use Rattle.promise.specs.Lists.{callOutcome, Event, runs, cut, Drives, System, up, down, drivesOf, memoryOf, mediumOf, cutLeft, later, outcome, drivesAfter, storesAt, after, Allowed, fed, heard}
 use Rattle.promise.specs.Model.{noBlock, leaving, stepOf, unset, withSave, stepped, accepting, CachedModel, nothingPending, withStep, following, withCall, leftModel, afterCut, modelOr, modelAfter}
 use Rattle.promise.proofs.Steps.{Down, up-down, up-pending, Judgement, is-refused, has-effect, restart-found, restart-up, call-judged}
 use Rattle.promise.proofs.PendingStores.{seen, Live, not-yet, record-pending, blocks-pending, Safe, live-settled, after-call, leftAfter, cut-in, cut-between}
 
--- ---- what is stored lies in the bytes of the disks and in the medium; restart and flushed store nothing
+-- ---- what is stored lies in the bytes of the disks and in the medium; read, restart and flushed store nothing
 
-restart-stores : (o : Observations) → restartOutcome o .store ≡ noStore
+pub read-stores : (v : Volume) (x : ℕ) (piece : List ℕ) (o : Observations) → readOutcome v x piece o .store ≡ noStore
+unfolding readOutcome readEffect doing refused
+read-stores v x piece o =
+    judged-cases (λ (out : Outcome). out .store ≡ noStore) (readTable v x (length piece) (o .byteCount)) (λ n. refused v n piece) _ (λ _. refl)
+    (λ _. refl)
+
+pub restart-stores : (o : Observations) → restartOutcome o .store ≡ noStore
 unfolding restartOutcome restartEffect reporting refused
 restart-stores o =
     judged-cases (λ (out : Outcome). out .store ≡ noStore) (restartTable o) (λ n. refused zeros n []) _ (λ _. refl) (λ _. refl)
 
-flushed-stores : (v : Volume) → flushedOutcome v .store ≡ noStore
+pub flushed-stores : (v : Volume) → flushedOutcome v .store ≡ noStore
 unfolding flushedOutcome flushedEffect doing refused
 flushed-stores v =
     judged-cases (λ (out : Outcome). out .store ≡ noStore) (flushedTable v) (λ n. refused v n []) _ (λ _. refl) (λ _. refl)
@@ -47,7 +53,7 @@ call-fits (copy x) v o s = copy-fits v x o s
 call-fits checkpoint v o s = checkpoint-fits v o
 call-fits advance v o s = advance-fits v o s
 call-fits (write x piece) v o s = write-fits v x piece o
-call-fits (read x piece) v o s = read-fits v x piece o
+call-fits (read x piece) v o s = nothing-fits v o (readOutcome v x piece o) (read-stores v x piece o)
 call-fits restart v o s = nothing-fits v o (restartOutcome o) (restart-stores o)
 call-fits flushed v o s = nothing-fits v o (flushedOutcome v) (flushed-stores v)
 

@@ -75,12 +75,6 @@ write-fits v x piece o =
     let f = write-accepted v x (length piece) (o .byteCount) e .0 in
     ((live-inside v x _ (f .is-sound) (f .block-open) (omega arith), f .piece-whole), f .room))
 
-pub read-fits : (v : Volume) (x : ℕ) (piece : List ℕ) (o : Observations) → FitsDisks v o (readOutcome v x piece o)
-unfolding readOutcome readEffect doing StoreFits
-read-fits v x piece o =
-    judged-fits (geometry v) (disks v) (o .byteCount) (readTable v x (length piece) (o .byteCount)) v piece _
-    (λ e. (tt, read-accepted v x (length piece) (o .byteCount) e .room))
-
 -- ---- copy, checkpoint and advance
 
 -- the spot that a copy is stored to

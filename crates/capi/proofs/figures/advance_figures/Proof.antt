@@ -2,8 +2,8 @@
 use mathlib.Core.Path.{_≡_}
 use lib.ListN.{length}
 use borrow.Author.Needs.{needs}
-use Rattle.volume.specs.Answers.{callsTold}
-use Rattle.capi.specs.Figures.{toldFigures}
+use Rattle.volume.specs.Answers.{callsTold, blockCopied, partCopied}
+use Rattle.capi.specs.Figures.{partNumber, didTold}
 use Rattle.capi.proofs.WordsCode.{three-listed}
 use Rattle.capi.proofs.figures.advance_figures.Statement.{statement}
 use Rattle.capi.proofs.figures.advance_figures.Tie as tie
@@ -33,19 +33,19 @@ array-read-t16 : tie.Need-array-read-t16
 array-read-t16 c = search needs
 
 returns : tie.Need-returns
-unfolding callsTold toldFigures
+unfolding callsTold didTold blockCopied partCopied partNumber
 returns c = rw (c .enum-told .given .1)
 
 returns-2 : tie.Need-returns-2
-unfolding callsTold toldFigures
+unfolding callsTold didTold blockCopied partCopied partNumber
 returns-2 c = rw (c .enum-told2 .given .1)
 
 returns-3 : tie.Need-returns-3
-unfolding callsTold toldFigures
+unfolding callsTold didTold blockCopied partCopied partNumber
 returns-3 c = rw (c .before .a .given .1)
 
 returns-4 : tie.Need-returns-4
-unfolding callsTold toldFigures
+unfolding callsTold didTold blockCopied partCopied partNumber
 returns-4 c =
     let e : length (c .did-figures .result) ≡ 3 = search needs in
     rw (c .before .before .a2 .given .1, three-listed _ e, c .did-figures .ensures)

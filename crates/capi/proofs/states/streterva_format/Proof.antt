@@ -6,8 +6,8 @@ use borrow.Author.Needs.{needs}
 use Rattle.medium.specs.Medium.{apply}
 use Rattle.capi.specs.Exported.{lengthsFit, untouched, handedBack, formatLeft}
 use Rattle.capi.proofs.ExportedCode.{words-wrong, lengths-right, format-stores}
-use Rattle.capi.proofs.calls.streterva_format.Statement.{statement}
-use Rattle.capi.proofs.calls.streterva_format.Tie as tie
+use Rattle.capi.proofs.states.streterva_format.Statement.{statement}
+use Rattle.capi.proofs.states.streterva_format.Tie as tie
 
 returns : tie.Need-returns
 unfolding formatLeft untouched apply
@@ -16,21 +16,6 @@ returns c = rw (words-wrong _ 0 [] (c .if1 .taken)) (refl, (refl, refl))
 -- the length is right
 fits : (c : tie.Else1) → lengthsFit (c .before .before .before .args .state .now) 0 [] ≡ true
 fits c = lengths-right _ 0 [] (c .if1 .left) refl
-
-format-requires : tie.Need-format-requires
-format-requires c κs = search needs
-
-put-state-requires : tie.Need-put-state-requires
-put-state-requires c κs = search needs
-
-number-requires : tie.Need-number-requires
-number-requires c κs = search needs
-
-same-length : tie.Need-same-length
-same-length c = search needs
-
-same-length-2 : tie.Need-same-length-2
-same-length-2 c = search needs
 
 returns-2 : tie.Need-returns-2
 unfolding formatLeft handedBack
@@ -43,9 +28,9 @@ streterva-format-spec =
     tie.close
     (tie.spec
     returns
-    format-requires
-    put-state-requires
-    number-requires
-    same-length
-    same-length-2
+    (λ c κs. search needs)
+    (λ c κs. search needs)
+    (λ c κs. search needs)
+    (λ c. search needs)
+    (λ c. search needs)
     returns-2)

@@ -1,9 +1,7 @@
-// Format, restart, write, read, flushed, and the test of soundness.
+// Format, restart, flushed, and the test of soundness.
 ghost use mathlib.Core.Path.{_≡_};
 ghost use Rattle.medium.specs.Medium.{observe, apply};
-ghost use Rattle.volume.specs.States.{geometry};
-ghost use Rattle.capi.specs.Exported.{formatLeft, restartLeft, writeLeft, readLeft, flushedLeft, soundnessLeft};
-ghost use Rattle.capi.specs.Words.{stateFrom};
+ghost use Rattle.capi.specs.Exported.{formatLeft, restartLeft, flushedLeft, soundnessLeft};
 use super::CALLS_FIGURES;
 use super::STATE_WORDS;
 use super::WRONG_LENGTH;
@@ -13,7 +11,6 @@ use super::handed::put_pending;
 use super::handed::put_state;
 use super::words::is_state;
 use super::words::state_of;
-use layout::Block;
 use volume::Volume;
 
 // Makes a volume on the medium; the words then hold its state.
@@ -58,49 +55,6 @@ pub extern "C" fn streterva_restart(
     }
     let reply = Volume::restart(medium);
     hand_back(reply, state, figures)
-}
-
-// Saves a piece as a block.
-#[no_mangle]
-pub extern "C" fn streterva_write(
-    state: &mut [usize],
-    medium: &mut [u8],
-    block: usize,
-    piece: &[u8],
-) -> usize
-    ensures { λ r. ⌜ r ≡ writeLeft (now (state .entry)) block (now (piece .entry)) (observe (now (medium .entry))) .number ⌝ }
-    ensures { λ _. ⌜ now (state .exit) ≡ writeLeft (now (state .entry)) block (now (piece .entry)) (observe (now (medium .entry))) .words ⌝ }
-    ensures { λ _. ⌜ now (medium .exit) ≡ apply (geometry (stateFrom (now (state .entry)))) (writeLeft (now (state .entry)) block (now (piece .entry)) (observe (now (medium .entry))) .store) (now (medium .entry)) ⌝ }
-{
-    if !is_state(state) {
-        return WRONG_LENGTH;
-    }
-    let v = state_of(state);
-    let reply = v.write(medium, Block(block), piece);
-    let next = reply.state;
-    let answer = reply.answer;
-    put_pending(state, next.pending);
-    number(answer)
-}
-
-// Fills a piece with a block.
-#[no_mangle]
-pub extern "C" fn streterva_read(
-    state: &[usize],
-    medium: &[u8],
-    block: usize,
-    piece: &mut [u8],
-) -> usize
-    ensures { λ r. ⌜ r ≡ readLeft (now (state .entry)) block (now (piece .entry)) (observe (now (medium .entry))) .number ⌝ }
-    ensures { λ _. ⌜ now (piece .exit) ≡ readLeft (now (state .entry)) block (now (piece .entry)) (observe (now (medium .entry))) .piece ⌝ }
-{
-    if !is_state(state) {
-        return WRONG_LENGTH;
-    }
-    let v = state_of(state);
-    let reply = v.read(medium, Block(block), piece);
-    let answer = reply.answer;
-    number(answer)
 }
 
 // Tells that all earlier stores are down.

@@ -4,8 +4,8 @@ use mathlib.Core.Bool.{true}
 use borrow.Author.Needs.{needs}
 use Rattle.capi.specs.Exported.{lengthsFit, untouched, handedBack, restartLeft}
 use Rattle.capi.proofs.ExportedCode.{words-wrong, figures-wrong, lengths-right}
-use Rattle.capi.proofs.calls.streterva_restart.Statement.{statement}
-use Rattle.capi.proofs.calls.streterva_restart.Tie as tie
+use Rattle.capi.proofs.states.streterva_restart.Statement.{statement}
+use Rattle.capi.proofs.states.streterva_restart.Tie as tie
 
 returns : tie.Need-returns
 unfolding restartLeft untouched
@@ -19,18 +19,6 @@ returns-2 c = rw (figures-wrong _ 1 _ (c .before .if1 .left) (c .if2 .taken)) (r
 fits : (c : tie.Else2) → let a = c .before .before .before .before .before .args in lengthsFit (a .state .now) 1 (a .figures .now) ≡ true
 fits c = lengths-right _ 1 _ (c .before .if1 .left) (c .if2 .left)
 
-restart-requires : tie.Need-restart-requires
-restart-requires c κs = search needs
-
-hand-back-requires : tie.Need-hand-back-requires
-hand-back-requires c κs = search needs
-
-same-length : tie.Need-same-length
-same-length c = search needs
-
-same-length-2 : tie.Need-same-length-2
-same-length-2 c = search needs
-
 returns-3 : tie.Need-returns-3
 unfolding restartLeft handedBack
 returns-3 c = rw (fits (c .before .before .before .before .before .before .before .before), sym (c .before .before .before .before .before .before .before .restart .ensures)) (c .before .before .before .before .hand-back .ensures)
@@ -41,8 +29,8 @@ streterva-restart-spec =
     (tie.spec
     returns
     returns-2
-    restart-requires
-    hand-back-requires
-    same-length
-    same-length-2
+    (λ c κs. search needs)
+    (λ c κs. search needs)
+    (λ c. search needs)
+    (λ c. search needs)
     returns-3)

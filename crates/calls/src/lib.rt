@@ -1,0 +1,18 @@
+// One function that makes any call: what demand 3 speaks of is what it does. `make` is offered to others and takes any
+// input.
+mod making;
+
+use layout::Block;
+pub use making::make;
+
+// A call with its numbers; the piece of a write or a read is lent beside it.
+pub enum Call {
+    Grow(usize),
+    Copy(Block),
+    Checkpoint,
+    Advance,
+    Write(Block),
+    Read(Block),
+    Restart,
+    Flushed,
+}
