@@ -17,7 +17,7 @@ use Rattle.promise.specs.WithoutCache.{DirectEvent, ends, fromFormat, DirectFur
 use Rattle.worked.specs.Worked.{blockOf}
 use Rattle.worked.specs.WrongPrograms.{Act, refusesRead, exchangesBlocks, writesNothing, writesWaiting, writesEarly, recordsEarly, neverAdvances, marksLater, madeUpCount, keepsCopies, growsAlways, endsEarly, endsLate}
 
--- ---- what is said of each further list, after which advances told so, the mode is so, and before which n calls were left
+-- ---- what is said of further calls: of what their advances told, the mode after them, and the n calls that were left before them
 
 abbrev pub StillRuns : (told : List Bool) (mode : Mode) (n : ℕ) → Type 0
 StillRuns told mode n = length told < n → isRunning mode ≡ true
