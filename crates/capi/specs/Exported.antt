@@ -38,7 +38,7 @@ lengthsFit words figureCount figures = eqb (length words) stateWords && eqb (len
 unfoldable pub stateFits : (words : List ℕ) (figureCount : ℕ) (figures : List ℕ) → Bool
 stateFits words figureCount figures = areState words && eqb (length figures) figureCount
 
--- "nothing touched"
+-- nothing is touched
 unfoldable pub untouched : (words figures piece : List ℕ) → Left
 untouched words figures piece = record { number = wrongLength; words = words; figures = figures; store = noStore; piece = piece }
 

@@ -22,7 +22,7 @@ moves n d0 b1 = leb d0 b1 && leb b1 (d0 + n - 1)
 abbrev pub firstFit : (head tail : Bool) → Part
 firstFit head tail = cond head Head (cond tail Tail Body)
 
--- "m ≥ n: head, b1 ≤ n-1. Tail, b1 ≥ m-1." "m < n: head, b1 ≤ m-1. Tail, b1 ≥ n-1."
+-- "m ≥ n: head, b1 ≤ n-1: .. Tail, b1 ≥ m-1: ..", "m < n: head, b1 ≤ m-1: .. Tail, b1 ≥ n-1: .."
 unfoldable pub partOf : (m n b1 : ℕ) → Part
 partOf m n b1 = cond (leb n m) (firstFit (leb b1 (n - 1)) (leb (m - 1) b1)) (firstFit (leb b1 (m - 1)) (leb (n - 1) b1))
 
@@ -32,7 +32,7 @@ byPart Head head tail body = head
 byPart Tail head tail body = tail
 byPart Body head tail body = body
 
--- "Head: d0+m. Tail: d0+n. Body: m+n-1-(b1-d0)", for m < n "Body: d0+b1+1".
+-- "head, .. d0+m. Tail, .. d0+n. Body: m+n-1-(b1-d0).", for m < n "Body: d0+b1+1."
 unfoldable pub newDisk : (m n d0 b1 : ℕ) → ℕ
 newDisk m n d0 b1 = byPart (partOf m n b1) (d0 + m) (d0 + n) (cond (leb n m) (m + n - 1 - (b1 - d0)) (d0 + b1 + 1))
 

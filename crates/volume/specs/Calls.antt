@@ -113,7 +113,7 @@ blockRows v = (19, v .pending .records) ∷ []
 abbrev pub recordRows : (v : Volume) → List (ℕ × Bool)
 recordRows v = (19, v .pending .records) ∷ (18, v .pending .blocks) ∷ []
 
--- ---- "Flushed tells us that all earlier stores are down; it refuses only by 1."
+-- ---- "A call flushed tells us that all earlier stores are down; it refuses only by 1."
 
 unfoldable pub flushedTable : (v : Volume) → List (ℕ × Bool)
 flushedTable v = (1, not (sound v)) ∷ []
