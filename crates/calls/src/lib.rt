@@ -1,5 +1,5 @@
-// One function that makes any call: what demand 3 speaks of is what it does. `make` is offered to others and takes any
-// input.
+// One function for all calls but format and the look-ups: its contract is `promise`'s `callOutcome`, the calls that demand 3
+// speaks of. It is offered to others and takes any input.
 mod making;
 
 use layout::Block;

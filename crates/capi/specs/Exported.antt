@@ -1,5 +1,5 @@
 -- What each exported function leaves: the number that it returns, the lent words of the state, the lent figures, its store and the lent
--- piece. It is the volume's own outcome, or `scene_load`'s, of the state that the words hold.
+-- piece. It is the outcome of the state that the words hold: of the call that demand 3 speaks of, of format or a look-up, or of a load.
 use Prim.Native.Nat.{ℕ}
 use mathlib.Core.Bool.{Bool, cond, _&&_}
 use mathlib.Core.List.{List, []}
@@ -66,7 +66,7 @@ unfoldable pub restartLeft : (words figures : List ℕ) (o : Observations) → L
 restartLeft words figures o =
     cond (lengthsFit words 1 figures) (handedBack callsFigures (restartOutcome o)) (untouched words figures [])
 
--- a call on the state that the words hold
+-- a call of demand 3 on the state that the words hold
 unfoldable pub callLeft : (figureCount : ℕ) (figuresOf : Answer → List ℕ) (c : Call) (words figures piece : List ℕ) (o : Observations) → Left
 callLeft figureCount figuresOf c words figures piece o =
     cond (stateFits words figureCount figures) (handedBack figuresOf (callOutcome c (stateFrom words) o)) (untouched words figures piece)

@@ -37,8 +37,8 @@ didTold Done = 0
 didTold (CallsLeft n) = 0
 didTold (Told did n) = didNumber did
 
--- of format, write and read; of restart, grow, copy and checkpoint: the advance calls left; of advance: also what it
--- did, the block copied and its part
+-- of format, write, read and flushed: none; of restart, grow, copy and checkpoint: the advance calls left; of advance: also what it did, the
+-- block copied, and its part
 abbrev pub noFigures : (a : Answer) → List ℕ
 noFigures a = []
 
@@ -54,7 +54,7 @@ reasonNumber SetOut = 1
 reasonNumber (AddedBy growth) = 2
 reasonNumber (MovedBy growth part) = 3
 
--- with the growth's number, and the part
+-- that, the growth's number, and the part
 abbrev pub reasonFigures : (reason : Reason) → List ℕ
 reasonFigures reason = reasonNumber reason ∷ growthTold reason ∷ partNumber (partTold reason) ∷ []
 
