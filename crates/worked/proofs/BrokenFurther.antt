@@ -1,7 +1,7 @@
 -- Further calls after a list that leaves a growth running, computed: where what their advances told is wrong, they break a part of demand 3.
 use Prim.Native.Nat.{ℕ, _-_}
 use mathlib.Core.Path.{_≡_, refl, ap, _∙_, subst}
-use mathlib.Core.Bool.{Bool, true, false, cond, not, _&&_}
+use mathlib.Core.Bool.{Bool, true, false, cond, not, _&&_, false≢true}
 use mathlib.Core.List.{List, [], _∷_, _++_}
 use mathlib.Core.Logic.{inl}
 use lib.Dec.{ltb, eqb}
@@ -83,6 +83,16 @@ unfolding sameTold
 same-told [] = refl
 same-told (true ∷ told) = same-told told
 same-told (false ∷ told) = same-told told
+
+pub are-same : (told others : List Bool) → sameTold told others ≡ true → told ≡ others
+unfolding sameTold
+are-same [] [] t = refl
+are-same [] (c ∷ others) t = absurd (false≢true t)
+are-same (b ∷ told) [] t = absurd (false≢true t)
+are-same (true ∷ told) (true ∷ others) t = ap (λ (l : List Bool). true ∷ l) (are-same told others t)
+are-same (true ∷ told) (false ∷ others) t = absurd (false≢true t)
+are-same (false ∷ told) (true ∷ others) t = absurd (false≢true t)
+are-same (false ∷ told) (false ∷ others) t = ap (λ (l : List Bool). false ∷ l) (are-same told others t)
 
 not-same : (told others : List Bool) → not (sameTold told others) ≡ true → told ≡ others → ⊥
 not-same told others t e = clash (same-told told) (ap (sameTold told) e ∙ not-true _ t)

@@ -1,24 +1,27 @@
 -- Programs whose growths are wrong: for each a list, computed, after which what is told breaks a part of demand 3.
 use Prim.Native.Nat.{ℕ}
-use mathlib.Core.Path.{_≡_, refl}
-use mathlib.Core.Bool.{Bool, true}
+use mathlib.Core.Path.{_≡_, refl, _∙_}
+use mathlib.Core.Bool.{Bool, true, false, _&&_}
 use mathlib.Core.List.{List, [], _∷_}
-use lib.ListN.{replicate}
-use Rattle.layout.specs.Tally.{Mode}
+use lib.Dec.{eqb}
+use borrow.Author.Tests.{eqb-true}
+use Rattle.base.proofs.Booleans.{and-left, and-right}
+use Rattle.layout.specs.Tally.{Mode, callsLeftOf}
 use Rattle.record.specs.Sector.{fieldsHold, marksHold, spacesHold, isRecord, readRecord}
 use Rattle.volume.specs.Answers.{isFinished, toldFinished}
 use Rattle.volume.specs.Calls.{restartTable}
 use Rattle.volume.specs.Records.{stateRead, isSoundRecord}
 use Rattle.promise.specs.Calls.{Call, grow, copy, advance, restart, isAdvance}
+use Rattle.promise.specs.Model.{Model}
 use Rattle.promise.specs.Promise.{Start}
-use Rattle.promise.specs.WithoutCache.{DirectEvent, ends, flushedAfter, fromFormat, no-call, an-advance}
+use Rattle.promise.specs.WithoutCache.{DirectEvent, ends, flushedAfter, fromFormat, no-call, an-advance, systemWithout, modelWithout}
 use Rattle.worked.specs.Worked.{workedStart}
 use Rattle.worked.specs.WrongPrograms.{Act, program, neverAdvances, endsEarly, endsLate, madeUpCount, keepsCopies, growsAlways}
-use Rattle.worked.specs.Parts.{NoneTold, Finished, LastTold, CallsLeftTold, AdvanceAccepted, EveryGrowth, EveryFurther, EveryDirectGrowth, EveryDirectFurther}
+use Rattle.worked.specs.Parts.{NoneTold, Finished, LastTold, CallsLeftTold, AdvanceAccepted, EveryGrowth, EveryFurther, EveryDirectGrowth, EveryDirectFurther, twoDisks, toThree, fourAdvances, LateEnd}
 use Rattle.worked.proofs.Computed.{Tested, tested}
 use Rattle.worked.proofs.Computing.{computing}
-use Rattle.worked.proofs.BrokenGrowths.{acceptedOnly, allOf, noAdvance, endsUp, growthTest, broken-growth, broken-direct-growth, otherThan, otherCount, someRefused, refusedAdvance, advanceAfterFlushed, refutes-count, refutes-advance}
-use Rattle.worked.proofs.BrokenFurther.{wrongFor, wrongTwice, broken-direct, broken-twice, sameTold, toldEarly, runsOn, toldLate, refutes-none-told, refutes-finished, refutes-last-told}
+use Rattle.worked.proofs.BrokenGrowths.{GrowthHeard, acceptedOnly, allOf, direct-told, noAdvance, endsUp, growthTest, growth-tested, broken-growth, broken-direct-growth, otherThan, otherCount, someRefused, refusedAdvance, advanceAfterFlushed, refutes-count, refutes-advance}
+use Rattle.worked.proofs.BrokenFurther.{wrongFor, wrongTwice, broken-direct, broken-twice, sameTold, are-same, toldEarly, runsOn, toldLate, refutes-none-told, refutes-finished, refutes-last-told}
 
 -- unfolded, it opens what a computed list with a growth needs
 unfoldable testing : Unit {0}
@@ -100,18 +103,32 @@ pub ends-early : BreaksFurther endsEarly NoneTold
 ends-early = broken-twice NoneTold toldEarly refutes-none-told endsEarly workedStart oneGrowth oneAdvance (an-advance no-call) early-tested
 
 -- one that ends it a call late: with two blocks to copy, the third of three does not tell it
-unfoldable twoDisks : Start
-twoDisks = record { size = 512; rows = 2; disks = 2; medium = replicate 3_584 0 }
-
-abbrev toThree : List DirectEvent
-toThree = ends (grow 3) ∷ []
-
 late-tested : Tested endsLate (λ p. growthTest p twoDisks (fromFormat toThree) (flushedAfter threeAdvances) (wrongTwice toldLate))
-unfolding testing endsLate twoDisks
+unfolding testing endsLate twoDisks toThree
 late-tested = (λ v o. refl, refl)
 
 pub ends-late : BreaksFurther endsLate LastTold
 ends-late = broken-twice LastTold toldLate refutes-last-told endsLate twoDisks toThree threeAdvances (an-advance (an-advance (an-advance no-call))) late-tested
+
+-- and the fourth does
+abbrev fourthTells : (h : GrowthHeard) (k last : Model) → Bool
+fourthTells h k last = eqb (callsLeftOf (k .tally)) 3 && sameTold (allOf (h .advances)) (false ∷ false ∷ false ∷ true ∷ [])
+
+fourth-tested : Tested endsLate (λ p. growthTest p twoDisks (fromFormat toThree) (flushedAfter fourAdvances) fourthTells)
+unfolding testing endsLate twoDisks toThree
+fourth-tested = (λ v o. refl, refl)
+
+pub late-end : LateEnd
+late-end =
+    let both = growth-tested endsLate twoDisks (fromFormat toThree) (flushedAfter fourAdvances) fourthTells
+    (tested endsLate (λ p. growthTest p twoDisks (fromFormat toThree) (flushedAfter fourAdvances) fourthTells) fourth-tested) in
+    let left = modelWithout endsLate twoDisks toThree .tally in
+    record {
+      calls-left = eqb-true (callsLeftOf left) 3 (and-left (eqb (callsLeftOf left) 3) _ (both .1));
+      told =
+          direct-told endsLate (systemWithout endsLate twoDisks toThree) fourAdvances
+          ∙ are-same _ (false ∷ false ∷ false ∷ true ∷ []) (and-right (eqb (callsLeftOf left) 3) _ (both .1));
+    }
 
 -- a grow that refuses nothing: from 0 disks to 0 there are no windows, no call is left, and the growth runs
 abbrev toNone : List DirectEvent

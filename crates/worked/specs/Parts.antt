@@ -10,7 +10,7 @@ use lib.ListN.{length, replicate}
 use Rattle.layout.specs.Tally.{Mode, isRunning, liveSpotOf, callsLeftOf}
 use Rattle.medium.specs.Medium.{observe}
 use Rattle.volume.specs.Answers.{accepted}
-use Rattle.promise.specs.Calls.{Call, advance, write, read, flushed}
+use Rattle.promise.specs.Calls.{Call, grow, advance, write, read, flushed}
 use Rattle.promise.specs.Lists.{Event, runs, mediumOf, outcome, isAccepted, after, NoEarlyCut, Lawful, lastReported, IsUp, AllFurther, finishedTold}
 use Rattle.promise.specs.Promise.{Start, formatted, begin, systemAfter, modelOf, PromiseOf}
 use Rattle.promise.specs.WithoutCache.{DirectEvent, ends, fromFormat, DirectFurther, systemWithout, modelWithout, advancesTold, PromiseWithoutCacheOf}
@@ -162,6 +162,20 @@ pub record PartsBrokenWithoutCache : Type 0 where
   pub finished : EveryDirectFurther growsAlways Finished → ⊥
   pub finished-never : EveryDirectFurther neverAdvances Finished → ⊥
   pub last-told : EveryDirectFurther endsLate LastTold → ⊥
+
+-- an advance that ends a call late does end: of a growth with three calls left the fourth tells finished
+unfoldable pub twoDisks : Start
+twoDisks = record { size = 512; rows = 2; disks = 2; medium = replicate 3_584 0 }
+
+unfoldable pub toThree : List DirectEvent
+toThree = ends (grow 3) ∷ []
+
+abbrev pub fourAdvances : List DirectEvent
+fourAdvances = ends advance ∷ ends advance ∷ ends advance ∷ ends advance ∷ []
+
+pub record LateEnd : Type 0 where
+  pub calls-left : callsLeftOf (modelWithout endsLate twoDisks toThree .tally) ≡ 3
+  pub told : advancesTold endsLate (systemWithout endsLate twoDisks toThree) fourAdvances ≡ false ∷ false ∷ false ∷ true ∷ []
 
 -- where blocks are exchanged, the read is accepted and gives what was saved: only where it stands is wrong
 pub record ExchangedRead : Type 0 where
