@@ -1,11 +1,10 @@
 -- The part that advance tells of a block, and the part that address tells once the copy is recorded.
-use Prim.Native.Nat.{ℕ, suc, _*_, _-_, _≤_, _<_}
+use Prim.Native.Nat.{ℕ, suc, _*_, _-_, _<_}
 use mathlib.Core.Path.{_≡_, refl, sym, ap, _∙_}
 use mathlib.Core.Bool.{true, false}
 use mathlib.Core.List.{List, []}
 use mathlib.Core.Logic.{_⊎_, inl, inr}
 use mathlib.Core.Option.{Option, none, some, Option·none-ne-some, Option·some-injective}
-use native.Mathlib.Nat.{mul-le-mul-right}
 use native.Mathlib.Omega.{arith}
 use lib.Dec.{eqb, ltb}
 use lib.ListN.{length}
@@ -17,14 +16,14 @@ use Rattle.layout.specs.declared.Block.{Block}
 use Rattle.layout.specs.declared.Part.{Part}
 use Rattle.layout.specs.declared.Reason.the-variants.{MovedBy}
 use Rattle.layout.specs.Growth.{movesFrom, changeOf}
-use Rattle.layout.specs.History.{diskCount, earlier, oldCount, addedCount, rising}
+use Rattle.layout.specs.History.{earlier, oldCount, addedCount, rising}
 use Rattle.layout.specs.Live.{atNewSpot}
 use Rattle.layout.specs.Reasons.{reasonAfter, reasonOf}
 use Rattle.layout.specs.Tally.{Tally, isRunning, openBlocks, recordedBy, movedBlocks, growthsOf, liveReasonOf, movesNow, nextBlock, windowFull, lastWindow}
 use Rattle.layout.specs.Windows.{oldSpot, moving, windowOf, movingIn, markOf, markedBlocks, partMoved}
 use Rattle.layout.proofs.HistoryCode.{history-length}
 use Rattle.layout.proofs.NextBlocks.{moving-in-old, next-some}
-use Rattle.layout.proofs.Theorems.{disks-sum, reason-after-newest}
+use Rattle.layout.proofs.Theorems.{reason-after-newest}
 use Rattle.marks.specs.Words.{marksOf}
 use Rattle.marks.proofs.BlocksCode.{history-before}
 use Rattle.marks.proofs.MarkSets.{its-mark}
@@ -40,7 +39,7 @@ use Rattle.volume.specs.Laws.{SoundFacts, RecordsCopy}
 use Rattle.volume.specs.States.{historyOf, modeOf, tallyOf, withGrowth, withCopy, checkpointed}
 use Rattle.volume.proofs.Accepted.{AdvanceFacts, advance-accepted}
 use Rattle.volume.proofs.Judged.{judged-cases}
-use Rattle.volume.proofs.LookUpLaws.{is-open, reason-told}
+use Rattle.volume.proofs.LookUpLaws.{old-among, is-open, reason-told}
 use Rattle.volume.proofs.SoundLaws.{sound-facts, some-old}
 use Rattle.volume.proofs.StatesSound.{copied-marks, copied-sound, checkpointed-sound}
 
@@ -101,9 +100,8 @@ all-growths t x m (inr e) = rw (m, e) (cond-cases (λ (h : List ℕ). h ≡ t .c
 old-open : (t : Tally) (x : ℕ) → rising (t .counts) ≡ true → 0 < oldCount (t .counts) → x < oldCount (t .counts) * t .rows → x < openBlocks t
 unfolding openBlocks
 old-open t x r g h =
-    let more : oldCount (t .counts) * t .rows ≤ diskCount (t .counts) * t .rows =
-    mul-le-mul-right (t .rows) (omega (arith, disks-sum (t .rows) (t .counts) r g)) in
-    cond-cases (λ (k : ℕ). x < k * t .rows) (isRunning (t .mode)) (λ _. h) (λ _. omega (arith, h, more))
+    cond-cases (λ (k : ℕ). x < k * t .rows) (isRunning (t .mode)) (λ _. h)
+    (λ _. omega (arith, h, old-among (t .rows) (t .counts) r g))
 
 module _ (v : Volume) (o : Observations) (x : ℕ) (part : Part) (c : CopyTold v o x part) where
   moves : movingIn (v .rows) (historyOf v) (v .window) x ≡ true

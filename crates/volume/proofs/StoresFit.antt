@@ -1,19 +1,18 @@
 -- What calls store lies in the bytes of the disks, and so in the medium.
-use Prim.Native.Nat.{ℕ, _*_, _≤_}
+use Prim.Native.Nat.{ℕ, _≤_}
 use mathlib.Core.Path.{_≡_, refl}
 use mathlib.Core.Bool.{Bool, true}
 use mathlib.Core.List.{List, []}
 use mathlib.Core.Logic.{_≢_}
 use mathlib.Core.Option.{Option, none, some}
-use native.Mathlib.Nat.{mul-le-mul-right}
 use native.Mathlib.Omega.{arith}
 use lib.ListN.{length, length-take, length-drop}
 use Rattle.base.specs.Refusals.{refusal}
 use Rattle.layout.specs.declared.Spot.{Spot}
-use Rattle.layout.specs.History.{diskCount, oldCount, spotOf}
+use Rattle.layout.specs.History.{spotOf}
 use Rattle.layout.specs.Tally.{movesNow, sourceOf, targetOf, nextBlock}
 use Rattle.layout.proofs.NextBlocks.{moving-in-old}
-use Rattle.layout.proofs.Theorems.{spots-and-blocks, disks-sum}
+use Rattle.layout.proofs.Theorems.{spots-and-blocks}
 use Rattle.medium.specs.declared.Geometry.{Geometry}
 use Rattle.medium.specs.Medium.{bytesNeeded, Observations, observe, Store, recordStore, Inside, StoreFits}
 use Rattle.medium.proofs.Theorems.{medium-laws}
@@ -26,7 +25,7 @@ use Rattle.volume.proofs.Accepted.{AdvanceFacts, CopyFacts, format-acce
 use Rattle.volume.proofs.ByteBounds.{bytes-more, record-room}
 use Rattle.volume.proofs.CopyLaws.{next-facts, lives-at-source}
 use Rattle.volume.proofs.Judged.{judged-cases}
-use Rattle.volume.proofs.LookUpLaws.{live-inside}
+use Rattle.volume.proofs.LookUpLaws.{old-among, live-inside}
 use Rattle.volume.proofs.RecordLaws.{record-length}
 use Rattle.volume.proofs.SoundLaws.{sound-facts, some-old}
 
@@ -86,8 +85,7 @@ copy-inside v x len e runs m room =
     let h = historyOf v in
     let r = sound-facts v e .limits .rise in
     let q = moving-in-old s h (v .window) x m in
-    let more : oldCount h * s ≤ diskCount h * s = mul-le-mul-right s (omega (arith, disks-sum s h r (some-old v e runs))) in
-    let w = spots-and-blocks s h r .spot-within x (omega (arith, q, more)) in
+    let w = spots-and-blocks s h r .spot-within x (omega (arith, q, old-among s h r (some-old v e runs))) in
     let i = medium-laws .inside (geometry v) (disks v) (spotOf s h x) (w .disk) (w .row) in
     record { row = i .row; fits = omega (arith, i .fits) }
 

@@ -192,7 +192,7 @@ copyTable v x byteCount =
     ∷ (11, tallyOf v .copied x)
     ∷ blockRows v)
 
--- "the old spot's bytes at the new one"
+-- "It stores the old spot's bytes at the new one"
 unfoldable pub copyStore : (v : Volume) (x : ℕ) (o : Observations) → Store
 copyStore v x o = blockStore (targetOf (tallyOf v) x) (o .bytesAt (geometry v) (sourceOf (tallyOf v) x))
 
