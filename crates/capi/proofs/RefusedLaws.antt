@@ -23,7 +23,7 @@ use Rattle.volume.specs.declared.AddressAnswer.the-variants as address
 use Rattle.volume.specs.declared.HolderAnswer.{HolderAnswer}
 use Rattle.volume.specs.declared.HolderAnswer.the-variants as holder
 use Rattle.volume.specs.Answers.{number, callsTold, blockCopied, partCopied, addressNumber, holderNumber, blockTold}
-use Rattle.volume.specs.Calls.{Outcome, refused, formatTable, formatOutcome, restartTable, restartOutcome, growTable, growOutcome, writeTable, writeOutcome, readTable, readOutcome, flushedTable, flushedEffect, flushedOutcome, doing, writeEffect, readEffect, copyTable, copyOutcome, checkpointTable, checkpointOutcome, advanceTable, advanceOutcome, addressTable, addressReply, holderTable, holderReply}
+use Rattle.volume.specs.Calls.{Outcome, refused, formatTable, formatOutcome, restartTable, growTable, writeTable, writeOutcome, readTable, readOutcome, flushedTable, flushedEffect, flushedOutcome, doing, writeEffect, readEffect, copyTable, checkpointTable, advanceTable, addressTable, addressReply, holderTable, holderReply}
 use Rattle.volume.specs.Laws.{Refuses}
 use Rattle.volume.specs.Records.{numbersOf}
 use Rattle.volume.specs.States.{nonePending, pendingWith, newState, withPending, zeros}

@@ -1,8 +1,9 @@
 -- The laws of the layout: `layout-laws` proves all of `LayoutLaws` in `specs/Laws.antt`.
-use Prim.Native.Nat.{ℕ, _+_, _-_, _*_, _<_}
+use Prim.Native.Nat.{ℕ, _+_, _-_, _*_, _≤_, _<_}
 use mathlib.Core.Path.{_≡_, refl, _∙_, ap}
 use mathlib.Core.Bool.{Bool, true, false}
 use mathlib.Core.List.{List, [], _∷_, _++_, map}
+use native.Mathlib.Nat.{mul-le-mul-right}
 use native.Mathlib.Omega.{arith}
 use lib.ListN.{length, take, drop}
 use borrow.Author.Tests.{le-leb}
@@ -54,6 +55,10 @@ module _ (s : ℕ) (h : List ℕ) (r : rising h ≡ true) (g : 0 < oldCount h) w
   pub disks-sum : oldCount h + addedCount h ≡ diskCount h
   unfolding addedCount oldCount earlier diskCount
   disks-sum = has-growth (λ k. oldCount k + addedCount k ≡ diskCount k) (λ c m k q. omega (arith, rising-up c m k q)) h r g
+
+  -- the blocks before the newest growth are among all
+  pub old-among : oldCount h * s ≤ diskCount h * s
+  old-among = mul-le-mul-right s (omega (arith, disks-sum))
 
   -- the spot of block x after the newest growth and its reason, from those before it
   pub spot-after-newest : (x : ℕ) → spotOf s h x ≡ spotAfter (oldCount h) (addedCount h) s x (oldSpot s h x)

@@ -1,9 +1,8 @@
 -- What holds of the tally of a sound state, and what the live spots and the targets of its copies are to each other.
-use Prim.Native.Nat.{ℕ, _*_, _≤_, _<_}
+use Prim.Native.Nat.{ℕ, _*_, _<_}
 use mathlib.Core.Path.{_≡_, refl, sym, _∙_, ap}
 use mathlib.Core.Bool.{Bool, true, false, not, _&&_, false≢true}
 use mathlib.Core.Logic.{_≢_}
-use native.Mathlib.Nat.{mul-le-mul-right}
 use native.Mathlib.Omega.{arith}
 use lib.Dec.{eqb}
 use borrow.Author.Tests.{eqb-true, eq-eqb, le-ltb, not-true}
@@ -15,7 +14,7 @@ use Rattle.layout.specs.Tally.{Tally, notGrowing, growing, isRunning, openBlock
 use Rattle.layout.specs.Windows.{windows, moving, windowOf, movingIn}
 use Rattle.layout.proofs.Bijection.{spot-injective}
 use Rattle.layout.proofs.NextBlocks.{moving-old}
-use Rattle.layout.proofs.Theorems.{layout-laws, disks-sum}
+use Rattle.layout.proofs.Theorems.{layout-laws, old-among}
 
 -- a growth runs, within its windows; what is recorded is copied, and what is copied is a moving block of the window
 pub record Running (t : Tally) : Type 0 where
@@ -101,10 +100,7 @@ module _ (t : Tally) (r : Running t) where
   old-block x e = moving-old (t .rows) (t .counts) x (now-moving t x (moves-now x e))
 
   there-after : (x : ℕ) → unrecorded t x ≡ true → x < diskCount (t .counts) * t .rows
-  there-after x e =
-      let more : oldCount (t .counts) ≤ diskCount (t .counts) =
-      omega (arith, disks-sum (t .rows) (t .counts) (r .rise) (r .some-old)) in
-      omega (arith, old-block x e, mul-le-mul-right (t .rows) more)
+  there-after x e = omega (arith, old-block x e, old-among (t .rows) (t .counts) (r .rise) (r .some-old))
 
   spots : Bijection (t .rows) (t .counts)
   spots = layout-laws .spots-and-blocks (t .rows) (t .counts) (r .rise)

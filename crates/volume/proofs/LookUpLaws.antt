@@ -1,19 +1,18 @@
 -- Looking up the blocks of a sound state: a live spot lies in the medium, the reason told is true, address and holder are inverse to each
 -- other, and after a finished growth 15 never occurs.
-use Prim.Native.Nat.{ℕ, _*_, _≤_, _<_}
+use Prim.Native.Nat.{ℕ, _≤_, _<_}
 use mathlib.Core.Path.{_≡_, refl, sym, ap, _∙_}
 use mathlib.Core.Bool.{Bool, true, false, cond, not, false≢true}
-use mathlib.Core.List.{List, [], _∷_}
+use mathlib.Core.List.{[], _∷_}
 use mathlib.Core.Logic.{_≢_}
 use mathlib.Core.Option.{Option, none, some}
-use native.Mathlib.Nat.{mul-le-mul-right}
 use native.Mathlib.Omega.{arith}
 use lib.Dec.{eqb, leb}
 use borrow.Author.Tests.{eqb-false, eq-eqb, lt-leb, not-false}
 use Rattle.base.specs.Refusals.{refusal}
 use Rattle.base.proofs.Booleans.{clash}
 use Rattle.layout.specs.declared.Spot.{Spot}
-use Rattle.layout.specs.History.{Within, diskCount, oldCount, rising}
+use Rattle.layout.specs.History.{Within}
 use Rattle.layout.specs.Laws.{ReasonTrue, LookUps}
 use Rattle.layout.specs.Tally.{notGrowing, growing, isRunning, openBlocks, liveSpotOf, liveBlockOf, growthsOf, liveReasonOf}
 use Rattle.layout.proofs.Theorems as layout
@@ -44,10 +43,6 @@ unfolding tallyOf historyOf
 look-ups-of v e =
     layout.look-ups (tallyOf v) (sound-facts v e .limits .rise)
     (λ m. some-old v e (eqb-false (v .growing) 0 (running-number (v .growing) m)))
-
--- the blocks before the newest growth are among all
-pub old-among : (s : ℕ) (h : List ℕ) → rising h ≡ true → 0 < oldCount h → oldCount h * s ≤ diskCount h * s
-old-among s h r g = mul-le-mul-right s (omega (arith, layout.disks-sum s h r g))
 
 pub live-inside : (v : Volume) (x len : ℕ) → sound v ≡ true → x < openBlocks (tallyOf v) → bytesNeeded (geometry v) (disks v) ≤ len
     → Inside (geometry v) len (liveSpotOf (tallyOf v) x)

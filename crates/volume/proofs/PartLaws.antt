@@ -23,7 +23,7 @@ use Rattle.layout.specs.Tally.{Tally, isRunning, openBlocks, recordedBy, movedB
 use Rattle.layout.specs.Windows.{oldSpot, moving, windowOf, movingIn, markOf, markedBlocks, partMoved}
 use Rattle.layout.proofs.HistoryCode.{history-length}
 use Rattle.layout.proofs.NextBlocks.{moving-in-old, next-some}
-use Rattle.layout.proofs.Theorems.{reason-after-newest}
+use Rattle.layout.proofs.Theorems.{old-among, reason-after-newest}
 use Rattle.marks.specs.Words.{marksOf}
 use Rattle.marks.proofs.BlocksCode.{history-before}
 use Rattle.marks.proofs.MarkSets.{its-mark}
@@ -39,7 +39,7 @@ use Rattle.volume.specs.Laws.{SoundFacts, RecordsCopy}
 use Rattle.volume.specs.States.{historyOf, modeOf, tallyOf, withGrowth, withCopy, checkpointed}
 use Rattle.volume.proofs.Accepted.{AdvanceFacts, advance-accepted}
 use Rattle.volume.proofs.Judged.{judged-cases}
-use Rattle.volume.proofs.LookUpLaws.{old-among, is-open, reason-told}
+use Rattle.volume.proofs.LookUpLaws.{is-open, reason-told}
 use Rattle.volume.proofs.SoundLaws.{sound-facts, some-old}
 use Rattle.volume.proofs.StatesSound.{copied-marks, copied-sound, checkpointed-sound}
 

@@ -12,20 +12,20 @@ use Rattle.layout.specs.declared.Spot.{Spot}
 use Rattle.layout.specs.History.{spotOf}
 use Rattle.layout.specs.Tally.{movesNow, sourceOf, targetOf, nextBlock}
 use Rattle.layout.proofs.NextBlocks.{moving-in-old}
-use Rattle.layout.proofs.Theorems.{spots-and-blocks}
+use Rattle.layout.proofs.Theorems.{old-among, spots-and-blocks}
 use Rattle.medium.specs.declared.Geometry.{Geometry}
 use Rattle.medium.specs.Medium.{bytesNeeded, Observations, observe, Store, recordStore, Inside, StoreFits}
 use Rattle.medium.proofs.Theorems.{medium-laws}
 use Rattle.volume.specs.declared.Volume.{Volume}
-use Rattle.volume.specs.Calls.{Outcome, refused, reporting, telling, judged, doing, formatEffect, growEffect, writeEffect, readEffect, copyEffect, checkpointEffect, advanceEffect, formatTable, formatOutcome, growTable, growOutcome, writeTable, writeOutcome, readTable, readOutcome, copyTable, copyStore, copyOutcome, checkpointTable, checkpointStore, checkpointOutcome, advanceTable, advancing, advanceOutcome}
+use Rattle.volume.specs.Calls.{Outcome, refused, reporting, telling, judged, doing, formatEffect, growEffect, writeEffect, copyEffect, checkpointEffect, advanceEffect, formatTable, formatOutcome, growTable, growOutcome, writeTable, writeOutcome, copyTable, copyStore, copyOutcome, checkpointTable, checkpointStore, checkpointOutcome, advanceTable, advancing, advanceOutcome}
 use Rattle.volume.specs.Records.{recordOf}
 use Rattle.volume.specs.Sound.{sound}
 use Rattle.volume.specs.States.{geometry, historyOf, disks, tallyOf, newState, zeros, grown, checkpointed}
-use Rattle.volume.proofs.Accepted.{AdvanceFacts, CopyFacts, format-accepted, grow-accepted, write-accepted, read-accepted, copy-accepted, checkpoint-accepted, advance-accepted}
+use Rattle.volume.proofs.Accepted.{AdvanceFacts, CopyFacts, format-accepted, grow-accepted, write-accepted, copy-accepted, checkpoint-accepted, advance-accepted}
 use Rattle.volume.proofs.ByteBounds.{bytes-more, record-room}
 use Rattle.volume.proofs.CopyLaws.{next-facts, lives-at-source}
 use Rattle.volume.proofs.Judged.{judged-cases}
-use Rattle.volume.proofs.LookUpLaws.{old-among, live-inside}
+use Rattle.volume.proofs.LookUpLaws.{live-inside}
 use Rattle.volume.proofs.RecordLaws.{record-length}
 use Rattle.volume.proofs.SoundLaws.{sound-facts, some-old}
 
