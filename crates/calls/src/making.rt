@@ -5,7 +5,6 @@ ghost use Rattle.volume.specs.States.{geometry};
 ghost use Rattle.promise.specs.Lists.{callOutcome};
 ghost use Rattle.calls.specs.Asked.{asked, pieceAfter};
 use super::Call;
-use layout::Block;
 use volume::Reply;
 use volume::Volume;
 

@@ -1,6 +1,7 @@
 -- Each part of demand 3 alone, as a claim about a program: `Parts` for drives with a write cache (document 02, W4), `PartsWithoutCache` for
 -- drives that keep no store. Together they are the demand: `PartsOfPromise`. For each part but one there is a program that breaks it:
--- `PartsBroken` and `PartsBrokenWithoutCache`. Proofs in `proofs/Parts.antt`, `proofs/EveryProgram.antt` and `proofs/WrongPrograms.antt`.
+-- `PartsBroken` and `PartsBrokenWithoutCache`. Proofs in `proofs/Parts.antt`, `proofs/EveryProgram.antt` and `proofs/WrongPrograms.antt`. `LateEnd`
+-- and `ExchangedRead` say what two of the programs do right; their proofs are in `proofs/WrongGrowths.antt` and `proofs/WrongReads.antt`.
 use Prim.Native.Nat.{ℕ, _-_, _<_}
 use mathlib.Core.Path.{_≡_}
 use mathlib.Core.Bool.{Bool, true, false}
