@@ -1,9 +1,9 @@
 /*
  * Streterva: a RAID-0 volume (striping without parity) that takes more disks while it is in use.
  *
- * Link with libcapi.a (x86-64). "Document 01" is the specification, and "document 02" that of load and flushed; numbers
- * and words here are their own: a block is an address in the volume, a row is a position on one disk, a spot is a disk
- * and a row.
+ * Link with libcapi.a (x86-64). "Document 01" is the specification, and "document 02" that of load, flushed and view;
+ * numbers and words here are their own: a block is an address in the volume, a row is a position on one disk, a spot is
+ * a disk and a row.
  *
  * Answers. Every function returns 0 when it accepts the call, or else the number of the refusal (enum
  * streterva_refusal). Tests are made in the order given at each function, and the first that fails gives the number. A
@@ -15,8 +15,8 @@
  * that many elements, and aligned for them; with 0 elements it may be NULL. A state has exactly
  * STRETERVA_STATE_WORDS words and figures have exactly the number told at the function. Any other number is refused
  * with STRETERVA_WRONG_LENGTH, before all other tests, and then nothing at all is touched, figures and state included.
- * A medium that is too short is refused with 2, a piece that is not one block long with 4, a list that is too long with
- * 17.
+ * A medium or a shelf that is too short is refused with 2, a piece that is not one block long with 4, a list that is
+ * too long with 17. Of a shelf only the length is told, without a pointer.
  *
  * No overlap. No two buffers of one call may overlap, unless the call only reads both. Calls may run at the same time
  * if nothing that one of them writes is read or written by another: states, pieces, figures, and of a medium the bytes
@@ -41,10 +41,29 @@
  *   advance      a spot of an old disk         a spot of an added disk, or (it reads nothing then) the record
  *   write        nothing                       the block's live spot, which address tells
  *   read         the block's live spot         nothing
+ *   view         nothing                       nothing; it is told lengths alone, see "Shelves"
  *
  * A refused call reads and writes nothing of it, but restart reads the record. A caller with several threads may lock
  * these bytes instead of the whole medium, beside the state: a state that a call may change belongs to it alone for the
  * call.
+ *
+ * Shelves. View shows a block without copying it, out of two shelves. The first has k disks, 1 to N[t]; N[t], which is
+ * counts[growths] of the state, includes the disks of a growth under way.
+ *
+ *   shelf    holds                         needs so many bytes                      spot (d, b) is at byte
+ *   first    the record, disks 0 to k-1    streterva_medium_bytes(size, rows, k)    512 + (d * rows + b) * size
+ *   second   disks k to N[t]-1             (N[t] - k) * rows * size                 ((d - k) * rows + b) * size
+ *
+ * So a medium that is cut after disk k-1 is two shelves. Each may have spare bytes at its end, which are never shown.
+ * With k = N[t] no second shelf is needed: its length may be 0, and the first is a whole medium. View tells the shelf
+ * that has the block's live spot and the byte of that shelf at which the block starts. The caller adds the byte to the
+ * start of its shelf and finds one block there, as read gives it on the two shelves joined without their spare bytes.
+ *
+ * As long as that spot is the block's live one, the bytes there change only by a write to the block. To use them is to
+ * read the live spot, so no write to the block may run at the same time. A checkpoint, or the advance that does it, may
+ * record the block's copy. Then the live spot is the new one, and later writes to the block go there; the old spot
+ * keeps its bytes while the growth runs, and after that an added block may be written to it. So call view again after a
+ * checkpoint, after an advance that did not copy, after restart and after format.
  *
  * Pending stores. Drives with a write cache may keep stores and put them down in any order, so a store is pending until
  * the caller tells by streterva_flushed that all earlier stores are down. On such drives:
@@ -106,6 +125,7 @@ extern "C" {
 /* Numbers of figures. The first is for restart, grow, copy and checkpoint: figure 0 is the advance calls left. */
 #define STRETERVA_LEFT_FIGURES 1
 #define STRETERVA_ADVANCE_FIGURES 4
+#define STRETERVA_VIEW_FIGURES 2
 #define STRETERVA_ADDRESS_FIGURES 5
 #define STRETERVA_HOLDER_FIGURES 1
 #define STRETERVA_LOAD_FIGURES 17
@@ -151,13 +171,13 @@ STRETERVA_ASSERT(sizeof(streterva_scene) == 16, "a scene is 2 words of 64 bits")
 enum streterva_refusal {
     STRETERVA_ACCEPTED = 0,
     STRETERVA_NOT_SOUND = 1,           /* the state is not sound */
-    STRETERVA_MEDIUM_TOO_SHORT = 2,    /* the medium is too short for the record and all disks */
+    STRETERVA_MEDIUM_TOO_SHORT = 2,    /* the medium is too short for record and disks, or a shelf for what it holds */
     STRETERVA_BLOCK_NOT_OPEN = 3,      /* the block is not open: past the end, or added by the growth under way */
     STRETERVA_PIECE_SIZE = 4,          /* the piece is not one block long */
     STRETERVA_NOT_GROWING = 5,         /* no growth is under way */
     STRETERVA_GROWING = 6,             /* a growth is under way already */
     STRETERVA_COPY_NOT_RECORDED = 7,   /* the block is copied but not recorded: checkpoint first */
-    STRETERVA_OUTSIDE_LIMITS = 8,      /* a size, a number of rows or a disk count is outside its limits */
+    STRETERVA_OUTSIDE_LIMITS = 8,      /* a size, rows, a disk count or the first shelf's disks are outside limits */
     STRETERVA_NO_MORE_GROWTHS = 9,     /* the volume has had its 7 growths */
     STRETERVA_NOT_MOVING = 10,         /* the block does not move, or is not in window w */
     STRETERVA_ALREADY_COPIED = 11,     /* the block is copied already */
@@ -185,6 +205,15 @@ enum streterva_did {
     STRETERVA_RECORDED = 2, /* made a checkpoint */
     STRETERVA_FINISHED = 3  /* made the checkpoint that ended the growth */
 };
+
+/* Places of the figures of view. */
+enum streterva_view_figure {
+    STRETERVA_VIEW_SHELF = 0, /* the shelf that has the block, an enum streterva_shelf */
+    STRETERVA_VIEW_BYTE = 1   /* the byte of that shelf at which the block starts */
+};
+
+/* The two shelves. */
+enum streterva_shelf { STRETERVA_FIRST_SHELF = 1, STRETERVA_SECOND_SHELF = 2 };
 
 /* Places of the figures of address. */
 enum streterva_address_figure {
@@ -306,6 +335,15 @@ uint64_t streterva_flushed(uint64_t *state, size_t state_words);
  */
 uint64_t streterva_read(const uint64_t *state, size_t state_words, const uint8_t *medium, size_t medium_bytes,
                         uint64_t block, uint8_t *piece, size_t piece_bytes);
+
+/*
+ * View: tells where the block starts on two shelves that have `first_bytes` and `second_bytes` bytes, with k =
+ * `first_disks` disks on the first: see "Shelves". What is pending makes no difference. The state never changes.
+ * Refuses: 1; 8, first_disks not from 1 to N[t]; 2, the first shelf or the second is too short; 3.
+ * Figures (2): enum streterva_view_figure.
+ */
+uint64_t streterva_view(const uint64_t *state, size_t state_words, size_t first_bytes, size_t second_bytes,
+                        uint64_t first_disks, uint64_t block, uint64_t *figures, size_t figures_words);
 
 /*
  * Address: tells the live spot of the block, where it is read and written now, and why it is there.

@@ -1,7 +1,7 @@
 /*
  * One show on a volume in plain memory, called as for drives with a write cache: pictures are saved, the volume grows
  * from 3 disks to 5 while it is read and written, the power fails in the middle of a store, and at the end every
- * picture is read back and compared. Exits with 1 at the first difference.
+ * picture is read back and compared, and two are shown straight from the medium. Exits with 1 at the first difference.
  */
 #include "streterva.h"
 
@@ -89,15 +89,22 @@ static void save(uint64_t block)
     saves[block]++;
 }
 
+/* Compares one block of bytes with the last picture of a saved block. */
+static void compare(const uint8_t *bytes, uint64_t block)
+{
+    uint8_t wanted[SIZE];
+    draw(wanted, block, saves[block]);
+    for (size_t i = 0; i < SIZE; i++)
+        expect("a byte of a picture", bytes[i], wanted[i]);
+}
+
 /* Reads a saved block and compares it with its last picture. */
 static void check(uint64_t block)
 {
-    uint8_t piece[SIZE], wanted[SIZE];
-    draw(wanted, block, saves[block]);
+    uint8_t piece[SIZE];
     expect("read", streterva_read(state.words, STRETERVA_STATE_WORDS, medium, medium_bytes, block, piece, SIZE),
            STRETERVA_ACCEPTED);
-    for (size_t i = 0; i < SIZE; i++)
-        expect("a byte of a picture", piece[i], wanted[i]);
+    compare(piece, block);
 }
 
 static void check_all(uint64_t blocks)
@@ -167,6 +174,24 @@ static void tell(uint64_t block)
     if (at[STRETERVA_ADDRESS_GROWTH] > 0)
         printf(" %llu%s", (unsigned long long)at[STRETERVA_ADDRESS_GROWTH], parts[at[STRETERVA_ADDRESS_PART]]);
     printf("\n");
+}
+
+/*
+ * Shows a saved block where it is, without reading it into a piece. The medium is cut into two shelves: the record and
+ * the old disks, and the added disks.
+ */
+static void show(uint64_t block)
+{
+    const size_t first_bytes = (size_t)streterva_medium_bytes(SIZE, ROWS, OLD_DISKS);
+    const uint8_t *const shelves[] = {NULL, medium, medium + first_bytes};
+    uint64_t found[STRETERVA_VIEW_FIGURES];
+    expect("view",
+           streterva_view(state.words, STRETERVA_STATE_WORDS, first_bytes, medium_bytes - first_bytes, OLD_DISKS, block,
+                          found, STRETERVA_VIEW_FIGURES),
+           STRETERVA_ACCEPTED);
+    compare(shelves[found[STRETERVA_VIEW_SHELF]] + found[STRETERVA_VIEW_BYTE], block);
+    printf("block %llu: shown without a copy, from byte %llu of shelf %llu\n", (unsigned long long)block,
+           (unsigned long long)found[STRETERVA_VIEW_BYTE], (unsigned long long)found[STRETERVA_VIEW_SHELF]);
 }
 
 /* How many blocks of three scenes each disk serves, counted once more block by block. */
@@ -279,6 +304,8 @@ int main(void)
     tell(1);
     tell(4);
     tell(OLD_BLOCKS);
+    show(1);
+    show(4);
     for (uint64_t block = 0; block < NEW_BLOCKS; block++) {
         uint64_t at[STRETERVA_ADDRESS_FIGURES], holder[STRETERVA_HOLDER_FIGURES];
         expect("address", streterva_address(state.words, STRETERVA_STATE_WORDS, block, at, STRETERVA_ADDRESS_FIGURES),

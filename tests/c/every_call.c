@@ -122,6 +122,12 @@ static uint64_t read_block(size_t bytes, uint64_t block, size_t piece_bytes)
     return streterva_read(state.words, STRETERVA_STATE_WORDS, medium, bytes, block, piece, piece_bytes);
 }
 
+static uint64_t view(size_t first_bytes, size_t second_bytes, uint64_t first_disks, uint64_t block)
+{
+    return streterva_view(state.words, STRETERVA_STATE_WORDS, first_bytes, second_bytes, first_disks, block, figures,
+                          STRETERVA_VIEW_FIGURES);
+}
+
 static uint64_t holder(uint64_t disk, uint64_t row)
 {
     return streterva_holder(state.words, STRETERVA_STATE_WORDS, disk, row, figures, STRETERVA_HOLDER_FIGURES);
@@ -156,6 +162,9 @@ static void wrong_lengths(void)
     expect("advance", streterva_advance(words, n, medium, medium_bytes, figures, 1), wrong);
     expect("write", streterva_write(words, 1, medium, medium_bytes, 0, piece, SIZE), wrong);
     expect("read", streterva_read(words, 1, medium, medium_bytes, 0, piece, SIZE), wrong);
+    expect("view", streterva_view(words, n - 1, medium_bytes, 0, OLD_DISKS, 0, figures, 2), wrong);
+    expect("view", streterva_view(words, n, medium_bytes, 0, OLD_DISKS, 0, figures, 1), wrong);
+    expect("view", streterva_view(words, n, medium_bytes, 0, OLD_DISKS, 0, figures, 3), wrong);
     expect("address", streterva_address(words, n, 0, figures, 4), wrong);
     expect("holder", streterva_holder(words, n, 0, 0, figures, 2), wrong);
     expect("load", streterva_load(words, n, NULL, 0, figures, 16), wrong);
@@ -182,6 +191,8 @@ static void null_pointers(void)
     expect("read", streterva_read(words, n, NULL, 0, 0, NULL, 0), STRETERVA_MEDIUM_TOO_SHORT);
     expect("read", streterva_read(words, n, medium, medium_bytes, 0, NULL, 0), STRETERVA_PIECE_SIZE);
     expect("write", streterva_write(words, n, medium, medium_bytes, 0, NULL, 0), STRETERVA_PIECE_SIZE);
+    expect("view", streterva_view(NULL, 0, medium_bytes, 0, OLD_DISKS, 0, figures, 2), STRETERVA_WRONG_LENGTH);
+    expect("view", streterva_view(words, n, medium_bytes, 0, OLD_DISKS, 0, NULL, 0), STRETERVA_WRONG_LENGTH);
     expect("address", streterva_address(words, n, 0, NULL, 0), STRETERVA_WRONG_LENGTH);
     expect("load", streterva_load(words, n, NULL, 0, figures, STRETERVA_LOAD_FIGURES), 0);
     expect("the state", (uint64_t)memcmp(&kept, &state, sizeof kept), 0);
@@ -247,7 +258,127 @@ static void check(uint64_t block, uint8_t byte)
         expect("a byte read", piece[i], byte);
 }
 
-/* From 3 disks to 5: a copy and a checkpoint, then advance calls, to the one that finishes. */
+/* ---- views, of the medium cut into two shelves */
+
+static uint64_t disk_count(void)
+{
+    return state.counts[state.growths];
+}
+
+static uint64_t open_blocks(void)
+{
+    return state.counts[state.growths - state.growing] * ROWS;
+}
+
+static size_t first_shelf(uint64_t first_disks)
+{
+    return (size_t)streterva_medium_bytes(SIZE, ROWS, first_disks);
+}
+
+static size_t second_shelf(uint64_t first_disks)
+{
+    return (size_t)(disk_count() - first_disks) * ROWS * SIZE;
+}
+
+/* What a view finds, with no page open for the call, is the block's live spot and has the bytes that read gives. */
+static void show(size_t first_bytes, size_t second_bytes, uint64_t first_disks, uint64_t block)
+{
+    const streterva_state kept = state;
+    const size_t page = live_page(block);
+    const int is_first = page < page_of(first_disks, 0);
+    close_all();
+    memset(figures, 0x77, sizeof figures);
+    expect("view", view(first_bytes, second_bytes, first_disks, block), 0);
+    expect("the shelf", figures[STRETERVA_VIEW_SHELF], is_first ? STRETERVA_FIRST_SHELF : STRETERVA_SECOND_SHELF);
+    expect("the state", (uint64_t)memcmp(&kept, &state, sizeof kept), 0);
+    const uint8_t *found = medium + (is_first ? 0 : first_shelf(first_disks)) + figures[STRETERVA_VIEW_BYTE];
+    expect("the byte", (uint64_t)(found - pages), page * SIZE);
+    open_live(block, PROT_READ);
+    expect("read", read_block(medium_bytes, block, SIZE), 0);
+    expect("the bytes found", (uint64_t)memcmp(found, piece, SIZE), 0);
+}
+
+static void refused_view(uint64_t wanted, size_t first_bytes, size_t second_bytes, uint64_t first_disks, uint64_t block)
+{
+    const streterva_state kept = state;
+    memset(figures, 0x77, sizeof figures);
+    expect("view", view(first_bytes, second_bytes, first_disks, block), wanted);
+    expect("the shelf of a refusal", figures[STRETERVA_VIEW_SHELF], 0);
+    expect("the byte of a refusal", figures[STRETERVA_VIEW_BYTE], 0);
+    expect("the state", (uint64_t)memcmp(&kept, &state, sizeof kept), 0);
+}
+
+/* Every open block, on shelves that just fit and on shelves with spare bytes. */
+static void show_blocks(uint64_t first_disks)
+{
+    const size_t first = first_shelf(first_disks), second = second_shelf(first_disks);
+    for (uint64_t block = 0; block < open_blocks(); block++) {
+        show(first, second, first_disks, block);
+        show(first + 1, second, first_disks, block);
+        show(first, second + SIZE, first_disks, block);
+        show(SIZE_MAX, SIZE_MAX, first_disks, block);
+    }
+}
+
+/* Either shelf too short, with an open block and with one that is not; then that block alone. */
+static void refuse_blocks(uint64_t first_disks)
+{
+    const size_t first = first_shelf(first_disks), second = second_shelf(first_disks);
+    const uint64_t closed = open_blocks(), too_short = STRETERVA_MEDIUM_TOO_SHORT, not_open = STRETERVA_BLOCK_NOT_OPEN;
+    close_all();
+    refused_view(too_short, first - 1, second, first_disks, 0);
+    refused_view(too_short, first - 1, SIZE_MAX, first_disks, closed);
+    refused_view(too_short, 0, 0, first_disks, UINT64_MAX);
+    if (second > 0) {
+        refused_view(too_short, first, second - 1, first_disks, 0);
+        refused_view(too_short, SIZE_MAX, second - 1, first_disks, closed);
+        refused_view(too_short, first + second, 0, first_disks, 0);
+    }
+    refused_view(not_open, first, second, first_disks, closed);
+    refused_view(not_open, SIZE_MAX, SIZE_MAX, first_disks, UINT64_MAX);
+}
+
+/* A number of disks that the first shelf cannot have, also with shelves too short and a block that is not open. */
+static void refuse_disks(uint64_t first_disks)
+{
+    close_all();
+    refused_view(STRETERVA_OUTSIDE_LIMITS, SIZE_MAX, SIZE_MAX, first_disks, 0);
+    refused_view(STRETERVA_OUTSIDE_LIMITS, 0, SIZE_MAX, first_disks, 0);
+    refused_view(STRETERVA_OUTSIDE_LIMITS, 0, 0, first_disks, open_blocks());
+}
+
+/* A state that is not sound, with nothing else wrong and with all; then words that are no state, as the last is 4. */
+static void refuse_states(void)
+{
+    const streterva_state kept = state;
+    close_all();
+    state.counts[7] = 1;
+    refused_view(STRETERVA_NOT_SOUND, SIZE_MAX, SIZE_MAX, 1, 0);
+    refused_view(STRETERVA_NOT_SOUND, 0, 0, 0, UINT64_MAX);
+    state.pending = 4;
+    memset(figures, 0x77, sizeof figures);
+    expect("view", view(0, 0, 0, UINT64_MAX), STRETERVA_WRONG_LENGTH);
+    expect("the shelf", figures[STRETERVA_VIEW_SHELF], UINT64_C(0x7777777777777777));
+    expect("the byte", figures[STRETERVA_VIEW_BYTE], UINT64_C(0x7777777777777777));
+    state = kept;
+}
+
+/* Views accepted and refused, with every number of disks on the first shelf. */
+static void views(void)
+{
+    for (uint64_t first_disks = 1; first_disks <= disk_count(); first_disks++) {
+        show_blocks(first_disks);
+        refuse_blocks(first_disks);
+    }
+    refuse_disks(0);
+    refuse_disks(disk_count() + 1);
+    refuse_disks(UINT64_MAX);
+    refuse_states();
+}
+
+/* ---- a growth, and what is after it */
+
+/* From 3 disks to 5: a copy and a checkpoint, then advance calls, to the one that finishes; views after each store. */
 static void growth(void)
 {
     open_record(PROT_READ | PROT_WRITE);
@@ -260,6 +391,7 @@ static void growth(void)
     open_copy(live_page(0), 1);
     expect("copy", copy(medium_bytes, 0), 0);
     expect("calls left", figures[0], --left);
+    views();
     close_all();
     expect("copy", copy(medium_bytes, 0), STRETERVA_ALREADY_COPIED);
     expect("write", write_block(medium_bytes, 0, SIZE), STRETERVA_COPY_NOT_RECORDED);
@@ -267,6 +399,7 @@ static void growth(void)
     flushed();
     open_record(PROT_READ | PROT_WRITE);
     expect("checkpoint", checkpoint(medium_bytes), 0);
+    views();
     close_all();
     expect("advance", advance(medium_bytes), STRETERVA_FLUSH_RECORD);
     while (left > 0) {
@@ -277,6 +410,7 @@ static void growth(void)
         expect("advance", advance(medium_bytes), 0);
         expect("calls left", figures[STRETERVA_ADVANCE_LEFT], --left);
         expect("finished", figures[STRETERVA_ADVANCE_DID] == STRETERVA_FINISHED, left == 0);
+        views();
     }
     flushed();
 }
@@ -330,6 +464,7 @@ int main(void)
     expect("format", format(medium_bytes, SIZE), 0);
     close_all();
     expect("write", write_block(medium_bytes, 0, SIZE), STRETERVA_FLUSH_RECORD);
+    views();
     flushed();
     wrong_lengths();
     null_pointers();
@@ -337,11 +472,13 @@ int main(void)
     zeros();
     for (uint64_t block = 0; block < OLD_DISKS * ROWS; block++)
         save(block, (uint8_t)(block + 1));
+    views();
     growth();
     open_record(PROT_READ);
     expect("restart", restart(medium_bytes), 0);
     for (uint64_t block = 0; block < OLD_DISKS * ROWS; block++)
         check(block, (uint8_t)(block + 1));
+    views();
     look_ups();
     printf("calls and values compared: %u\n", calls);
     return 0;
