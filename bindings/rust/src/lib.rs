@@ -1,11 +1,12 @@
 //! Bindings to Streterva: a RAID-0 volume (striping without parity) that takes more disks while it is in use.
 //!
 //! The library behind it, `libcapi.a`, is proved against its specification, "document 01", and "document 02" for
-//! [`State::load`] and [`State::flushed`]; the words and the numbers of refusals here are those documents'. A *block*
-//! is an address in the volume, a *row* is a position on one disk, a *spot* is a disk and a row.
+//! [`State::load`], [`State::flushed`] and [`State::view`]; the words and the numbers of refusals here are those
+//! documents'. A *block* is an address in the volume, a *row* is a position on one disk, a *spot* is a disk and a row.
 //!
-//! The caller keeps two things: the medium, a slice of bytes with the record and all disks, and the [`State`], plain data.
-//! Both are lent to each call. A call that is refused changes neither and gives a [`Refusal`], load a [`LoadRefusal`].
+//! The caller keeps two things: the medium, a slice of bytes with the record and all disks, and the [`State`], plain
+//! data. Both are lent to each call, to view the medium as two shelves. A call that is refused changes neither and
+//! gives a [`Refusal`], load a [`LoadRefusal`].
 //!
 //! ```
 //! use streterva::{Block, State, Step};
@@ -35,6 +36,10 @@
 //! let mut piece = [0; 512];
 //! volume.read(&medium, Block(7), &mut piece)?;
 //! assert_eq!(piece, [0xAB; 512]);
+//!
+//! // The same bytes without a copy, with 2 disks on the first shelf and 3 on the second.
+//! let (first, second) = medium.split_at(State::medium_bytes(512, 5, 2));
+//! assert_eq!(volume.view(first, second, 2, Block(7))?, piece);
 //!
 //! // Block 7 has moved to a new disk, within its row.
 //! let spot = volume.address(Block(7))?.spot;

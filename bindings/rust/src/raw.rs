@@ -3,8 +3,8 @@
 //! Each function returns 0 when it accepts the call, or else the number of the refusal. A state is a slice of
 //! [`STATE_WORDS`] words and figures are as many words as the function says. With any other length, or with a state
 //! whose last word is above [`MOST_PENDING`], the function returns [`WRONG_LENGTH`] before all other tests and touches
-//! nothing; format and restart do not read the words of the state they are lent. A medium that is too short is refused
-//! with 2, a piece that is not one block long with 4, a list of scenes that is too long with 17.
+//! nothing; format and restart do not read the words of the state they are lent. A medium or a shelf that is too short
+//! is refused with 2, a piece that is not one block long with 4, a list of scenes that is too long with 17.
 //!
 //! A refused call sets its figures to 0, all but the place that load tells with 17, and changes nothing else; format and
 //! restart also set the state to zeros.
@@ -36,6 +36,9 @@ pub const LEFT_FIGURES: usize = 1;
 
 /// Figures of [`advance`]: calls left; 1 copied, 2 recorded, 3 finished; the block copied; its part, 1 head, 2 body, 3 tail.
 pub const ADVANCE_FIGURES: usize = 4;
+
+/// Figures of [`view`]: 1 for the first shelf, 2 for the second; the byte of that shelf at which the block starts.
+pub const VIEW_FIGURES: usize = 2;
 
 /// Figures of [`address`]: disk; row; 1 set out at format, 2 added, 3 moved; the growth's number; the part, when moved.
 pub const ADDRESS_FIGURES: usize = 5;
@@ -141,6 +144,17 @@ extern "C" {
         block: u64,
         piece: *mut u8,
         piece_bytes: usize,
+    ) -> u64;
+
+    fn streterva_view(
+        state: *const u64,
+        state_words: usize,
+        first_bytes: usize,
+        second_bytes: usize,
+        first_disks: u64,
+        block: u64,
+        figures: *mut u64,
+        figures_words: usize,
     ) -> u64;
 
     fn streterva_address(
@@ -303,6 +317,32 @@ pub fn read(state: &[u64], medium: &[u8], block: u64, piece: &mut [u8]) -> u64 {
             block,
             piece.as_mut_ptr(),
             piece.len(),
+        )
+    }
+}
+
+/// Tells which of two shelves of these lengths has the block's live spot, with `first_disks` disks on the first, and
+/// the byte of that shelf at which the block starts. Refuses 1; 8; 2, for either shelf; 3.
+pub fn view(
+    state: &[u64],
+    first_bytes: usize,
+    second_bytes: usize,
+    first_disks: u64,
+    block: u64,
+    figures: &mut [u64],
+) -> u64 {
+    // SAFETY: each pointer goes with the length of its slice, borrowed for the call; the written figures overlap
+    // nothing; the state is only read. The lengths of the shelves are numbers: no byte of a shelf is touched.
+    unsafe {
+        streterva_view(
+            state.as_ptr(),
+            state.len(),
+            first_bytes,
+            second_bytes,
+            first_disks,
+            block,
+            figures.as_mut_ptr(),
+            figures.len(),
         )
     }
 }

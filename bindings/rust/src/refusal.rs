@@ -7,7 +7,7 @@ use std::fmt;
 pub enum Refusal {
     /// 1: the state is not sound.
     NotSound = 1,
-    /// 2: the medium is too short for the record and all disks.
+    /// 2: the medium is too short for the record and all disks, or a shelf for what it holds.
     MediumTooShort = 2,
     /// 3: the block is not open: past the end, or added by the growth under way.
     BlockNotOpen = 3,
@@ -19,7 +19,7 @@ pub enum Refusal {
     Growing = 6,
     /// 7: the block is copied but not recorded. After a checkpoint it can be written.
     CopyNotRecorded = 7,
-    /// 8: a block size, a number of rows or a disk count is outside its limits.
+    /// 8: a block size, a number of rows, a disk count or the number of disks on the first shelf is outside its limits.
     OutsideLimits = 8,
     /// 9: the volume has had its 7 growths.
     NoMoreGrowths = 9,
@@ -82,14 +82,14 @@ impl fmt::Display for Refusal {
     fn fmt(&self, f: &mut fmt::Formatter<'_>) -> fmt::Result {
         f.write_str(match self {
             Refusal::NotSound => "the state is not sound",
-            Refusal::MediumTooShort => "the medium is too short",
+            Refusal::MediumTooShort => "the medium or a shelf is too short",
             Refusal::BlockNotOpen => "the block is not open",
             Refusal::PieceSize => "the piece is not one block long",
             Refusal::NotGrowing => "no growth is under way",
             Refusal::Growing => "a growth is under way",
             Refusal::CopyNotRecorded => "the block is copied but not recorded",
             Refusal::OutsideLimits => {
-                "a size, a number of rows or a disk count is outside its limits"
+                "a size, a number of rows, a disk count or the disks on the first shelf are outside their limits"
             }
             Refusal::NoMoreGrowths => "the volume has had its last growth",
             Refusal::NotMoving => "the block does not move in this window",

@@ -239,6 +239,47 @@ impl State {
         accepted(raw::read(&self.words, medium, block.0, piece))
     }
 
+    /// Shows the block without copying it, as a part of the one shelf that has its live spot. The bytes are those that
+    /// [`State::read`] gives on the two shelves joined without their spare bytes.
+    ///
+    /// The first shelf holds the record and the first `first_disks` disks, so it needs [`State::medium_bytes`] of them;
+    /// the second holds the remaining ones of [`State::disks`], those of a growth under way included. A medium that is
+    /// cut between two disks is two shelves. With all disks on the first the second may be empty. Spare bytes at the
+    /// end of either are allowed and never shown.
+    ///
+    /// The view borrows the shelves: as long as it is used, the medium that they are cut from cannot be lent to a call
+    /// that stores. Ask again after such a call: a write may change the bytes, and a checkpoint may give the block a
+    /// new live spot.
+    ///
+    /// # Errors
+    ///
+    /// 1; 8, `first_disks` not from 1 to N\[t\]; 2, the first shelf or the second is too short; 3.
+    pub fn view<'a>(
+        &self,
+        first: &'a [u8],
+        second: &'a [u8],
+        first_disks: u64,
+        block: Block,
+    ) -> Result<&'a [u8], Refusal> {
+        let mut figures = [0; raw::VIEW_FIGURES];
+        accepted(raw::view(
+            &self.words,
+            first.len(),
+            second.len(),
+            first_disks,
+            block.0,
+            &mut figures,
+        ))?;
+        let [shelf_number, byte] = figures;
+        let shelf = match shelf_number {
+            1 => first,
+            2 => second,
+            _ => unreachable!("view told shelf {shelf_number}"),
+        };
+        let start = byte as usize;
+        Ok(&shelf[start..start + self.size() as usize])
+    }
+
     /// Tells the live spot of the block, where it is read and written now, and why it is there.
     ///
     /// # Errors

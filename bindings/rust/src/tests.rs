@@ -2,6 +2,7 @@
 //! load on volumes of the same kind; holder at the spots of added blocks.
 
 mod pending;
+mod view;
 
 use crate::raw;
 use crate::{Address, Advanced, Block, Part, Reason, Row, Scene, Spot, State, Step};
@@ -581,6 +582,8 @@ fn a_damaged_state_is_refused() {
         assert_eq!(written.err(), refused.err());
         let read = damaged.read(&medium, Block(0), &mut piece);
         assert_eq!(read.err(), refused.err());
+        let shown = damaged.view(&medium, &[], 5, Block(0));
+        assert_eq!(shown.err(), refused.err());
         assert_eq!(damaged.flushed().err(), refused.err());
         assert_eq!(damaged.address(Block(0)).err(), refused.err());
         assert_eq!(damaged.holder(0, Row(0)).err(), refused.err());
@@ -613,11 +616,12 @@ fn wrong_lengths_touch_nothing() {
             raw::write(state, &mut medium, 0, &piece),
             raw::flushed(state),
             raw::read(state, &medium, 0, &mut piece),
+            raw::view(state, medium.len(), 0, 3, 0, &mut figures[..2]),
             raw::address(state, 0, &mut figures),
             raw::holder(state, 0, 0, &mut figures[..1]),
             raw::soundness(state),
         ];
-        assert_eq!(answers, [raw::WRONG_LENGTH; 13]);
+        assert_eq!(answers, [raw::WRONG_LENGTH; 14]);
         assert!(state.iter().all(|word| *word == 3));
         assert_eq!(figures, [8; 5]);
     }
@@ -644,6 +648,10 @@ fn wrong_lengths_of_figures_touch_nothing() {
         }
         if words != raw::ADVANCE_FIGURES {
             answers.push(raw::advance(&mut state, &mut medium, figures));
+        }
+        if words != raw::VIEW_FIGURES {
+            answers.push(raw::view(&state, medium.len(), 0, 3, 0, figures));
+            answers.push(raw::view(&state, 0, 0, 0, 15, figures));
         }
         if words != raw::ADDRESS_FIGURES {
             answers.push(raw::address(&state, 0, figures));

@@ -147,6 +147,7 @@ fn reads_and_lookups_leave_the_state() {
         assert!(volume.is_sound());
         assert_eq!(volume.read(&medium, Block(3), &mut piece), Ok(()));
         assert_eq!(piece, picture(3));
+        assert_eq!(volume.view(&medium, &[], 5, Block(3)), Ok(&piece[..]));
         assert!(volume.address(Block(3)).is_ok());
         assert_eq!(volume.holder(0, Row(0)), Ok(Block(0)));
         let all = [scene(0, 15)];
@@ -333,12 +334,13 @@ fn touches_nothing(words: Words, medium: &mut [u8]) {
         raw::write(&mut state, medium, 14, &[1; 512]),
         raw::flushed(&mut state),
         raw::read(&state, medium, 14, &mut piece),
+        raw::view(&state, medium.len(), 0, 5, 14, &mut figures[..2]),
         raw::address(&state, 14, &mut figures[..5]),
         raw::holder(&state, 0, 0, &mut figures[..1]),
         raw::load(&state, &[scene(0, 1)], &mut figures),
         raw::soundness(&state),
     ];
-    assert_eq!(answers, [WRONG_LENGTH; 11]);
+    assert_eq!(answers, [WRONG_LENGTH; 12]);
     assert_eq!((state, figures), (words, [8; raw::LOAD_FIGURES]));
     assert_eq!(piece, [9; 512]);
 }
