@@ -1,5 +1,5 @@
-//! The growing striped volume, written from document 01 and W4 of document 02
-//! alone.
+//! The growing striped volume, written from document 01 and from W4 and W5 of
+//! document 02 alone.
 //!
 //! Everything but `fast` is plain: definitions are followed word for word and
 //! searches and counts go over the blocks themselves. `fast` has the same
@@ -17,4 +17,5 @@ pub mod spot;
 pub mod state;
 pub mod store;
 pub mod tally;
+pub mod view;
 pub mod window;

@@ -6,7 +6,8 @@ use reference::sample::{damage, damaged_record, sound_state, Random};
 use reference::spot::{Block, Row};
 use reference::state::State;
 use reference::store::Advanced;
-use reference::{fast, lookup, record, store};
+use reference::view::Shelves;
+use reference::{fast, lookup, record, store, view};
 
 const ROUNDS: u64 = 2_000;
 
@@ -60,6 +61,45 @@ fn lookups() {
             assert_eq!(fast::holder(&state, d, b), lookup::holder(&state, d, b));
         }
     }
+}
+
+/// Shelves for the state, at times too short or with a k outside 1 to N[t].
+fn any_shelves(random: &mut Random, state: &State) -> Shelves {
+    let disks = if state.sound() { state.disks() } else { 4 };
+    let any = random.odd_number(disks);
+    let some = random.range(1, disks);
+    let k = random.pick(&[some, some, some, some, any]);
+    let disk = state.s.min(1_000_000) * state.z.min(65_536);
+    let needed = [
+        RECORD as u64 + k.min(16) * disk,
+        disks.saturating_sub(k) * disk,
+    ];
+    let [first, second] = needed.map(|bytes| match random.percent(90) {
+        true => bytes + random.below(2),
+        false => random.odd_number(bytes),
+    });
+    Shelves { k, first, second }
+}
+
+#[test]
+fn views() {
+    let mut random = Random::new(7);
+    let mut seen = [0; 9];
+    for round in 0..ROUNDS {
+        let state = match round % 4 {
+            0 => sound_state(&mut random, 1_000_000),
+            _ => any_state(&mut random),
+        };
+        for _ in 0..50 {
+            let x = any_block(&mut random, &state);
+            let shelves = any_shelves(&mut random, &state);
+            let view = view::view(&state, &shelves, x);
+            assert_eq!(fast::view(&state, &shelves, x), view);
+            seen[view.err().unwrap_or(0) as usize] += 1;
+        }
+    }
+    let often = |number: &usize| seen[*number] > 1_000;
+    assert!([0, 1, 2, 3, 8].iter().all(often), "{seen:?}");
 }
 
 #[test]

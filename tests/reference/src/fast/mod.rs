@@ -11,6 +11,7 @@ use crate::refusal::*;
 use crate::spot::{Block, Part, Place, Row, Spot, Why};
 use crate::state::{Pending, State};
 use crate::store::{Advanced, Next};
+use crate::view::{Shelf, Shelves, View};
 use check::{examine, Run};
 use layout::Layout;
 
@@ -46,6 +47,28 @@ pub fn holder(state: &State, disk: u64, row: Row) -> Result<Block, Refusal> {
     }
     let layout = Layout::new(state, state.t as usize - 1);
     Ok(Block(layout.block_at(d0, b) as u64))
+}
+
+pub fn view(state: &State, shelves: &Shelves, x: Block) -> Result<View, Refusal> {
+    let run = examine(state)?;
+    let (k, disks) = (shelves.k, state.disks());
+    if k == 0 || k > disks {
+        return Err(OUTSIDE_LIMITS);
+    }
+    let disk_bytes = state.s * state.z;
+    let record = RECORD as u64;
+    if shelves.first < record + k * disk_bytes || shelves.second < (disks - k) * disk_bytes {
+        return Err(MEDIUM_SHORT);
+    }
+    let x = open(state, run, x)?;
+    let Spot { disk, row } = live(state, run, x).0.spot;
+    let (shelf, before, disk) = if disk < k {
+        (Shelf::First, record, disk)
+    } else {
+        (Shelf::Second, 0, disk - k)
+    };
+    let byte = before + disk * disk_bytes + row.0 * state.z;
+    Ok(View { shelf, byte })
 }
 
 pub fn format(medium: &mut [u8], z: u64, s: u64, disks: u64) -> Result<State, Refusal> {
