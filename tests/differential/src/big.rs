@@ -2,8 +2,9 @@
 
 use crate::call::{by_library, by_reference, Call, Lent, Piece, FIGURES};
 use crate::counts::{Counts, Event};
-use crate::pair::{same, Difference};
+use crate::pair::{same, Answer, Difference};
 use crate::report::Step;
+use crate::views;
 use reference::limits::{DISKS, RECORD, ROWS, SECTOR};
 use reference::sample::Random;
 use reference::spot::Block;
@@ -29,12 +30,15 @@ pub fn run(
             seed: random.word(),
             bytes: SECTOR as usize,
         };
-        for call in round(block, moving, piece) {
+        let view = views::any(random, &state, moving);
+        for call in round(block, moving, piece, view) {
             let mut step = Step::new(call, medium.len());
             step.state = Some(state.to_words());
             log.clear();
             log.push(step);
-            state = both(&call, &state, &mut medium)?;
+            let (next, answer) = both(&call, &state, &mut medium)?;
+            views::check(&call, &state.to_words(), &medium, &answer, counts)?;
+            state = next;
             counts.event(Event::BigMedium);
             counts.comparisons += 5;
         }
@@ -44,7 +48,7 @@ pub fn run(
 
 /// Calls on any block and on a moving one. The first advance finds block stores
 /// pending, the last write may find a record store pending.
-fn round(block: u64, moving: u64, piece: Piece) -> [Call; 9] {
+fn round(block: u64, moving: u64, piece: Piece, view: Call) -> [Call; 10] {
     let bytes = piece.bytes;
     let save = |block| Call::Write { block, piece };
     let read = Call::Read {
@@ -57,6 +61,7 @@ fn round(block: u64, moving: u64, piece: Piece) -> [Call; 9] {
         save(block),
         save(moving),
         read,
+        view,
         copy,
         advance,
         flushed,
@@ -90,8 +95,8 @@ fn zeros(bytes: usize) -> Option<Vec<u8>> {
 }
 
 /// Makes the call with the library, takes its store back, makes it with the
-/// reference, and gives the next state.
-fn both(call: &Call, state: &State, medium: &mut [u8]) -> Result<State, Difference> {
+/// reference, and gives the next state and the answer.
+fn both(call: &Call, state: &State, medium: &mut [u8]) -> Result<(State, Answer), Difference> {
     let places = [0..RECORD, spot_of(call, state)];
     let before = places.clone().map(|place| medium[place].to_vec());
     let library = make(call, state, medium, &places, by_library);
@@ -100,8 +105,12 @@ fn both(call: &Call, state: &State, medium: &mut [u8]) -> Result<State, Differen
     }
     let reference = make(call, state, medium, &places, by_reference);
     let next = State::from_words(&reference.1).expect("a state");
+    let answer = Answer {
+        number: library.0,
+        figures: library.2,
+    };
     same("a call on a big medium", library, reference)?;
-    Ok(next)
+    Ok((next, answer))
 }
 
 /// The spot that the call may store to.

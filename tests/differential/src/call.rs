@@ -6,6 +6,7 @@ use reference::sample::Random;
 use reference::spot::{Block, Part, Row, Why};
 use reference::state::State;
 use reference::store::{Advanced, Next};
+use reference::view::{view, Shelf, Shelves};
 use reference::{lookup, store};
 
 /// A call's arguments other than state and medium.
@@ -23,10 +24,11 @@ pub enum Call {
     Holder { disk: u64, row: u64 },
     Soundness,
     Flushed,
+    View { block: u64, shelves: Shelves },
 }
 
 /// The names of the calls, in the order of `Call::kind`.
-pub const KINDS: [&str; 12] = [
+pub const KINDS: [&str; 13] = [
     "format",
     "restart",
     "grow",
@@ -39,6 +41,7 @@ pub const KINDS: [&str; 12] = [
     "holder",
     "soundness",
     "flushed",
+    "view",
 ];
 
 /// A piece to write: random bytes from a seed.
@@ -68,12 +71,13 @@ impl Call {
             Call::Holder { .. } => 9,
             Call::Soundness => 10,
             Call::Flushed => 11,
+            Call::View { .. } => 12,
         }
     }
 
     /// How many figures the call answers with.
     pub fn figures(&self) -> usize {
-        [0, 1, 1, 1, 1, 4, 0, 0, 5, 1, 0, 0][self.kind()]
+        [0, 1, 1, 1, 1, 4, 0, 0, 5, 1, 0, 0, 2][self.kind()]
     }
 
     /// Bytes of the piece.
@@ -127,6 +131,10 @@ pub fn by_library(call: &Call, lent: Lent) -> u64 {
         Call::Holder { disk, row } => library::holder(state, disk, row, figures),
         Call::Soundness => library::soundness(state),
         Call::Flushed => library::flushed(state),
+        Call::View { block, shelves } => {
+            let (first, second) = (shelves.first as usize, shelves.second as usize);
+            library::view(state, first, second, shelves.k, block, figures)
+        }
     }
 }
 
@@ -142,7 +150,7 @@ pub fn by_reference(call: &Call, lent: Lent) -> u64 {
     lent.figures.fill(0);
     let answer = match call {
         Call::Format { .. } | Call::Restart => begun(call, lent),
-        Call::Address { .. } | Call::Holder { .. } | Call::Soundness => {
+        Call::Address { .. } | Call::Holder { .. } | Call::Soundness | Call::View { .. } => {
             looked_up(call, &state, lent.figures)
         }
         _ => made(call, state, lent),
@@ -172,6 +180,10 @@ fn looked_up(call: &Call, state: &State, figures: &mut [u64]) -> Result<(), Refu
             figures[2..].copy_from_slice(&why_figures(place.why));
         }
         Call::Holder { disk, row } => figures[0] = lookup::holder(state, disk, Row(row))?.0,
+        Call::View { block, shelves } => {
+            let view = view(state, &shelves, Block(block))?;
+            figures.copy_from_slice(&[shelf_figure(view.shelf), view.byte]);
+        }
         _ => return state.sound().then_some(()).ok_or(NOT_SOUND),
     }
     Ok(())
@@ -219,6 +231,13 @@ fn part_figure(part: Part) -> u64 {
         Part::Head => 1,
         Part::Body => 2,
         Part::Tail => 3,
+    }
+}
+
+fn shelf_figure(shelf: Shelf) -> u64 {
+    match shelf {
+        Shelf::First => 1,
+        Shelf::Second => 2,
     }
 }
 

@@ -3,7 +3,7 @@
 use crate::call::{Call, KINDS, NO_STATE};
 
 /// The refusals that each call has, in the order of `KINDS`; 100 comes with all.
-const NUMBERS: [&[usize]; 12] = [
+const NUMBERS: [&[usize]; 13] = [
     &[8, 2],
     &[2, 13],
     &[1, 6, 9, 8, 2, 19, 18],
@@ -16,6 +16,7 @@ const NUMBERS: [&[usize]; 12] = [
     &[1, 14, 15],
     &[1],
     &[1],
+    &[1, 8, 2, 3],
 ];
 
 /// How the names of cuts begin.
@@ -100,6 +101,23 @@ events! {
     BigLookups: "lookup in a million rows",
     BigMedium: "call on a medium of gigabytes",
     ReadBacks: "volume read back whole",
+    ViewFirst: "view out of the first shelf",
+    ViewSecond: "view out of the second shelf",
+    ViewFirstGrowing: "view out of the first shelf during a growth",
+    ViewSecondGrowing: "view out of the second shelf during a growth",
+    ViewExact: "view out of shelves without spare bytes",
+    ViewSpare: "view out of a shelf with spare bytes",
+    ViewOneShelf: "view with no second shelf",
+    ViewPending: "view while stores are pending",
+    ViewFirstShort: "view refused: only the first shelf too short, by a byte",
+    ViewSecondShort: "view refused: only the second shelf too short, by a byte",
+    ViewUnopened: "view refused: block added by the growth under way",
+    ViewBeyond: "view refused: block past all disks",
+    ViewNotSoundGrowing: "view refused with 1 during a growth",
+    ViewOutsideGrowing: "view refused with 8 during a growth",
+    ViewShortGrowing: "view refused with 2 during a growth",
+    ViewNotOpenGrowing: "view refused with 3 during a growth",
+    ViewEveryK: "views with every k from 0 to N[t] + 1",
 }
 
 #[derive(Clone)]
@@ -138,6 +156,8 @@ impl Counts {
         };
         self.calls[call.kind()][at] += 1;
         match (call, number) {
+            // Counted with the state, in `views`.
+            (Call::View { .. }, _) => {}
             (_, 2) => self.event(Event::ShortMedium),
             (Call::Advance, 0) => self.event(match (figures[1], figures[3]) {
                 (1, 1) => Event::CopiedHead,

@@ -4,6 +4,7 @@ use crate::call::{by_library, Call, Lent, Piece, FIGURES, KINDS, NO_STATE};
 use crate::counts::{Counts, Event};
 use crate::pair::{same, Changed, Difference, Pair};
 use crate::report::Step;
+use crate::views;
 use reference::limits::{DISKS, RECORD};
 use reference::record;
 use reference::sample::{damage, damaged_record, sound_state, Random};
@@ -95,7 +96,8 @@ fn call_of(random: &mut Random, kind: usize, state: &State) -> Call {
             row: random.below(state.s + 1),
         },
         10 => Call::Soundness,
-        _ => Call::Flushed,
+        11 => Call::Flushed,
+        _ => views::any(random, state, block),
     }
 }
 

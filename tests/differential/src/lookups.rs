@@ -1,9 +1,10 @@
-//! Addresses and holders: all of them in small volumes, some in the largest.
+//! Addresses, holders and views: all of them in small volumes, some in the largest.
 
 use crate::call::Call;
 use crate::counts::{Counts, Event};
 use crate::pair::{Changed, Difference, Pair};
 use crate::report::Step;
+use crate::views;
 use reference::sample::{sound_state, Random};
 use reference::state::{Pending, State};
 
@@ -27,7 +28,7 @@ pub fn sweep(
     let mut lookups = Pair::new(Vec::new());
     loop {
         let state = State::from_words(pair.state()).expect("a state");
-        look_at_all(&mut lookups, &state, log, counts)?;
+        look_at_all(random, &mut lookups, &state, log, counts)?;
         if state.growing == 0 {
             return Ok(());
         }
@@ -46,6 +47,7 @@ pub fn sweep(
 }
 
 fn look_at_all(
+    random: &mut Random,
     pair: &mut Pair,
     state: &State,
     log: &mut Vec<Step>,
@@ -54,6 +56,8 @@ fn look_at_all(
     let (disks, s) = (state.disks(), state.s);
     for block in (0..=disks * s).chain([u64::MAX, 1 << 63]) {
         look(pair, state, Call::Address { block }, log, counts)?;
+        let view = views::any(random, state, block);
+        look(pair, state, view, log, counts)?;
     }
     for disk in (0..=disks).chain([u64::MAX]) {
         for row in (0..=s).chain([u64::MAX]) {
@@ -99,6 +103,8 @@ pub fn big(
             let inside = random.below(state.open());
             let block = random.pick(&[inside, inside, inside, any]);
             look(&mut pair, &state, Call::Address { block }, log, counts)?;
+            let view = views::any(random, &state, block);
+            look(&mut pair, &state, view, log, counts)?;
             let disk = random.below(state.disks() + 1);
             let row = random.pick(&[state.s, 0, state.s - 1, inside % state.s]);
             look(&mut pair, &state, Call::Holder { disk, row }, log, counts)?;

@@ -13,6 +13,7 @@ mod lookups;
 mod model;
 mod pair;
 mod report;
+mod views;
 
 // The library under test, through the bindings.
 use streterva::raw as library;

@@ -2,12 +2,13 @@
 
 use super::List;
 use crate::call::{Call, Piece};
+use crate::views;
 use reference::limits::{DISKS, RECORD, SECTOR};
 
 impl List<'_> {
     /// Any call with any arguments.
     pub fn any_call(&mut self) -> Call {
-        match self.random.below(12) {
+        match self.random.below(13) {
             0 => self.format_call(),
             1 => Call::Restart,
             2 => Call::Grow {
@@ -28,7 +29,8 @@ impl List<'_> {
             },
             9 => self.holder_call(),
             10 => Call::Soundness,
-            _ => Call::Flushed,
+            11 => Call::Flushed,
+            _ => self.view_call(),
         }
     }
 
@@ -109,8 +111,25 @@ impl List<'_> {
         Call::Holder { disk, row }
     }
 
+    fn view_call(&mut self) -> Call {
+        let disks = self.model.as_ref().map_or(1, |it| it.disks());
+        let (block, k) = (self.block(), views::any_k(&mut self.random, disks));
+        self.view_of(block, k)
+    }
+
+    /// A view of this block, with the record and k disks on the first shelf.
+    pub fn view_of(&mut self, block: u64, k: u64) -> Call {
+        let disks = self.model.as_ref().map_or(0, |it| it.disks());
+        let bytes = |disks| match &self.model {
+            Some(model) => model.bytes(disks) as u64,
+            None => RECORD as u64,
+        };
+        let shelves = views::shelves(&mut self.random, k, disks, bytes);
+        Call::View { block, shelves }
+    }
+
     /// A block: open, or moving in the window at work, or anything.
-    fn block(&mut self) -> u64 {
+    pub fn block(&mut self) -> u64 {
         let Some(model) = &self.model else {
             return self.random.odd_number(3);
         };

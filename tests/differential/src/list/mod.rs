@@ -104,6 +104,7 @@ impl List<'_> {
             0..=2 => self.run_growth(),
             3..=6 => self.probe(),
             7..=10 => self.read_back(),
+            11..=12 => self.view_with_every_k(),
             _ => self.likely_step(),
         }
     }
@@ -324,6 +325,24 @@ impl List<'_> {
             self.counts.read_backs += model.open();
             self.counts.comparisons += 4 * model.open();
         }
+        Ok(())
+    }
+
+    /// Views of a block with every k from 0 to N[t] + 1.
+    fn view_with_every_k(&mut self) -> Result<(), Difference> {
+        let Some(model) = &self.model else {
+            return Ok(());
+        };
+        if self.lost() {
+            return Ok(());
+        }
+        let disks = model.disks();
+        let block = self.block();
+        for k in 0..=disks + 1 {
+            let call = self.view_of(block, k);
+            self.step_whole(call)?;
+        }
+        self.counts.event(Event::ViewEveryK);
         Ok(())
     }
 
