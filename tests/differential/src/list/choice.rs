@@ -111,7 +111,7 @@ impl List<'_> {
         Call::Holder { disk, row }
     }
 
-    fn view_call(&mut self) -> Call {
+    pub fn view_call(&mut self) -> Call {
         let disks = self.model.as_ref().map_or(1, |it| it.disks());
         let (block, k) = (self.block(), views::any_k(&mut self.random, disks));
         self.view_of(block, k)

@@ -348,7 +348,10 @@ impl List<'_> {
 
     /// Makes a call with a damaged state; the volume stays as it was.
     fn probe(&mut self) -> Result<(), Difference> {
-        let call = self.likely_call();
+        let call = match self.random.percent(25) {
+            true => self.view_call(),
+            false => self.likely_call(),
+        };
         let bytes = self.lent_bytes(&call);
         let kept = (*self.pair.state(), self.pair.medium().to_vec());
         let sound = State::from_words(&kept.0).expect("a state");
