@@ -2,7 +2,7 @@
 
 use crate::cases::*;
 use crate::list::{
-    address, flushed, holder, recording, recordings, soundness, DIRECTIONS, LOOKUPS, RECORDS,
+    address, flushed, holder, recording, recordings, soundness, view, DIRECTIONS, LOOKUPS, RECORDS,
 };
 use crate::media::Media;
 use crate::moves::{self, Moves};
@@ -26,6 +26,8 @@ pub fn lookups(s: u64) -> Vec<Box<dyn Row>> {
         flushed(label("flushed", GROWING), growing, LOOKUPS),
         address(label("address", GROWN), grown, 16 * s, LOOKUPS),
         address(label("address", GROWING), growing, 14 * s, LOOKUPS),
+        view(label("view", GROWN), grown, 16 * s, LOOKUPS),
+        view(label("view", GROWING), growing, 14 * s, LOOKUPS),
         holder(label("holder", GROWN), grown, 0..16 * s, LOOKUPS),
     ]
 }

@@ -1,7 +1,8 @@
-//! The calls whose instructions are counted, and how many times the reference's each may take.
+//! The calls whose instructions are counted, and how many each may take: so many times the reference's, and at times no more
+//! than another call.
 
 use crate::cases::*;
-use crate::list::{address, flushed, holder, recording, soundness};
+use crate::list::{address, flushed, holder, recording, soundness, view};
 use crate::media::Shared;
 use crate::medium::Medium;
 use crate::moves::{self, Moves};
@@ -18,6 +19,24 @@ pub struct Counted {
     pub row: Box<dyn Row>,
     pub calls: usize,
     pub most: f64,
+    /// A call whose row in the same case it may not exceed either, both as the library makes them.
+    pub no_more_than: Option<&'static str>,
+}
+
+impl Counted {
+    fn new(row: Box<dyn Row>, calls: usize, most: f64) -> Counted {
+        Counted {
+            row,
+            calls,
+            most,
+            no_more_than: None,
+        }
+    }
+
+    fn no_more_than(mut self, call: &'static str) -> Counted {
+        self.no_more_than = Some(call);
+        self
+    }
 }
 
 /// Rows on each disk, in lookups and with a medium.
@@ -53,10 +72,11 @@ fn lookups() -> Vec<Counted> {
     let (grown, growing) = (volume::grown(512, s, &COUNTS), half_grown(s));
     // The last window, of half its rows.
     let ending = in_window(s + 8, s / 16);
-    let counted = |row, most| Counted { row, calls, most };
+    let counted = |row, most| Counted::new(row, calls, most);
     let sound = |case, words| soundness(lookup_label("soundness", case, s), words, calls);
     let down = |case, words| flushed(lookup_label("flushed", case, s), words, calls);
     let at = |case, words, open| address(lookup_label("address", case, s), words, open, calls);
+    let shown = |case, words, open| view(lookup_label("view", case, s), words, open, calls);
     let held = |case, words, open| holder(lookup_label("holder", case, s), words, 0..open, calls);
     vec![
         counted(sound(GROWN, grown), 1.07),
@@ -66,6 +86,8 @@ fn lookups() -> Vec<Counted> {
         counted(down(GROWING, growing), 1.08),
         counted(at(GROWN, grown, 16 * s), 1.07),
         counted(at(GROWING, growing, 14 * s), 1.04),
+        counted(shown(GROWN, grown, 16 * s), 1.10).no_more_than("address"),
+        counted(shown(GROWING, growing, 14 * s), 1.10).no_more_than("address"),
         counted(held(GROWN, grown, 16 * s), 1.04),
         counted(held(GROWING, growing, 14 * s), 0.99),
     ]
@@ -93,11 +115,7 @@ fn transfer(
     let blocks = order::drawn(calls, open);
     let label = label(call, case, &words);
     let row = Transfer::new(label, direction, &medium(&words), words, blocks);
-    Counted {
-        row: Box::new(row),
-        calls,
-        most,
-    }
+    Counted::new(Box::new(row), calls, most)
 }
 
 /// The state and the medium of the calls that move blocks or store the record.
@@ -113,19 +131,12 @@ fn moving(call: &'static str, kind: moves::Call, most: f64) -> Counted {
     let label = label(call, GROWING, &words);
     let row = Moves::new(label, kind, &medium, words, first..first + WINDOWS);
     let (m, n) = volume::growth(&words);
-    Counted {
-        row: Box::new(row),
-        calls: (WINDOWS * m * n) as usize,
-        most,
-    }
+    Counted::new(Box::new(row), (WINDOWS * m * n) as usize, most)
 }
 
 fn recorded(call: &'static str, case: &'static str, kind: record::Call, most: f64) -> Counted {
     let (words, medium) = growing();
     let label = label(call, case, &words);
-    Counted {
-        row: recording(label, kind, &medium, words, SLICE),
-        calls: SLICE,
-        most,
-    }
+    let row = recording(label, kind, &medium, words, SLICE);
+    Counted::new(row, SLICE, most)
 }

@@ -84,7 +84,31 @@ fn table(counts: &[u64]) -> bool {
         held &= line(counted, pair[0], pair[1]);
     }
     println!();
-    held
+    held & others(&rows, counts)
+}
+
+/// Whether no row takes more than the call that it names; prints each that names one.
+fn others(rows: &[Counted], counts: &[u64]) -> bool {
+    let library = |i: usize| counts[SIDES.len() * i] as f64 / rows[i].calls as f64;
+    let mut all_held = true;
+    for (i, counted) in rows.iter().enumerate() {
+        let Some(other) = counted.no_more_than else {
+            continue;
+        };
+        let Label { call, case, z, .. } = counted.row.label();
+        let named = |row: &Counted| {
+            let label = row.row.label();
+            (label.call, label.case, label.z) == (other, case, z)
+        };
+        let named = rows.iter().position(named).expect("a row of that call");
+        let (count, most) = (library(i), library(named));
+        let held = count <= most;
+        let over = if held { "" } else { " **over**" };
+        println!("- {call}, {case}: {count:.1}, at most the {most:.1} of {other}{over}");
+        all_held &= held;
+    }
+    println!();
+    all_held
 }
 
 fn line(counted: &Counted, library: u64, reference: u64) -> bool {

@@ -2,7 +2,7 @@
 
 use crate::cases::*;
 use crate::compared;
-use crate::lookup::{Address, Flushed, Holder, Soundness};
+use crate::lookup::{Address, Flushed, Holder, Soundness, View};
 use crate::media::{Media, Shared, CACHED_BYTES, LARGE_BYTES};
 use crate::moves::{self, Moves};
 use crate::order;
@@ -70,6 +70,20 @@ pub fn address(label: Label, words: Words, open: u64, calls: usize) -> Box<dyn R
     })
 }
 
+/// View of the blocks that address has, some of them on each shelf.
+pub fn view(label: Label, words: Words, open: u64, calls: usize) -> Box<dyn Row> {
+    let shelves = volume::shelves(&words);
+    let blocks = order::drawn(calls, open);
+    let on_first = |&block: &u64| volume::spot(&words, block).0 < shelves.k;
+    assert!(blocks.iter().any(on_first) && !blocks.iter().all(on_first));
+    Box::new(View {
+        label,
+        words,
+        shelves,
+        blocks,
+    })
+}
+
 /// Holder at the spots of some of the blocks.
 pub fn holder(label: Label, words: Words, blocks: Range<u64>, calls: usize) -> Box<dyn Row> {
     let drawn = order::drawn(calls, blocks.end - blocks.start);
@@ -91,6 +105,7 @@ fn lookups() -> Vec<Box<dyn Row>> {
     let sound = |case, words| soundness(lookup_label("soundness", case, s), words, LOOKUPS);
     let down = |case, words| flushed(lookup_label("flushed", case, s), words, LOOKUPS);
     let at = |case, words, open| address(lookup_label("address", case, s), words, open, LOOKUPS);
+    let shown = |case, words, open| view(lookup_label("view", case, s), words, open, LOOKUPS);
     let held = |case, blocks| holder(lookup_label("holder", case, s), grown, blocks, LOOKUPS);
     vec![
         sound(FORMATTED, formatted),
@@ -102,6 +117,8 @@ fn lookups() -> Vec<Box<dyn Row>> {
         at(GROWN, grown, 16 * s),
         at(OLD_BLOCKS, old, 16 * s),
         at(GROWING, growing, 14 * s),
+        shown(GROWN, grown, 16 * s),
+        shown(GROWING, growing, 14 * s),
         held(GROWN, 0..16 * s),
         held(ADDED, 14 * s..16 * s),
         held(NOT_ADDED, 0..14 * s),

@@ -1,9 +1,10 @@
-//! Calls without a medium: soundness, flushed, address, holder.
+//! Calls without a medium: soundness, flushed, address, view, holder.
 
 use crate::row::{timed, Label, Row, Side, SLICE};
 use crate::volume::{self, Words, PENDING};
 use reference::fast;
 use reference::spot::{Block, Row as DiskRow};
+use reference::view::Shelves;
 use std::hint::black_box;
 use streterva::raw;
 
@@ -97,6 +98,46 @@ impl Row for Address {
                 let mut refused = 0;
                 for &block in &self.blocks[slice] {
                     let answer = fast::address(black_box(&state), Block(block));
+                    black_box(&answer);
+                    refused |= answer.is_err() as u64;
+                }
+                refused
+            }),
+            Side::Memcpy => None,
+        }
+    }
+}
+
+/// Times view for blocks in a given order.
+pub struct View {
+    pub label: Label,
+    pub words: Words,
+    pub shelves: Shelves,
+    pub blocks: Vec<u64>,
+}
+
+impl Row for View {
+    fn label(&self) -> Label {
+        self.label
+    }
+
+    fn sample(&mut self, side: Side, _: usize) -> Option<f64> {
+        let (state, shelves) = (volume::state(&self.words), self.shelves);
+        match side {
+            Side::Library => timed(0..self.blocks.len(), SLICE, |slice| {
+                let (first, second) = (shelves.first as usize, shelves.second as usize);
+                let (mut figures, mut refused) = ([0; raw::VIEW_FIGURES], 0);
+                for &block in &self.blocks[slice] {
+                    let words = black_box(&self.words);
+                    refused |= raw::view(words, first, second, shelves.k, block, &mut figures);
+                    black_box(&figures);
+                }
+                refused
+            }),
+            Side::Reference => timed(0..self.blocks.len(), SLICE, |slice| {
+                let mut refused = 0;
+                for &block in &self.blocks[slice] {
+                    let answer = fast::view(black_box(&state), &shelves, Block(block));
                     black_box(&answer);
                     refused |= answer.is_err() as u64;
                 }

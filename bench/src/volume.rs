@@ -1,6 +1,7 @@
 //! States of volumes, made directly: few calls need a medium that was formatted and grown.
 
 use reference::state::State;
+use reference::view::Shelves;
 use streterva::raw::{self, STATE_WORDS};
 
 pub type Words = [u64; STATE_WORDS];
@@ -60,6 +61,14 @@ pub fn marks(count: u64) -> u64 {
 /// The bytes of a medium for the state.
 pub fn bytes(words: &Words) -> usize {
     (RECORD + disks(words) * words[1] * words[0]) as usize
+}
+
+/// Shelves without spare bytes, the first with the record and half of the disks.
+pub fn shelves(words: &Words) -> Shelves {
+    let (k, disk) = (disks(words) / 2, words[1] * words[0]);
+    let first = RECORD + k * disk;
+    let second = bytes(words) as u64 - first;
+    Shelves { k, first, second }
 }
 
 /// Disk and row of the live spot of a block.
