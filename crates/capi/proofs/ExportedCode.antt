@@ -23,7 +23,7 @@ use Rattle.promise.specs.Lists.{callOutcome}
 use Rattle.scene_load.specs.declared.Load.{Load}
 use Rattle.scene_load.specs.declared.Scene.{Scene}
 use Rattle.scene_load.specs.Loads.{loadOf, loadNumber}
-use Rattle.capi.specs.Exported.{Left, wrongLength, lengthsFit, stateFits, untouched, handedBack, lookedUp, callLeft, stateTaken, loadLeft}
+use Rattle.capi.specs.Exported.{Left, wrongLength, lengthsFit, stateFits, untouched, handedBack, lookedUp, callLeft, lookUpLeft, stateTaken, loadLeft}
 use Rattle.capi.specs.Figures.{loadFigures}
 use Rattle.capi.specs.Words.{stateWords, pendingWord, wordsOf, stateFrom, areState}
 use Rattle.capi.proofs.WordLaws.{words-pending, state-words}
@@ -100,6 +100,21 @@ module _ (n : ℕ) (figuresOf : Answer → List ℕ) (c : Call) (words figures p
       let same = rw e at made in
       rw (f .fits, ← same .0) (handed .0, (handed .1 .0, (handed .1 .1, same .1)))
 
+-- the same of a look-up
+module _ (n number : ℕ) (told words figures : List ℕ) where
+  abbrev leftByLookUp : Left
+  leftByLookUp = lookUpLeft n number told words figures
+
+  pub look-up-not-made : (fits : Bool) → fits ≡ (areState words && eqb (length figures) n) → not fits ≡ true
+      → (wrongLength ≡ leftByLookUp .number) × (figures ≡ leftByLookUp .figures)
+  unfolding lookUpLeft untouched
+  look-up-not-made fits e h = rw (fits-not words n figures fits e h) (refl, refl)
+
+  pub look-up-made : Fits words n figures → (k : ℕ) (after : List ℕ) → k ≡ number → after ≡ told
+      → (k ≡ leftByLookUp .number) × (after ≡ leftByLookUp .figures)
+  unfolding lookUpLeft lookedUp
+  look-up-made f k after e g = rw (f .fits) (e, g)
+
 -- putting what is pending into the words puts the state, where nothing else of it differs
 pub pending-put : (words : List ℕ) → areState words ≡ true → (u v : Volume) → u ≡ v → OnlyPending (stateFrom words) v
     → (after : List ℕ) → after ≡ set words 15 (pendingWord (u .pending)) → after ≡ wordsOf u
@@ -134,7 +149,7 @@ module _ (words : List ℕ) (scenes : List Scene) (figures : List ℕ) where
       → (n ≡ cond (stateFits words 17 figures) (loadNumber (load .answer)) wrongLength)
       × (after ≡ cond (stateFits words 17 figures) (loadFigures load) figures)
       → (n ≡ loadLeft words scenes figures .number) × (after ≡ loadLeft words scenes figures .figures)
-  unfolding loadLeft lookedUp untouched
+  unfolding lookUpLeft lookedUp untouched
   load-left v load n after e f g =
       by-test (stateFits words 17 figures)
       (λ t.

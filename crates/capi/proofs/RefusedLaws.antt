@@ -35,8 +35,12 @@ use Rattle.promise.specs.Lists.{callOutcome}
 use Rattle.scene_load.specs.declared.Scene.{Scene}
 use Rattle.scene_load.specs.Loads.{placeTold, loadTable, loadOf, loadNumber}
 use Rattle.scene_load.proofs.Theorems.{load-laws}
-use Rattle.capi.specs.Exported.{Left, wrongLength, lengthsFit, stateFits, untouched, handedBack, lookedUp, callLeft, formatLeft, restartLeft, growLeft, copyLeft, checkpointLeft, advanceLeft, writeLeft, readLeft, flushedLeft, addressLeft, holderLeft, loadLeft}
-use Rattle.capi.specs.Figures.{partNumber, didTold, noFigures, callsFigures, advanceFigures, addressFigures, holderFigures}
+use Rattle.shelves.specs.declared.ViewAnswer.{ViewAnswer}
+use Rattle.shelves.specs.declared.ViewAnswer.the-variants as view
+use Rattle.shelves.specs.Views.{shelvesTable, viewTable, viewAnswer, viewNumber}
+use Rattle.shelves.proofs.Refusing.{view-told}
+use Rattle.capi.specs.Exported.{Left, wrongLength, lengthsFit, stateFits, untouched, handedBack, lookedUp, lookUpLeft, callLeft, formatLeft, restartLeft, growLeft, copyLeft, checkpointLeft, advanceLeft, writeLeft, readLeft, flushedLeft, addressLeft, holderLeft, viewLeft, loadLeft}
+use Rattle.capi.specs.Figures.{partNumber, didTold, noFigures, callsFigures, advanceFigures, addressFigures, holderFigures, viewFigures}
 use Rattle.capi.specs.Laws.{RefusedLeft}
 use Rattle.capi.specs.Words.{stateWords, pendingWord, wordsOf, stateFrom, areState}
 use Rattle.capi.proofs.WordLaws.{state-arrays, words-back, state-words}
@@ -71,6 +75,11 @@ address-number v x = other-number (addressTable v x) _ (volume-laws .address-ref
 pub holder-number : (v : Volume) (p : Spot) → holderNumber (holderReply v p .answer) ≢ wrongLength
 unfolding holderTable
 holder-number v p = other-number (holderTable v p) _ (volume-laws .holder-refuses v p .number-told) refl
+
+pub view-number : (v : Volume) (first second k x : ℕ) → viewNumber (viewAnswer v first second k x) ≢ wrongLength
+unfolding viewTable shelvesTable
+view-number v first second k x =
+    other-number (viewTable v first second k x) _ (view-told v first second k x) refl
 
 pub load-number : (v : Volume) (scenes : List Scene) → loadNumber (loadOf v scenes .answer) ≢ wrongLength
 unfolding loadTable
@@ -115,6 +124,12 @@ unfolding holderNumber blockTold
 holder-zero (holder.Refused k) h = refl
 holder-zero (holder.Has x) h = absurd (h refl)
 
+view-zero : (a : ViewAnswer) → viewNumber a ≢ 0 → viewFigures a ≡ replicate 2 0
+unfolding viewNumber viewFigures
+view-zero (view.Refused k) h = refl
+view-zero (view.First at) h = absurd (h refl)
+view-zero (view.Second at) h = absurd (h refl)
+
 -- ---- refused calls
 
 -- a call that has refused a state
@@ -135,13 +150,12 @@ module _ (words : List ℕ) (figureCount : ℕ) (piece : List ℕ) (figuresOf : 
   refused-left false other r same e h = absurd (false≢true e)
 
 -- a look-up that has refused
-looked-left : (words : List ℕ) (figureCount k : ℕ) (figures : List ℕ) (fits : Bool) (other : Left)
-    → (k ≢ 0 → figures ≡ replicate figureCount 0) → fits ≡ true → cond fits (lookedUp k figures words) other .number ≢ 0
-    → RefusedLeft words figureCount [] (cond fits (lookedUp k figures words) other)
-unfolding lookedUp
-looked-left words figureCount k figures true other none e h =
-    record { words-kept = refl; figures-zero = none h; piece-kept = refl; nothing-stored = refl }
-looked-left words figureCount k figures false other none e h = absurd (false≢true e)
+look-up-refused : (words : List ℕ) (figureCount k : ℕ) (told figures : List ℕ) → (k ≢ 0 → told ≡ replicate figureCount 0)
+    → stateFits words figureCount figures ≡ true → lookUpLeft figureCount k told words figures .number ≢ 0
+    → RefusedLeft words figureCount [] (lookUpLeft figureCount k told words figures)
+unfolding lookUpLeft lookedUp
+look-up-refused words figureCount k told figures none e h =
+    rw e (record { words-kept = refl; figures-zero = none (rw e at h); piece-kept = refl; nothing-stored = refl })
 
 module _ (words : List ℕ) where
   -- words that fit are those of their state
@@ -204,22 +218,24 @@ module _ (words : List ℕ) where
 
   pub address-refused : (x : ℕ) (figures : List ℕ)
       → stateFits words 5 figures ≡ true → addressLeft words x figures .number ≢ 0 → RefusedLeft words 5 [] (addressLeft words x figures)
-  unfolding addressLeft
   address-refused x figures =
-      let answer = addressReply (stateFrom words) x .answer in
-      looked-left words 5 (addressNumber answer) (addressFigures answer) (stateFits words 5 figures) (untouched words figures []) (address-zero answer)
+      let answer = addressReply (stateFrom words) x .answer in look-up-refused words 5 (addressNumber answer) (addressFigures answer) figures (address-zero answer)
 
   pub holder-refused : (p : Spot) (figures : List ℕ)
       → stateFits words 1 figures ≡ true → holderLeft words p figures .number ≢ 0 → RefusedLeft words 1 [] (holderLeft words p figures)
-  unfolding holderLeft
   holder-refused p figures =
-      let answer = holderReply (stateFrom words) p .answer in
-      looked-left words 1 (holderNumber answer) (holderFigures answer) (stateFits words 1 figures) (untouched words figures []) (holder-zero answer)
+      let answer = holderReply (stateFrom words) p .answer in look-up-refused words 1 (holderNumber answer) (holderFigures answer) figures (holder-zero answer)
+
+  pub view-refused : (first second k x : ℕ) (figures : List ℕ)
+      → stateFits words 2 figures ≡ true → viewLeft words first second k x figures .number ≢ 0
+      → RefusedLeft words 2 [] (viewLeft words first second k x figures)
+  view-refused first second k x figures =
+      let answer = viewAnswer (stateFrom words) first second k x in look-up-refused words 2 (viewNumber answer) (viewFigures answer) figures (view-zero answer)
 
   pub load-refused : (scenes : List Scene) (figures : List ℕ)
       → stateFits words 17 figures ≡ true → loadLeft words scenes figures .number ≢ 0
       → loadLeft words scenes figures .figures ≡ placeTold (loadOf (stateFrom words) scenes .answer) ∷ replicate mostDisks 0
-  unfolding loadLeft lookedUp
+  unfolding lookUpLeft lookedUp
   load-refused scenes figures e h =
       let told = load-laws .load-refuses (stateFrom words) scenes in
       let refuses = rw e at h in

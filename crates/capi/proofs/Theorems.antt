@@ -1,6 +1,6 @@
 -- The laws of words and of the exported functions: `capi-laws` proves all of `CapiLaws` in `specs/Laws.antt`.
 use Rattle.capi.specs.Laws.{CapiLaws}
-use Rattle.capi.proofs.RefusedLaws.{format-number, call-number, address-number, holder-number, load-number, grow-refused, copy-refused, checkpoint-refused, advance-refused, format-refused, restart-refused, address-refused, holder-refused, load-refused, write-refused, read-refused, flushed-refused, write-keeps, flushed-keeps, read-keeps}
+use Rattle.capi.proofs.RefusedLaws.{format-number, call-number, address-number, holder-number, view-number, load-number, grow-refused, copy-refused, checkpoint-refused, advance-refused, format-refused, restart-refused, address-refused, holder-refused, view-refused, load-refused, write-refused, read-refused, flushed-refused, write-keeps, flushed-keeps, read-keeps}
 use Rattle.capi.proofs.WordLaws.{words-count, state-back, state-arrays, words-back}
 
 pub capi-laws : CapiLaws
@@ -14,6 +14,7 @@ capi-laws =
       call-number = call-number;
       address-number = address-number;
       holder-number = holder-number;
+      view-number = view-number;
       load-number = load-number;
       grow-refused = grow-refused;
       copy-refused = copy-refused;
@@ -23,6 +24,7 @@ capi-laws =
       restart-refused = restart-refused;
       address-refused = address-refused;
       holder-refused = holder-refused;
+      view-refused = view-refused;
       load-refused = load-refused;
       write-refused = write-refused;
       read-refused = read-refused;

@@ -1,5 +1,5 @@
 -- What each exported function leaves: the number that it returns, the lent words of the state, the lent figures, its store and the lent
--- piece. It is the outcome of the state that the words hold: of the call that demand 3 speaks of, of format or a look-up, or of a load.
+-- piece. It is the outcome of the state that the words hold: of the call that demand 3 speaks of, of format or a look-up, of a view or of a load.
 use Prim.Native.Nat.{ℕ}
 use mathlib.Core.Bool.{Bool, cond, _&&_}
 use mathlib.Core.List.{List, []}
@@ -17,7 +17,8 @@ use Rattle.promise.specs.Calls.{Call, grow, copy, checkpoint, advance, write, r
 use Rattle.promise.specs.Lists.{callOutcome}
 use Rattle.scene_load.specs.declared.Scene.{Scene}
 use Rattle.scene_load.specs.Loads.{loadOf, loadNumber}
-use Rattle.capi.specs.Figures.{noFigures, callsFigures, advanceFigures, addressFigures, holderFigures, loadFigures}
+use Rattle.shelves.specs.Views.{viewAnswer, viewNumber}
+use Rattle.capi.specs.Figures.{noFigures, callsFigures, advanceFigures, addressFigures, holderFigures, viewFigures, loadFigures}
 use Rattle.capi.specs.Words.{stateWords, wordsOf, stateFrom, areState}
 
 pub record Left : Type 0 where
@@ -89,15 +90,23 @@ writeLeft words x piece o = callLeft 0 noFigures (write x piece) words [] piece 
 abbrev pub readLeft : (words : List ℕ) (x : ℕ) (piece : List ℕ) (o : Observations) → Left
 readLeft words x piece o = callLeft 0 noFigures (read x piece) words [] piece o
 
-unfoldable pub addressLeft : (words : List ℕ) (x : ℕ) (figures : List ℕ) → Left
-addressLeft words x figures =
-    let answer = addressReply (stateFrom words) x .answer in
-    cond (stateFits words 5 figures) (lookedUp (addressNumber answer) (addressFigures answer) words) (untouched words figures [])
+-- a look-up on the state that the words hold: its number, and the figures that it tells
+unfoldable pub lookUpLeft : (figureCount number : ℕ) (told words figures : List ℕ) → Left
+lookUpLeft figureCount number told words figures =
+    cond (stateFits words figureCount figures) (lookedUp number told words) (untouched words figures [])
 
-unfoldable pub holderLeft : (words : List ℕ) (p : Spot) (figures : List ℕ) → Left
+abbrev pub addressLeft : (words : List ℕ) (x : ℕ) (figures : List ℕ) → Left
+addressLeft words x figures =
+    let answer = addressReply (stateFrom words) x .answer in lookUpLeft 5 (addressNumber answer) (addressFigures answer) words figures
+
+abbrev pub holderLeft : (words : List ℕ) (p : Spot) (figures : List ℕ) → Left
 holderLeft words p figures =
-    let answer = holderReply (stateFrom words) p .answer in
-    cond (stateFits words 1 figures) (lookedUp (holderNumber answer) (holderFigures answer) words) (untouched words figures [])
+    let answer = holderReply (stateFrom words) p .answer in lookUpLeft 1 (holderNumber answer) (holderFigures answer) words figures
+
+-- Document 02, W5. Of the shelves it is told how many bytes they have.
+abbrev pub viewLeft : (words : List ℕ) (first second k x : ℕ) (figures : List ℕ) → Left
+viewLeft words first second k x figures =
+    let answer = viewAnswer (stateFrom words) first second k x in lookUpLeft 2 (viewNumber answer) (viewFigures answer) words figures
 
 -- Document 02, W4: "flushed tells us that all earlier stores are down"
 unfoldable pub flushedLeft : (words : List ℕ) → Left
@@ -107,12 +116,10 @@ flushedLeft words = cond (stateFits words 0 []) (handedBack noFigures (flushedOu
 abbrev pub stateTaken : (words : List ℕ) → Volume
 stateTaken words = cond (areState words) (stateFrom words) zeros
 
-unfoldable pub loadLeft : (words : List ℕ) (scenes : List Scene) (figures : List ℕ) → Left
+abbrev pub loadLeft : (words : List ℕ) (scenes : List Scene) (figures : List ℕ) → Left
 loadLeft words scenes figures =
-    let load = loadOf (stateFrom words) scenes in
-    cond (stateFits words 17 figures) (lookedUp (loadNumber (load .answer)) (loadFigures load) words) (untouched words figures [])
+    let load = loadOf (stateFrom words) scenes in lookUpLeft 17 (loadNumber (load .answer)) (loadFigures load) words figures
 
 -- "1: state not sound", asked alone
-unfoldable pub soundnessLeft : (words : List ℕ) → Left
-soundnessLeft words =
-    cond (stateFits words 0 []) (lookedUp (cond (sound (stateFrom words)) 0 1) [] words) (untouched words [] [])
+abbrev pub soundnessLeft : (words : List ℕ) → Left
+soundnessLeft words = lookUpLeft 0 (cond (sound (stateFrom words)) 0 1) [] words []

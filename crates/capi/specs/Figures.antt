@@ -17,6 +17,8 @@ use Rattle.volume.specs.declared.HolderAnswer.{HolderAnswer}
 use Rattle.volume.specs.Answers.{callsTold, blockCopied, partCopied, partTold, blockTold}
 use Rattle.scene_load.specs.declared.Load.{Load}
 use Rattle.scene_load.specs.Loads.{placeTold}
+use Rattle.shelves.specs.declared.ViewAnswer.{ViewAnswer}
+use Rattle.shelves.specs.declared.ViewAnswer.the-variants as view
 
 -- 1 head, 2 body, 3 tail, 0 for none
 unfoldable pub partNumber : (part : Option Part) → ℕ
@@ -66,6 +68,12 @@ addressFigures (address.At p reason) = p .disk ∷ p .row .0 ∷ reasonFigures r
 -- of holder: the block
 abbrev pub holderFigures : (a : HolderAnswer) → List ℕ
 holderFigures a = blockTold a ∷ []
+
+-- of view: the shelf, 1 for the first and 2 for the second, and the byte of it at which the block starts
+unfoldable pub viewFigures : (a : ViewAnswer) → List ℕ
+viewFigures (view.Refused k) = 0 ∷ 0 ∷ []
+viewFigures (view.First at) = 1 ∷ at ∷ []
+viewFigures (view.Second at) = 2 ∷ at ∷ []
 
 -- of load: the place, and how many blocks each disk serves
 abbrev pub loadFigures : (load : Load) → List ℕ

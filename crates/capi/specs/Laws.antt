@@ -15,7 +15,8 @@ use Rattle.promise.specs.Calls.{Call}
 use Rattle.promise.specs.Lists.{callOutcome}
 use Rattle.scene_load.specs.declared.Scene.{Scene}
 use Rattle.scene_load.specs.Loads.{placeTold, loadOf, loadNumber}
-use Rattle.capi.specs.Exported.{Left, wrongLength, lengthsFit, stateFits, formatLeft, restartLeft, growLeft, copyLeft, checkpointLeft, advanceLeft, writeLeft, readLeft, flushedLeft, addressLeft, holderLeft, loadLeft}
+use Rattle.shelves.specs.Views.{viewAnswer, viewNumber}
+use Rattle.capi.specs.Exported.{Left, wrongLength, lengthsFit, stateFits, formatLeft, restartLeft, growLeft, copyLeft, checkpointLeft, advanceLeft, writeLeft, readLeft, flushedLeft, addressLeft, holderLeft, viewLeft, loadLeft}
 use Rattle.capi.specs.Words.{stateWords, wordsOf, stateFrom, mostPending}
 
 -- the lengths that the types of the code give the arrays of a state
@@ -45,6 +46,7 @@ pub record CapiLaws : Type 0 where
   pub call-number : (c : Call) (v : Volume) (o : Observations) → number (callOutcome c v o .reply .answer) ≢ wrongLength
   pub address-number : (v : Volume) (x : ℕ) → addressNumber (addressReply v x .answer) ≢ wrongLength
   pub holder-number : (v : Volume) (p : Spot) → holderNumber (holderReply v p .answer) ≢ wrongLength
+  pub view-number : (v : Volume) (first second k x : ℕ) → viewNumber (viewAnswer v first second k x) ≢ wrongLength
   pub load-number : (v : Volume) (scenes : List Scene) → loadNumber (loadOf v scenes .answer) ≢ wrongLength
   -- a refused call leaves the words and the piece as they were, has zeros as figures and stores nothing
   pub grow-refused : (words : List ℕ) (count : ℕ) (figures : List ℕ) (o : Observations)
@@ -63,6 +65,9 @@ pub record CapiLaws : Type 0 where
       → stateFits words 5 figures ≡ true → addressLeft words x figures .number ≢ 0 → RefusedLeft words 5 [] (addressLeft words x figures)
   pub holder-refused : (words : List ℕ) (p : Spot) (figures : List ℕ)
       → stateFits words 1 figures ≡ true → holderLeft words p figures .number ≢ 0 → RefusedLeft words 1 [] (holderLeft words p figures)
+  pub view-refused : (words : List ℕ) (first second k x : ℕ) (figures : List ℕ)
+      → stateFits words 2 figures ≡ true → viewLeft words first second k x figures .number ≢ 0
+      → RefusedLeft words 2 [] (viewLeft words first second k x figures)
   -- a refused load has zeros as numbers, beside the place that it tells
   pub load-refused : (words : List ℕ) (scenes : List Scene) (figures : List ℕ)
       → stateFits words 17 figures ≡ true → loadLeft words scenes figures .number ≢ 0

@@ -3,9 +3,11 @@ ghost use mathlib.Core.Path.{_≡_};
 ghost use mathlib.Core.List.{[], _∷_};
 ghost use mathlib.Core.Option.{some};
 ghost use Rattle.volume.specs.Answers.{number, callsTold, copiedBlock, copiedPart, addressNumber, holderNumber, blockTold};
-ghost use Rattle.capi.specs.Figures.{partNumber, didNumber, advanceFigures, reasonFigures, addressFigures};
+ghost use Rattle.capi.specs.Figures.{partNumber, didNumber, advanceFigures, reasonFigures, addressFigures, viewFigures};
+ghost use Rattle.shelves.specs.Views.{viewNumber};
 use layout::Part;
 use layout::Reason;
+use shelves::ViewAnswer;
 use volume::AddressAnswer;
 use volume::Advanced;
 use volume::Answer;
@@ -119,5 +121,26 @@ pub fn block_told(a: HolderAnswer) -> usize
     match a {
         HolderAnswer::Refused(_) => 0,
         HolderAnswer::Has(x) => x.0,
+    }
+}
+
+pub fn view_number(a: ViewAnswer) -> usize
+    ensures { λ r. ⌜ r ≡ viewNumber a ⌝ }
+{
+    match a {
+        ViewAnswer::Refused(k) => k,
+        ViewAnswer::First(_) => 0,
+        ViewAnswer::Second(_) => 0,
+    }
+}
+
+// The figures of view.
+pub fn view_figures(a: ViewAnswer) -> [usize; 2]
+    ensures { λ r. ⌜ r ≡ viewFigures a ⌝ }
+{
+    match a {
+        ViewAnswer::Refused(_) => [0, 0],
+        ViewAnswer::First(at) => [1, at],
+        ViewAnswer::Second(at) => [2, at],
     }
 }

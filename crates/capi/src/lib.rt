@@ -30,4 +30,6 @@ const ADDRESS_FIGURES: usize = 5;
 
 const HOLDER_FIGURES: usize = 1;
 
+const VIEW_FIGURES: usize = 2;
+
 const LOAD_FIGURES: usize = 17;

@@ -1,13 +1,16 @@
-// Address and holder.
+// Address, holder and view.
 ghost use mathlib.Core.Path.{_≡_};
-ghost use Rattle.capi.specs.Exported.{addressLeft, holderLeft};
+ghost use Rattle.capi.specs.Exported.{addressLeft, holderLeft, viewLeft};
 use super::ADDRESS_FIGURES;
 use super::HOLDER_FIGURES;
+use super::VIEW_FIGURES;
 use super::WRONG_LENGTH;
 use super::figures::address_figures;
 use super::figures::address_number;
 use super::figures::block_told;
 use super::figures::holder_number;
+use super::figures::view_figures;
+use super::figures::view_number;
 use super::handed::put;
 use super::words::state_fits;
 use super::words::state_of;
@@ -55,4 +58,27 @@ pub extern "C" fn streterva_holder(
     let answer = reply.answer;
     figures[0] = block_told(answer);
     holder_number(answer)
+}
+
+// On which of two shelves, with disks 0 to k-1 on the first, a block is, and at which byte of it.
+#[no_mangle]
+pub extern "C" fn streterva_view(
+    state: &[usize],
+    first: usize,
+    second: usize,
+    k: usize,
+    block: usize,
+    figures: &mut [usize],
+) -> usize
+    ensures { λ r. ⌜ r ≡ viewLeft (now (state .entry)) first second k block (now (figures .entry)) .number ⌝ }
+    ensures { λ _. ⌜ now (figures .exit) ≡ viewLeft (now (state .entry)) first second k block (now (figures .entry)) .figures ⌝ }
+{
+    if !state_fits(state, figures.len(), VIEW_FIGURES) {
+        return WRONG_LENGTH;
+    }
+    let v = state_of(state);
+    let answer = shelves::view_answer(v, first, second, k, Block(block));
+    let told = view_figures(answer);
+    put(figures, &told);
+    view_number(answer)
 }

@@ -2,34 +2,34 @@
 ghost use mathlib.Core.Path.{_≡_};
 ghost use Prim.Native.Nat.{_+_, _*_, _%_, _<_, _≤_};
 ghost use Rattle.layout.specs.Limits.{Grows, mostRows};
-ghost use Rattle.layout.specs.Growth.{firstFit, partOf, newDisk, diskAfter, movesFrom, oldBlockSpot, addedDisk, addedSpot, spotAfter, oldChange, changeOf, addedIndex, oldDisk, spotBefore};
+ghost use Rattle.layout.specs.Growth.{partOf, newDisk, diskAfter, movesFrom, oldBlockSpot, addedDisk, addedSpot, spotAfter, oldChange, changeOf, addedIndex, oldDisk, spotBefore};
 use super::Change;
 use super::Part;
 use super::Row;
 use super::Spot;
 
-// Head before tail before body.
-fn first_fit(head: bool, tail: bool) -> Part
-    ensures { λ r. ⌜ r ≡ firstFit head tail ⌝ }
-{
-    if head {
-        return Part::Head;
-    }
-    if tail {
-        return Part::Tail;
-    }
-    Part::Body
-}
-
-// The part of a moving block at row b1 of its window.
+// The part of a moving block at row b1 of its window: head before tail before body. Written out: of a choice by two tests
+// that are computed first the compiler makes more.
 pub fn part_of(m: usize, n: usize, b1: usize) -> Part
     requires { ⌜ Grows m n ⌝ }
     ensures { λ r. ⌜ r ≡ partOf m n b1 ⌝ }
 {
     if n <= m {
-        return first_fit(b1 <= n - 1, m - 1 <= b1);
+        if b1 <= n - 1 {
+            return Part::Head;
+        }
+        if m - 1 <= b1 {
+            return Part::Tail;
+        }
+        return Part::Body;
     }
-    first_fit(b1 <= m - 1, n - 1 <= b1)
+    if b1 <= m - 1 {
+        return Part::Head;
+    }
+    if n - 1 <= b1 {
+        return Part::Tail;
+    }
+    Part::Body
 }
 
 // The new disk of a moving block.

@@ -26,7 +26,7 @@ pub fn bytes_needed(g: Geometry, disks: usize) -> usize
 }
 
 // The byte at which a spot starts.
-fn place_of(g: Geometry, p: Spot) -> usize
+pub fn place_of(g: Geometry, p: Spot) -> usize
     requires { ⌜ 0 < g .size ⌝ }
     requires { ⌜ place g p < 2 ^ 64 ⌝ }
     ensures { λ r. ⌜ r ≡ place g p ⌝ }

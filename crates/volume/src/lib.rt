@@ -2,8 +2,8 @@
 // takes the state and hands the next one back, beside the answer.
 //
 // The calls, `is_sound`, `disk_count`, `zeros` and the limits are offered to others and take any input. What has a
-// `requires` is not offered to others: it is seen in this crate alone, but for `open_blocks` and `live_spot`,
-// by which a crate above addresses many blocks after one test of soundness.
+// `requires` is not offered to others: it is seen in this crate alone, but for what crates above need: `open_blocks` and
+// `live_spot`, by which many blocks are addressed after one test of soundness, and `is_sound_by` and `open_blocks_by`.
 mod calls;
 mod flush;
 mod growth;

@@ -66,7 +66,7 @@ impl Volume {
         self.open_blocks_by(&counts)
     }
 
-    pub(crate) fn open_blocks_by(self, counts: &[usize; 8]) -> usize
+    pub fn open_blocks_by(self, counts: &[usize; 8]) -> usize
         requires { ⌜ sound self ≡ true ⌝ }
         requires { ⌜ now counts ≡ self .counts ⌝ }
         ensures { λ r. ⌜ r ≡ openBlocks (tallyOf self) ⌝ }

@@ -121,7 +121,7 @@ impl Volume {
 
     // The same by its counts, lent. Both call `are_sound`: with a single caller the compiler would make one function of
     // the two, and copy the state for it.
-    pub(crate) fn is_sound_by(self, counts: &[usize; 8]) -> bool
+    pub fn is_sound_by(self, counts: &[usize; 8]) -> bool
         requires { ⌜ now counts ≡ self .counts ⌝ }
         ensures { λ r. ⌜ r ≡ sound self ⌝ }
     {

@@ -1,15 +1,13 @@
 -- `streterva_address` meets its contract.
-use mathlib.Core.Path.{_≡_, refl, sym, _∙_}
+use mathlib.Core.Path.{_≡_, sym, _∙_}
 use lib.ListN.{length}
 use borrow.Author.Needs.{needs}
-use Rattle.capi.specs.Exported.{untouched, lookedUp, addressLeft}
-use Rattle.capi.proofs.ExportedCode.{Fits, fits-not, fitting}
+use Rattle.capi.proofs.ExportedCode.{Fits, fitting, look-up-not-made, look-up-made}
 use Rattle.capi.proofs.lookups.streterva_address.Statement.{statement}
 use Rattle.capi.proofs.lookups.streterva_address.Tie as tie
 
 returns : tie.Need-returns
-unfolding addressLeft untouched
-returns c = rw (fits-not _ 5 _ _ (c .before .state-fits .ensures) (c .if1 .taken)) (refl, refl)
+returns c = look-up-not-made 5 _ _ _ _ _ (c .before .state-fits .ensures) (c .if1 .taken)
 
 -- the words are a state's, and the figures are as many as they should be
 told : (c : tie.Else1) → let a = c .before .before .before .before .args in Fits (a .state .now) 5 (a .figures .now)
@@ -24,11 +22,10 @@ put-requires c κs =
     told (c .before .before .before .before .before) .figures-length ∙ sym e
 
 returns-2 : tie.Need-returns-2
-unfolding addressLeft lookedUp
 returns-2 c =
     let made = rw (c .before .before .before .before .before .before .before .before .state-of .ensures) at (c .before .before .before .before .before .before .before .address .ensures) in
     let put = c .before .before .before .put .ensures ∙ c .before .before .before .before .before .before .address-figures .ensures in
-    rw (told (c .before .before .before .before .before .before .before .before .before) .fits, sym made) (c .address-number .ensures, put)
+    rw (sym made) (look-up-made 5 _ _ _ _ (told (c .before .before .before .before .before .before .before .before .before)) _ _ (c .address-number .ensures) put)
 
 pub streterva-address-spec : {M : Type 1} → statement M
 streterva-address-spec =

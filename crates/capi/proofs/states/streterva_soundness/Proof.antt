@@ -2,13 +2,13 @@
 use mathlib.Core.Path.{refl, sym}
 use mathlib.Core.List.{[]}
 use borrow.Author.Needs.{needs}
-use Rattle.capi.specs.Exported.{untouched, lookedUp, soundnessLeft}
+use Rattle.capi.specs.Exported.{untouched, lookedUp, lookUpLeft}
 use Rattle.capi.proofs.ExportedCode.{Fits, no-state, state-told}
 use Rattle.capi.proofs.states.streterva_soundness.Statement.{statement}
 use Rattle.capi.proofs.states.streterva_soundness.Tie as tie
 
 returns : tie.Need-returns
-unfolding soundnessLeft untouched
+unfolding lookUpLeft untouched
 returns c = rw (no-state _ _ (c .before .is-state .ensures) (c .if1 .taken)) refl
 
 -- the words are a state's
@@ -19,11 +19,11 @@ state-of-requires : tie.Need-state-of-requires
 state-of-requires c κs = told c .words-length
 
 returns-2 : tie.Need-returns-2
-unfolding soundnessLeft lookedUp
+unfolding lookUpLeft lookedUp
 returns-2 c = rw (told (c .before .before .before) .fits, sym (c .before .before .state-of .ensures), sym (c .before .is-sound .ensures), c .if2 .taken) refl
 
 returns-3 : tie.Need-returns-3
-unfolding soundnessLeft lookedUp
+unfolding lookUpLeft lookedUp
 returns-3 c = rw (told (c .before .before .before) .fits, sym (c .before .before .state-of .ensures), sym (c .before .is-sound .ensures), c .if2 .left) refl
 
 pub streterva-soundness-spec : {M : Type 1} → statement M

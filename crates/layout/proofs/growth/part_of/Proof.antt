@@ -1,45 +1,45 @@
 -- `part_of` meets its contract.
+use borrow.Author.Needs.{needs}
 use borrow.Author.Tests.{le-leb, lt-leb}
 use Rattle.layout.specs.Growth.{partOf}
-use borrow.Author.Needs.{needs}
 use Rattle.layout.proofs.growth.part_of.Statement.{statement}
 use Rattle.layout.proofs.growth.part_of.Tie as tie
 
-sub-first-fit : tie.Need-sub-first-fit
-sub-first-fit c = search needs
-
-sub-first-fit-2 : tie.Need-sub-first-fit-2
-sub-first-fit-2 c = search needs
-
-first-fit-requires : tie.Need-first-fit-requires
-first-fit-requires c κs = search needs
-
 returns : tie.Need-returns
 unfolding partOf
-returns c = rw (le-leb _ _ (c .before .if1 .taken), ← c .first-fit .ensures)
-
-sub-first-fit-3 : tie.Need-sub-first-fit-3
-sub-first-fit-3 c = search needs
-
-sub-first-fit-4 : tie.Need-sub-first-fit-4
-sub-first-fit-4 c = search needs
-
-first-fit-requires-2 : tie.Need-first-fit-requires-2
-first-fit-requires-2 c κs = search needs
+returns c = rw (le-leb _ _ (c .before .if1 .taken), le-leb _ _ (c .if2 .taken))
 
 returns-2 : tie.Need-returns-2
 unfolding partOf
-returns-2 c = rw (lt-leb _ _ (c .before .if1 .left), ← c .first-fit2 .ensures)
+returns-2 c = rw (le-leb _ _ (c .before .before .if1 .taken), lt-leb _ _ (c .before .if2 .left), le-leb _ _ (c .if3 .taken))
+
+returns-3 : tie.Need-returns-3
+unfolding partOf
+returns-3 c = rw (le-leb _ _ (c .before .before .if1 .taken), lt-leb _ _ (c .before .if2 .left), lt-leb _ _ (c .if3 .left))
+
+returns-4 : tie.Need-returns-4
+unfolding partOf
+returns-4 c = rw (lt-leb _ _ (c .before .if1 .left), le-leb _ _ (c .if4 .taken))
+
+returns-5 : tie.Need-returns-5
+unfolding partOf
+returns-5 c = rw (lt-leb _ _ (c .before .before .if1 .left), lt-leb _ _ (c .before .if4 .left), le-leb _ _ (c .if5 .taken))
+
+returns-6 : tie.Need-returns-6
+unfolding partOf
+returns-6 c = rw (lt-leb _ _ (c .before .before .if1 .left), lt-leb _ _ (c .before .if4 .left), lt-leb _ _ (c .if5 .left))
 
 pub part-of-spec : {M : Type 1} → statement M
 part-of-spec =
     tie.close
     (tie.spec
-    sub-first-fit
-    sub-first-fit-2
-    first-fit-requires
+    (λ c. search needs)
     returns
-    sub-first-fit-3
-    sub-first-fit-4
-    first-fit-requires-2
-    returns-2)
+    (λ c. search needs)
+    returns-2
+    returns-3
+    (λ c. search needs)
+    returns-4
+    (λ c. search needs)
+    returns-5
+    returns-6)
