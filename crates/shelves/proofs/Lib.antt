@@ -1,5 +1,9 @@
 pub mod AnswersCode
 pub mod Places
 pub mod Refusing
+pub mod SameViews
+pub mod Showing
+pub mod Shown
 pub mod Standing
 pub mod Tests
+pub mod Theorems

@@ -1,19 +1,17 @@
 -- Where the block of an answer stands.
 use Prim.Native.Nat.{ℕ, _+_, _≤_, _<_}
-use mathlib.Core.Path.{_≡_, refl}
+use mathlib.Core.Path.{_≡_}
 use mathlib.Core.Bool.{true}
 use mathlib.Core.List.{List, []}
 use native.Mathlib.Omega.{arith}
 use lib.Dec.{ltb}
 use lib.ListN.{length, take, drop}
 use borrow.Author.Tests.{ltb-true, ltb-false}
-use Rattle.base.specs.Refusals.{refusal}
 use Rattle.base.proofs.Booleans.{cond-cases}
-use Rattle.layout.specs.History.{Within}
 use Rattle.layout.specs.Tally.{openBlocks, liveSpotOf}
 use Rattle.volume.specs.declared.Volume.{Volume}
 use Rattle.volume.specs.Sound.{sound}
-use Rattle.volume.specs.States.{geometry, historyOf, disks, tallyOf}
+use Rattle.volume.specs.States.{geometry, disks, tallyOf}
 use Rattle.volume.proofs.Judged.{judged-cases}
 use Rattle.volume.proofs.LookUpLaws.{look-ups-of}
 use Rattle.shelves.specs.declared.ViewAnswer.{ViewAnswer}
@@ -22,7 +20,7 @@ use Rattle.shelves.specs.Laws.{Stands}
 use Rattle.shelves.specs.Shelves.{startOnShelf}
 use Rattle.shelves.specs.Views.{viewTable, viewAnswer, partShown, viewOf}
 use Rattle.shelves.proofs.Places.{first-holds, second-holds}
-use Rattle.shelves.proofs.Tests.{ViewFacts, view-accepted}
+use Rattle.shelves.proofs.Tests.{view-accepted}
 
 -- a live spot is on one of the disks, in one of the rows
 pub live-within : (v : Volume) (x : ℕ) → sound v ≡ true → x < openBlocks (tallyOf v)

@@ -78,6 +78,8 @@ pub record ViewLaws : Type 0 where
   pub no-second : (v : Volume) (first second x : ℕ) → viewAnswer v first second (disks v) x ≡ viewAnswer v first 0 (disks v) x
   -- what is pending makes no difference
   pub pending-shown : (v : Volume) (p : Pending) (first second k x : ℕ) → viewAnswer (withPending v p) first second k x ≡ viewAnswer v first second k x
-  -- a medium cut in two after disk k-1: the view is what read gives on the medium, spare bytes or not
+  -- a medium cut in two after disk k-1: where read accepts, so does the view, and shows what read gives on the medium, spare bytes or not
   pub of-medium : (v : Volume) (m : List ℕ) (k x : ℕ) → k ≢ 0 → k ≤ disks v → refusal (readTable v x (v .size) (length m)) ≡ 0
-      → viewOf v (take (firstNeeds (geometry v) k) m) (drop (firstNeeds (geometry v) k) m) k x ≡ readEffect v x (observe m) .piece
+      → (let first = take (firstNeeds (geometry v) k) m in
+      let second = drop (firstNeeds (geometry v) k) m in
+      (viewNumber (viewAnswer v (length first) (length second) k x) ≡ 0) × (viewOf v first second k x ≡ readEffect v x (observe m) .piece))

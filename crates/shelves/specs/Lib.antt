@@ -1,3 +1,4 @@
 pub mod Laws
 pub mod Shelves
+pub mod Shown
 pub mod Views

@@ -1,6 +1,6 @@
 -- `view_answer` meets its contract.
 use Prim.Native.Nat.{_<_}
-use mathlib.Core.Path.{_≡_, refl, sym, _∙_}
+use mathlib.Core.Path.{_≡_, refl, _∙_}
 use mathlib.Core.Bool.{true}
 use borrow.Author.Needs.{needs}
 use Rattle.layout.specs.Tally.{openBlocks, liveSpotOf}
