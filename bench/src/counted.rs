@@ -50,13 +50,13 @@ const WINDOWS: u64 = 8;
 pub fn all() -> Vec<Counted> {
     let mut rows = lookups();
     rows.extend([
-        transfer("read", Direction::Read, GROWN, 512, 0.98),
-        transfer("read", Direction::Read, GROWN, 4096, 1.01),
+        transfer("read", Direction::Read, GROWN, 512, 0.96),
+        transfer("read", Direction::Read, GROWN, 4096, 0.99),
         transfer("write", Direction::Write, GROWN, 512, 0.97),
-        transfer("write", Direction::Write, GROWN, 4096, 1.01),
-        transfer("read", Direction::Read, GROWING, 512, 0.96),
+        transfer("write", Direction::Write, GROWN, 4096, 1.00),
+        transfer("read", Direction::Read, GROWING, 512, 0.94),
         transfer("write", Direction::Write, GROWING, 512, 0.95),
-        moving("copy", moves::Call::Copy, 1.1),
+        moving("copy", moves::Call::Copy, 1.08),
         moving("advance", moves::Call::Advance, 1.1),
         recorded("checkpoint", GROWING, record::Call::Checkpoint, 1.06),
         recorded("advance that records", GROWING, record::Call::Advance, 0.98),
@@ -84,12 +84,12 @@ fn lookups() -> Vec<Counted> {
         counted(sound(LAST_WINDOW, ending), 1.29),
         counted(down(GROWN, grown), 1.20),
         counted(down(GROWING, growing), 1.08),
-        counted(at(GROWN, grown, 16 * s), 1.07),
-        counted(at(GROWING, growing, 14 * s), 1.04),
-        counted(shown(GROWN, grown, 16 * s), 1.10).no_more_than("address"),
-        counted(shown(GROWING, growing, 14 * s), 1.10).no_more_than("address"),
-        counted(held(GROWN, grown, 16 * s), 1.04),
-        counted(held(GROWING, growing, 14 * s), 0.99),
+        counted(at(GROWN, grown, 16 * s), 1.05),
+        counted(at(GROWING, growing, 14 * s), 1.02),
+        counted(shown(GROWN, grown, 16 * s), 0.94).no_more_than("address"),
+        counted(shown(GROWING, growing, 14 * s), 0.93).no_more_than("address"),
+        counted(held(GROWN, grown, 16 * s), 1.03),
+        counted(held(GROWING, growing, 14 * s), 0.98),
     ]
 }
 
