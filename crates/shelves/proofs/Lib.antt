@@ -1,4 +1,5 @@
 pub mod AnswersCode
+pub mod Cases
 pub mod Places
 pub mod Refusing
 pub mod SameViews

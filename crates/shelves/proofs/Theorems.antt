@@ -2,6 +2,7 @@
 use mathlib.Core.Path.{sym, _∙_}
 use lib.ListN.{length}
 use Rattle.shelves.specs.Laws.{ViewLaws}
+use Rattle.shelves.proofs.Cases.{view-cases}
 use Rattle.shelves.proofs.Refusing.{view-told, view-refuses}
 use Rattle.shelves.proofs.SameViews.{spare-not-shown, no-second, pending-shown, of-medium}
 use Rattle.shelves.proofs.Showing.{joined-length, same-number, view-shows, refused-empty, empty-refused}
@@ -21,4 +22,5 @@ view-laws =
       no-second = no-second;
       pending-shown = pending-shown;
       of-medium = of-medium;
+      view-cases = view-cases;
     }

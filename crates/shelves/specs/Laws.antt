@@ -16,6 +16,7 @@ use Rattle.volume.specs.Sound.{sound}
 use Rattle.volume.specs.States.{geometry, disks, tallyOf, withPending}
 use Rattle.shelves.specs.declared.ViewAnswer.{ViewAnswer}
 use Rattle.shelves.specs.declared.ViewAnswer.the-variants.{Refused, First, Second}
+use Rattle.shelves.specs.Cases.{TableHolds}
 use Rattle.shelves.specs.Shelves.{firstNeeds, secondNeeds, joined}
 use Rattle.shelves.specs.Views.{viewTable, viewAnswer, viewNumber, viewOf}
 
@@ -83,3 +84,5 @@ pub record ViewLaws : Type 0 where
       → (let first = take (firstNeeds (geometry v) k) m in
       let second = drop (firstNeeds (geometry v) k) m in
       (viewNumber (viewAnswer v (length first) (length second) k x) ≡ 0) × (viewOf v first second k x ≡ readEffect v x (observe m) .piece))
+  -- worked out by hand
+  pub view-cases : TableHolds

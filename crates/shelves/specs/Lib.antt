@@ -1,3 +1,4 @@
+pub mod Cases
 pub mod Laws
 pub mod Shelves
 pub mod Shown

@@ -52,7 +52,8 @@ fn start_on_shelf(g: Geometry, k: usize, p: Spot) -> ViewAnswer
     ViewAnswer::Second(((p.disk - k) * g.rows + p.row.0) * g.size)
 }
 
-// What a view of block x tells, with shelves of so many bytes. Whether a growth runs is asked once, before 3 is tested.
+// What a view of block x tells, with shelves of so many bytes. Whether a growth runs is asked once, before 3 is tested: that
+// takes fewer instructions.
 pub fn view_answer(v: Volume, first: usize, second: usize, k: usize, x: Block) -> ViewAnswer
     ensures { λ r. ⌜ r ≡ viewAnswer v first second k (x .0) ⌝ }
 {
