@@ -3,3 +3,4 @@ pub mod ExportedCode
 pub mod WordLaws
 pub mod RefusedLaws
 pub mod Theorems
+pub mod ViewLaws

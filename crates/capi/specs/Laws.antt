@@ -1,10 +1,11 @@
 -- What is proved of the words of a state and of the exported functions: `CapiLaws`. `proofs/Theorems.antt` has the proof.
 use Prim.Native.Nat.{ℕ, _≤_}
 use mathlib.Core.Path.{_≡_}
-use mathlib.Core.Bool.{true}
+use mathlib.Core.Bool.{true, cond}
 use mathlib.Core.List.{List, [], _∷_}
 use mathlib.Core.Logic.{_≢_}
-use lib.ListN.{length, take, getD, replicate}
+use lib.Dec.{eqb}
+use lib.ListN.{length, take, drop, getD, replicate}
 use Rattle.layout.specs.declared.Spot.{Spot}
 use Rattle.layout.specs.Limits.{mostDisks}
 use Rattle.medium.specs.Medium.{Observations, noStore}
@@ -15,7 +16,7 @@ use Rattle.promise.specs.Calls.{Call}
 use Rattle.promise.specs.Lists.{callOutcome}
 use Rattle.scene_load.specs.declared.Scene.{Scene}
 use Rattle.scene_load.specs.Loads.{placeTold, loadOf, loadNumber}
-use Rattle.shelves.specs.Views.{viewAnswer, viewNumber}
+use Rattle.shelves.specs.Views.{viewAnswer, viewNumber, viewOf}
 use Rattle.capi.specs.Exported.{Left, wrongLength, lengthsFit, stateFits, formatLeft, restartLeft, growLeft, copyLeft, checkpointLeft, advanceLeft, writeLeft, readLeft, flushedLeft, addressLeft, holderLeft, viewLeft, loadLeft}
 use Rattle.capi.specs.Words.{stateWords, wordsOf, stateFrom, mostPending}
 
@@ -34,6 +35,10 @@ pub record RefusedLeft (words : List ℕ) (figureCount : ℕ) (piece : List ℕ)
   pub figures-zero : left .figures ≡ replicate figureCount 0
   pub piece-kept : left .piece ≡ piece
   pub nothing-stored : left .store ≡ noStore
+
+-- the shelf that a figure of view names
+abbrev pub shelfNamed : (figure : ℕ) (first second : List ℕ) → List ℕ
+shelfNamed figure first second = cond (eqb figure 1) first second
 
 pub record CapiLaws : Type 0 where
   -- the two conversions are inverse: every state is sixteen words, and such words are a state
@@ -82,3 +87,9 @@ pub record CapiLaws : Type 0 where
   pub write-keeps : (words : List ℕ) (x : ℕ) (piece : List ℕ) (o : Observations) → take 15 (writeLeft words x piece o .words) ≡ take 15 words
   pub flushed-keeps : (words : List ℕ) → take 15 (flushedLeft words .words) ≡ take 15 words
   pub read-keeps : (words : List ℕ) (x : ℕ) (piece : List ℕ) (o : Observations) → readLeft words x piece o .words ≡ words
+  -- an accepted view: the block's bytes, as the view shows them, stand on the shelf told from the byte told on
+  pub view-told : (words first second : List ℕ) (k x : ℕ) (figures : List ℕ) → stateFits words 2 figures ≡ true
+      → (let left = viewLeft words (length first) (length second) k x figures in
+      left .number ≡ 0
+      → take (stateFrom words .size) (drop (getD (left .figures) 1 0) (shelfNamed (getD (left .figures) 0 0) first second))
+      ≡ viewOf (stateFrom words) first second k x)
