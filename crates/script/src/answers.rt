@@ -3,6 +3,7 @@ use layout::Part;
 use layout::Reason;
 use printing::labelled;
 use printing::text;
+use shelves::ViewAnswer;
 use volume::AddressAnswer;
 use volume::Advanced;
 use volume::Answer;
@@ -69,5 +70,13 @@ pub fn show_holder(answer: HolderAnswer) {
     match answer {
         HolderAnswer::Refused(k) => labelled(b": refusal", k),
         HolderAnswer::Has(x) => labelled(b": block", x.0),
+    }
+}
+
+pub fn show_view(answer: ViewAnswer) {
+    match answer {
+        ViewAnswer::Refused(k) => labelled(b": refusal", k),
+        ViewAnswer::First(at) => labelled(b": first shelf from byte", at),
+        ViewAnswer::Second(at) => labelled(b": second shelf from byte", at),
     }
 }

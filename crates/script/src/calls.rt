@@ -94,6 +94,7 @@ pub fn saves(run: Run, first: usize, end: usize) -> Run {
             a: x,
             b: 512,
             c: x % 100 + 1,
+            d: 0,
         };
         now = make(now, given);
         x += 1;
@@ -114,9 +115,11 @@ fn first_run(piece: &[u8]) -> usize {
 }
 
 // How many bytes from the start on are as the first one, and that one.
-fn show_piece(piece: &[u8]) {
-    counted(b", ", first_run(piece), b" bytes of");
-    next_number(byte_at(piece, 0) as usize);
+pub fn show_piece(piece: &[u8]) {
+    counted(b", ", first_run(piece), b" bytes");
+    if piece.len() != 0 {
+        labelled(b" of", byte_at(piece, 0) as usize);
+    }
 }
 
 // Fills a piece with a block, and shows it.

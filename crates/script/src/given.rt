@@ -53,7 +53,12 @@ pub const KEEP: usize = 23;
 
 pub const BACK: usize = 24;
 
-pub const NOTHING: usize = 25;
+pub const VIEW: usize = 25;
+
+pub const NOTHING: usize = 26;
+
+// The word `view`, with the lengths of the shelves.
+pub const VIEW_OF_LENGTHS: usize = 27;
 
 // A call with its numbers; NOTHING where no call has the word, or not so many numbers follow it.
 pub struct Given {
@@ -61,6 +66,7 @@ pub struct Given {
     pub a: usize,
     pub b: usize,
     pub c: usize,
+    pub d: usize,
 }
 
 // How many numbers follow word k.
@@ -91,8 +97,9 @@ fn wanted(k: usize) -> usize {
         1,
         0,
         2,
+        2,
     ];
-    if k < 25 {
+    if k < 26 {
         return counts[k];
     }
     0
@@ -102,16 +109,22 @@ fn call_of(line: &[u8], count: usize) -> usize {
     let k = word_number(
         line,
         b"format restart sector grow copy checkpoint advance flushed write saves read reads address holder \
-addresses chart chart-of-record state medium cache record put bytes keep back ",
+addresses chart chart-of-record state medium cache record put bytes keep back view ",
     );
     // Text may follow the number of `bytes`.
     if k == BYTES {
         return k;
     }
-    if wanted(k) != count {
-        return NOTHING;
+    if wanted(k) == count {
+        return k;
     }
-    k
+    // Two lengths may follow the numbers of `view`.
+    if k == VIEW {
+        if count == 4 {
+            return VIEW_OF_LENGTHS;
+        }
+    }
+    NOTHING
 }
 
 pub fn given_by(line: &[u8]) -> Given {
@@ -123,5 +136,6 @@ pub fn given_by(line: &[u8]) -> Given {
         a: list[0],
         b: list[1],
         c: list[2],
+        d: list[3],
     }
 }

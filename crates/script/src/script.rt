@@ -26,6 +26,8 @@ use super::given::READS;
 use super::given::RECORD;
 use super::given::SAVES;
 use super::given::STATE;
+use super::given::VIEW;
+use super::given::VIEW_OF_LENGTHS;
 use super::given::WRITE;
 use super::given::given_by;
 use super::lines::byte_at;
@@ -42,6 +44,8 @@ use super::run::with_lent;
 use super::run::with_state;
 use super::states::show_change;
 use super::states::state_of;
+use super::views::view;
+use super::views::view_of_lengths;
 use printing::first_changed;
 use printing::labelled;
 use printing::last_changed;
@@ -65,6 +69,8 @@ fn fetch(v: Volume, medium: &[u8], given: Given) {
     match call {
         READ => read(v, medium, given.a, given.b),
         READS => reads(v, medium, given.a, given.b),
+        VIEW => view(v, medium, given.a, given.b),
+        VIEW_OF_LENGTHS => view_of_lengths(v, medium, given.a, given.b, given.c, given.d),
         CHART => chart(v, medium, given.a, false),
         CHART_OF_RECORD => chart(v, medium, given.a, true),
         _ => look(v, given),
