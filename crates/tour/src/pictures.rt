@@ -68,9 +68,9 @@ pub fn show_view(rack: Rack, k: usize, x: usize) {
     let v = rack.state;
     let medium = rack.medium;
     let versions = rack.versions;
-    let disks: &[u8] = &medium;
-    let first = &disks[0..8_192];
-    let second = &disks[8_192..18_432];
+    let lent: &[u8] = &medium;
+    let first = &lent[0..8_192];
+    let second = &lent[8_192..18_432];
     let answer = view_answer(v, first.len(), second.len(), k, Block(x));
     show_start(answer);
     if x < 30 {

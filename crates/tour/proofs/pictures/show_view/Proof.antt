@@ -4,20 +4,20 @@ use borrow.Author.Needs.{needs}
 use Rattle.tour.proofs.pictures.show_view.Statement.{statement}
 use Rattle.tour.proofs.pictures.show_view.Tie as tie
 
-slice-aggregate-disks : tie.Need-slice-aggregate-disks
-slice-aggregate-disks c = search needs
+slice-aggregate-lent : tie.Need-slice-aggregate-lent
+slice-aggregate-lent c = search needs
 
 part-first-end : tie.Need-part-first-end
-part-first-end c = let e = slice-aggregate-disks c in omega (arith, e)
+part-first-end c = let e = slice-aggregate-lent c in omega (arith, e)
 
 part-second-end : tie.Need-part-second-end
-part-second-end c = let e = slice-aggregate-disks (c .before) in omega (arith, e)
+part-second-end c = let e = slice-aggregate-lent (c .before) in omega (arith, e)
 
 pub show-view-spec : {M : Type 1} → statement M
 show-view-spec =
     tie.close
     (tie.spec
-    slice-aggregate-disks
+    slice-aggregate-lent
     (λ c. search needs)
     (λ c. search needs)
     part-first-end
