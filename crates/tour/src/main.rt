@@ -22,6 +22,7 @@ The medium holds the disks, and the record, which says how far a growth has come
 grow begins a growth. advance copies one block or, after the last, does a checkpoint.
 checkpoint records the copies made. restart takes the state from the record.
 address tells where a block lives and why, holder which block lives at a spot.
+view shows a block where it stands, without a copy, from disks on two shelves.
 flushed tells the volume that the drives were flushed: all that it stored is on them.
 Before part 6 the drives are flushed after each call that stores, and flushed is called.
 Indented lines are calls with their answers; these calls of flushed have no lines.
@@ -130,6 +131,13 @@ All other pictures are there, also those of blocks 0 and 1, which were flushed. 
   write picture 3 of block 13: @W
   flushed: @L
 @P pictures read back as saved
+\n7. SHOWN WITHOUT A COPY
+The rack is put on two shelves: the first has the record and disks 0 to 2, the second the other
+disks. The player shows a block straight from the shelf that has it.
+  view with 3 disks on the first shelf: block 12@S
+  view with 3 disks on the first shelf: block 18@S
+  view with 0 disks on the first shelf: block 12@S: at least 1 is needed
+A view copies and stores nothing. There is nothing to flush, and the state stays as it was.
 ",
     );
 }

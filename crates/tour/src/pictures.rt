@@ -1,11 +1,15 @@
 // Pictures of 512 bytes, and how they are read back. Bytes 0 and 1 of a picture are its block and its version.
 use super::rack::Rack;
+use super::words::show_start;
 use layout::Block;
 use printing::counted;
 use printing::first_changed;
 use printing::labelled;
 use printing::number_bytes;
 use printing::put_bytes;
+use printing::text;
+use shelves::view;
+use shelves::view_answer;
 
 // A picture of block x.
 pub fn drawn(x: usize, version: u8) -> [u8; 512] {
@@ -56,4 +60,24 @@ pub fn read_back(rack: Rack) {
     }
     labelled(b"  read of every picture:", same);
     labelled(b" of", saved);
+}
+
+// Shows block x straight from two shelves, with k disks on the first, and says so if it is as saved. The medium is cut after disk 2, at byte
+// 512 + 3 * 5 * 512 = 8,192. A view that is refused is empty.
+pub fn show_view(rack: Rack, k: usize, x: usize) {
+    let v = rack.state;
+    let medium = rack.medium;
+    let versions = rack.versions;
+    let lent: &[u8] = &medium;
+    let first = &lent[0..8_192];
+    let second = &lent[8_192..18_432];
+    let answer = view_answer(v, first.len(), second.len(), k, Block(x));
+    show_start(answer);
+    if x < 30 {
+        let picture = drawn(x, versions[x]);
+        let shown = view(v, first, second, k, Block(x));
+        if first_changed(&picture, shown) == 512 {
+            text(b", as saved");
+        }
+    }
 }

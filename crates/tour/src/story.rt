@@ -1,6 +1,7 @@
 // The story, byte by byte, and its calls.
 use super::pictures::drawn;
 use super::pictures::read_back;
+use super::pictures::show_view;
 use super::pictures::torn;
 use super::rack::ADVANCE;
 use super::rack::Rack;
@@ -29,6 +30,9 @@ const WRITE_EACH: u8 = b'E';
 
 // All pictures are read back.
 const READ_BACK: u8 = b'P';
+
+// Block b is shown, with a disks on the first shelf.
+const VIEW: u8 = b'S';
 
 // The power cut in the middle of a copy.
 const CUT_IN_COPY: u8 = b'X';
@@ -92,6 +96,10 @@ fn called(rack: Rack, call: u8, given: [usize; 8]) -> Rack {
         }
         READ_BACK => {
             read_back(rack);
+            rack
+        }
+        VIEW => {
+            show_view(rack, given[0], given[1]);
             rack
         }
         WRITE_EACH => write_each(rack, given),

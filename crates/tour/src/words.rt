@@ -7,6 +7,7 @@ use layout::Spot;
 use printing::counted;
 use printing::labelled;
 use printing::text;
+use shelves::ViewAnswer;
 use volume::AddressAnswer;
 use volume::Advanced;
 use volume::Answer;
@@ -83,5 +84,14 @@ pub fn show_held(v: Volume, disk: usize, row: usize) {
     match answer {
         HolderAnswer::Refused(k) => labelled(b" is refused with", k),
         HolderAnswer::Has(x) => labelled(b" has block", x.0),
+    }
+}
+
+// The shelf that has a block, and where it starts there.
+pub fn show_start(answer: ViewAnswer) {
+    match answer {
+        ViewAnswer::Refused(k) => labelled(b" is refused with", k),
+        ViewAnswer::First(at) => counted(b" starts at byte ", at, b" of the first"),
+        ViewAnswer::Second(at) => counted(b" starts at byte ", at, b" of the second"),
     }
 }
