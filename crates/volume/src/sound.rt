@@ -125,15 +125,12 @@ impl Volume {
         requires { ⌜ now counts ≡ self .counts ⌝ }
         ensures { λ r. ⌜ r ≡ sound self ⌝ }
     {
-        are_sound(
-            counts,
-            self.size,
-            self.rows,
-            self.growths,
-            self.growing,
-            self.window,
-            self.recorded,
-            self.copied,
-        )
+        let size = self.size;
+        let s = self.rows;
+        let t = self.growths;
+        let growing = self.growing;
+        let w = self.window;
+        let recorded = self.recorded;
+        are_sound(counts, size, s, t, growing, w, recorded, self.copied)
     }
 }
