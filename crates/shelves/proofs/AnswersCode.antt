@@ -1,9 +1,8 @@
 -- What the code that answers a view needs: that no number of bytes wraps, and the answer as it is found.
-use Prim.Native.Nat.{ℕ, _+_, _-_, _*_, _≤_, _<_, _^_}
+use Prim.Native.Nat.{ℕ, _*_, _≤_, _<_, _^_}
 use mathlib.Core.Path.{_≡_, refl, sym, _∙_}
 use mathlib.Core.Bool.{true}
 use mathlib.Core.Logic.{_≢_}
-use native.Mathlib.Nat.{le-mul-of-pos-right}
 use native.Mathlib.Omega.{arith}
 use Rattle.base.specs.Refusals.{refusal}
 use Rattle.layout.specs.declared.Spot.{Spot}
@@ -21,9 +20,8 @@ use Rattle.volume.proofs.LiveCode.{countsBefore, countsOld, bytes-asked, old-in
 use Rattle.volume.proofs.LookUpLaws.{live-inside}
 use Rattle.shelves.specs.declared.ViewAnswer.{ViewAnswer}
 use Rattle.shelves.specs.declared.ViewAnswer.the-variants.{Refused}
-use Rattle.shelves.specs.Shelves.{placeOnSecond, startOnShelf}
+use Rattle.shelves.specs.Shelves.{startOnShelf}
 use Rattle.shelves.specs.Views.{shelvesTable, viewTable, viewAnswer}
-use Rattle.shelves.proofs.Places.{second-place}
 use Rattle.shelves.proofs.Tests.{shelves-fit, shelves-first, not-open, none-refuses}
 
 -- so many of the disks: blocks on them, and their bytes
@@ -38,15 +36,6 @@ module _ (v : Volume) (e : sound v ≡ true) (n : ℕ) (h : n ≤ disks v) where
   pub rows-fit : n * v .rows < 2 ^ 64
   unfolding bytesNeeded geometry
   rows-fit = let a = needs-asked (geometry v) refl in factor-fits (n * v .rows) (v .size) (a .0) (a .1)
-
--- a spot of the second shelf: its number there, and its byte
-module _ (g : Geometry) (k : ℕ) (p : Spot) (e : 0 < g .size) (f : place g p < 2 ^ 64) (h : k ≤ p .disk) where
-  pub start-fits : ((p .disk - k) * g .rows + p .row .0) * g .size < 2 ^ 64
-  unfolding placeOnSecond
-  start-fits = omega (arith, second-place g k p h, f)
-
-  pub number-fits : (p .disk - k) * g .rows + p .row .0 < 2 ^ 64
-  number-fits = omega (arith, start-fits, le-mul-of-pos-right ((p .disk - k) * g .rows + p .row .0) e)
 
 -- the spot before the growth under way, which the code finds after t - 1 growths
 pub old-found : (v : Volume) → sound v ≡ true → v .growing ≢ 0 → (x : ℕ) (p : Spot) → p ≡ spotOf (v .rows) (countsBefore v) x

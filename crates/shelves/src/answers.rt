@@ -46,10 +46,11 @@ fn start_on_shelf(g: Geometry, k: usize, p: Spot) -> ViewAnswer
     requires { ⌜ place g p < 2 ^ 64 ⌝ }
     ensures { λ r. ⌜ r ≡ startOnShelf g k p ⌝ }
 {
+    let at = medium::place_of(g, p);
     if p.disk < k {
-        return ViewAnswer::First(medium::place_of(g, p));
+        return ViewAnswer::First(at);
     }
-    ViewAnswer::Second(((p.disk - k) * g.rows + p.row.0) * g.size)
+    ViewAnswer::Second(at - medium::bytes_needed(g, k))
 }
 
 // What a view of block x tells, with shelves of so many bytes. Whether a growth runs is asked once, before 3 is tested: that
