@@ -6,6 +6,7 @@ use crate::volume::{self, Words};
 pub const FORMATTED: &str = "t = 0";
 pub const GROWN: &str = "t = 7";
 pub const OLD_BLOCKS: &str = "t = 7, old blocks";
+pub const ONE_SHELF: &str = "t = 7, one shelf";
 pub const ADDED: &str = "t = 7, added blocks";
 pub const NOT_ADDED: &str = "t = 7, not added";
 pub const BEGUN: &str = "to t = 7";

@@ -70,18 +70,29 @@ pub fn address(label: Label, words: Words, open: u64, calls: usize) -> Box<dyn R
     })
 }
 
-/// View of the blocks that address has, some of them on each shelf.
+/// View of the blocks that address has, half of the disks on each shelf.
 pub fn view(label: Label, words: Words, open: u64, calls: usize) -> Box<dyn Row> {
-    let shelves = volume::shelves(&words);
+    let k = volume::disks(&words) / 2;
+    let row = view_with(label, words, k, open, calls);
+    let on_first = |&block: &u64| volume::spot(&words, block).0 < k;
+    assert!(row.blocks.iter().any(on_first) && !row.blocks.iter().all(on_first));
+    Box::new(row)
+}
+
+/// The same with all disks on the first shelf.
+fn view_of_one(label: Label, words: Words, open: u64, calls: usize) -> Box<dyn Row> {
+    Box::new(view_with(label, words, volume::disks(&words), open, calls))
+}
+
+fn view_with(label: Label, words: Words, k: u64, open: u64, calls: usize) -> View {
+    let shelves = volume::shelves(&words, k);
     let blocks = order::drawn(calls, open);
-    let on_first = |&block: &u64| volume::spot(&words, block).0 < shelves.k;
-    assert!(blocks.iter().any(on_first) && !blocks.iter().all(on_first));
-    Box::new(View {
+    View {
         label,
         words,
         shelves,
         blocks,
-    })
+    }
 }
 
 /// Holder at the spots of some of the blocks.
@@ -106,6 +117,7 @@ fn lookups() -> Vec<Box<dyn Row>> {
     let down = |case, words| flushed(lookup_label("flushed", case, s), words, LOOKUPS);
     let at = |case, words, open| address(lookup_label("address", case, s), words, open, LOOKUPS);
     let shown = |case, words, open| view(lookup_label("view", case, s), words, open, LOOKUPS);
+    let of_one = |case, words| view_of_one(lookup_label("view", case, s), words, 16 * s, LOOKUPS);
     let held = |case, blocks| holder(lookup_label("holder", case, s), grown, blocks, LOOKUPS);
     vec![
         sound(FORMATTED, formatted),
@@ -119,6 +131,7 @@ fn lookups() -> Vec<Box<dyn Row>> {
         at(GROWING, growing, 14 * s),
         shown(GROWN, grown, 16 * s),
         shown(GROWING, growing, 14 * s),
+        of_one(ONE_SHELF, grown),
         held(GROWN, 0..16 * s),
         held(ADDED, 14 * s..16 * s),
         held(NOT_ADDED, 0..14 * s),

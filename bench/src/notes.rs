@@ -22,7 +22,7 @@ pub fn print() {
         "Disk counts are {COUNTS:?} for t = 7 and {OLD_COUNTS:?} for old blocks. \
          Added blocks are those of the last growth, not added all others. \
          Growing is the last growth of the first, half way; for calls with a medium, the last of {MOVE_COUNTS:?}. \
-         For view the first shelf has half of the disks. \
+         For view the first shelf has half of the disks, or all of them. \
          The reference makes the same checks.\n"
     );
 }

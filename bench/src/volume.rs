@@ -63,10 +63,9 @@ pub fn bytes(words: &Words) -> usize {
     (RECORD + disks(words) * words[1] * words[0]) as usize
 }
 
-/// Shelves without spare bytes, the first with the record and half of the disks.
-pub fn shelves(words: &Words) -> Shelves {
-    let (k, disk) = (disks(words) / 2, words[1] * words[0]);
-    let first = RECORD + k * disk;
+/// Shelves without spare bytes, the first with the record and k disks.
+pub fn shelves(words: &Words, k: u64) -> Shelves {
+    let first = RECORD + k * words[1] * words[0];
     let second = bytes(words) as u64 - first;
     Shelves { k, first, second }
 }
