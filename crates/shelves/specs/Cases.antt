@@ -2,42 +2,35 @@
 -- its one proof.
 use Prim.Native.Nat.{ℕ}
 use mathlib.Core.Path.{_≡_}
-use mathlib.Core.Bool.{true, false}
+use mathlib.Core.Bool.{Bool, true, false}
 use mathlib.Core.List.{List, [], _∷_, map}
 use Rattle.volume.specs.declared.Volume.{Volume}
 use Rattle.shelves.specs.declared.ViewAnswer.{ViewAnswer}
 use Rattle.shelves.specs.declared.ViewAnswer.the-variants.{Refused, First, Second}
 use Rattle.shelves.specs.Views.{viewAnswer}
 
--- the growth runs in window 0, with these words of recorded and copied marks: block 0 has mark 0
-abbrev pub growing : (recorded copied : ℕ) → Volume
-growing recorded copied =
+-- while the growth runs or after it, with these words of recorded and copied marks of window 0, and stores pending or not
+abbrev pub volume : (growing recorded copied : ℕ) (pending : Bool) → Volume
+volume growing recorded copied pending =
     record {
       size = 512;
       rows = 5;
       growths = 1;
       counts = 3 ∷ 5 ∷ 0 ∷ 0 ∷ 0 ∷ 0 ∷ 0 ∷ 0 ∷ [];
-      growing = 1;
+      growing = growing;
       window = 0;
       recorded = recorded;
       copied = copied;
-      pending = record { records = true; blocks = true };
+      pending = record { records = pending; blocks = pending };
     }
+
+-- it runs, a record and blocks are pending; block 0 has mark 0
+abbrev pub growing : (recorded copied : ℕ) → Volume
+growing recorded copied = volume 1 recorded copied true
 
 -- it is finished
 abbrev pub grown : Volume
-grown =
-    record {
-      size = 512;
-      rows = 5;
-      growths = 1;
-      counts = 3 ∷ 5 ∷ 0 ∷ 0 ∷ 0 ∷ 0 ∷ 0 ∷ 0 ∷ [];
-      growing = 0;
-      window = 0;
-      recorded = 0;
-      copied = 0;
-      pending = record { records = false; blocks = false };
-    }
+grown = volume 0 0 0 false
 
 -- a view of block x, with k disks on the first shelf and shelves of so many bytes
 pub record ViewCase : Type 0 where
