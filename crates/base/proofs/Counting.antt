@@ -23,6 +23,16 @@ unfolding count
 count-none p zero h = refl
 count-none p (suc n) h = rw (count-none p n (λ i l. h i (omega arith)), h n (omega arith))
 
+-- none passes where the count is 0
+pub count-zero : (p : ℕ → Bool) (n : ℕ) → count p n ≡ 0 → (i : ℕ) → i < n → p i ≡ false
+unfolding count
+count-zero p zero e i h = absurd (omega arith)
+count-zero p (suc n) e i h =
+    elim (ℕ-discrete i n) [
+      | yes z ↦ rw z (by-test (p n) (λ t. absurd (omega (arith, rw t at e))) (λ t. t))
+      | no z ↦ count-zero p n (omega arith) i (omega (arith, z))
+    ]
+
 pub count-all : (p : ℕ → Bool) (n : ℕ) → ((i : ℕ) → i < n → p i ≡ true) → count p n ≡ n
 unfolding count
 count-all p zero h = refl
@@ -38,6 +48,13 @@ count-join : (p : ℕ → Bool) (a n : ℕ) → count p (a + n) ≡ count p a + 
 unfolding count
 count-join p a zero = rw (add-zero a) (omega arith)
 count-join p a (suc n) = rw (add-suc a n) (omega (arith, count-join p a n))
+
+-- where none passes from a on
+pub count-end : (p : ℕ → Bool) (a n : ℕ) → a ≤ n → ((i : ℕ) → a ≤ i → p i ≡ false) → count p n ≡ count p a
+count-end p a n l h =
+    let e : a + (n - a) ≡ n = omega arith in
+    let z = count-none (λ i. p (a + i)) (n - a) (λ i _. h (a + i) (omega arith)) in
+    ap (count p) (sym e) ∙ count-join p a (n - a) ∙ (rw z (omega arith))
 
 pub sum-ext : (f g : ℕ → ℕ) (n : ℕ) → ((i : ℕ) → i < n → f i ≡ g i) → sum f n ≡ sum g n
 unfolding sum
@@ -204,6 +221,17 @@ count-as-sum : (p : ℕ → Bool) (n : ℕ) → sum (λ i. cond (p i) 1 0) n ≡
 unfolding sum count
 count-as-sum p zero = refl
 count-as-sum p (suc n) = rw (count-as-sum p n)
+
+-- pairs counted by their first number, and by their second
+pub sum-of-counts : (p : ℕ → ℕ → Bool) (m n : ℕ) → sum (λ i. count (p i) n) m ≡ sum (λ j. count (λ i. p i j) m) n
+sum-of-counts p m n =
+    sum-ext _ _ m (λ i _. sym (count-as-sum (p i) n))
+    ∙ sum-swap (λ i j. cond (p i j) 1 0) m n
+    ∙ sum-ext _ _ n (λ j _. count-as-sum (λ i. p i j) m)
+
+-- a sum with one more for each number that passes
+pub sum-with-count : (f : ℕ → ℕ) (p : ℕ → Bool) (n : ℕ) → sum (λ i. f i + cond (p i) 1 0) n ≡ sum f n + count p n
+sum-with-count f p n = sum-plus f (λ i. cond (p i) 1 0) n ∙ ap (sum f n +_) (count-as-sum p n)
 
 -- one number below m is k
 count-one : (k m : ℕ) → k < m → count (eqb k) m ≡ 1

@@ -114,10 +114,10 @@ advance-zero Done h = refl
 advance-zero (CallsLeft n) h = absurd (h refl)
 advance-zero (Told did n) h = absurd (h refl)
 
-address-zero : (a : AddressAnswer) → addressNumber a ≢ 0 → addressFigures a ≡ replicate 5 0
+address-zero : (a : AddressAnswer) → addressNumber a ≢ 0 → addressFigures a ≡ replicate 6 0
 unfolding addressNumber addressFigures
 address-zero (address.Refused k) h = refl
-address-zero (address.At p reason) h = absurd (h refl)
+address-zero (address.At p reason moves) h = absurd (h refl)
 
 holder-zero : (a : HolderAnswer) → holderNumber a ≢ 0 → holderFigures a ≡ replicate 1 0
 unfolding holderNumber blockTold
@@ -217,9 +217,9 @@ module _ (words : List ℕ) where
       (volume-laws .flushed-refuses (stateFrom words)) (fits-back 0 [] e) e
 
   pub address-refused : (x : ℕ) (figures : List ℕ)
-      → stateFits words 5 figures ≡ true → addressLeft words x figures .number ≢ 0 → RefusedLeft words 5 [] (addressLeft words x figures)
+      → stateFits words 6 figures ≡ true → addressLeft words x figures .number ≢ 0 → RefusedLeft words 6 [] (addressLeft words x figures)
   address-refused x figures =
-      let answer = addressReply (stateFrom words) x .answer in look-up-refused words 5 (addressNumber answer) (addressFigures answer) figures (address-zero answer)
+      let answer = addressReply (stateFrom words) x .answer in look-up-refused words 6 (addressNumber answer) (addressFigures answer) figures (address-zero answer)
 
   pub holder-refused : (p : Spot) (figures : List ℕ)
       → stateFits words 1 figures ≡ true → holderLeft words p figures .number ≢ 0 → RefusedLeft words 1 [] (holderLeft words p figures)

@@ -97,7 +97,7 @@ lookUpLeft figureCount number told words figures =
 
 abbrev pub addressLeft : (words : List ℕ) (x : ℕ) (figures : List ℕ) → Left
 addressLeft words x figures =
-    let answer = addressReply (stateFrom words) x .answer in lookUpLeft 5 (addressNumber answer) (addressFigures answer) words figures
+    let answer = addressReply (stateFrom words) x .answer in lookUpLeft 6 (addressNumber answer) (addressFigures answer) words figures
 
 abbrev pub holderLeft : (words : List ℕ) (p : Spot) (figures : List ℕ) → Left
 holderLeft words p figures =

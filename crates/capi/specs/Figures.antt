@@ -1,6 +1,6 @@
 -- The figures beside an answer's number, as lists of numbers. "A refusal has 0 for every figure beside its number."
 use Prim.Native.Nat.{ℕ}
-use mathlib.Core.List.{List, [], _∷_}
+use mathlib.Core.List.{List, [], _∷_, _++_}
 use mathlib.Core.Option.{Option, none, some}
 use Rattle.layout.specs.declared.Part.{Part}
 use Rattle.layout.specs.declared.Part.the-variants.{Head, Body, Tail}
@@ -60,10 +60,10 @@ reasonNumber (MovedBy growth part) = 3
 abbrev pub reasonFigures : (reason : Reason) → List ℕ
 reasonFigures reason = reasonNumber reason ∷ growthTold reason ∷ partNumber (partTold reason) ∷ []
 
--- of address: disk, row, and why the block is there
+-- of address: disk, row, why the block is there, and by how many growths it was moved
 unfoldable pub addressFigures : (a : AddressAnswer) → List ℕ
-addressFigures (address.Refused k) = 0 ∷ 0 ∷ 0 ∷ 0 ∷ 0 ∷ []
-addressFigures (address.At p reason) = p .disk ∷ p .row .0 ∷ reasonFigures reason
+addressFigures (address.Refused k) = 0 ∷ 0 ∷ 0 ∷ 0 ∷ 0 ∷ 0 ∷ []
+addressFigures (address.At p reason moves) = p .disk ∷ p .row .0 ∷ (reasonFigures reason ++ (moves ∷ []))
 
 -- of holder: the block
 abbrev pub holderFigures : (a : HolderAnswer) → List ℕ

@@ -67,7 +67,7 @@ pub record CapiLaws : Type 0 where
   pub restart-refused : (words figures : List ℕ) (o : Observations)
       → lengthsFit words 1 figures ≡ true → restartLeft words figures o .number ≢ 0 → RefusedLeft (replicate stateWords 0) 1 [] (restartLeft words figures o)
   pub address-refused : (words : List ℕ) (x : ℕ) (figures : List ℕ)
-      → stateFits words 5 figures ≡ true → addressLeft words x figures .number ≢ 0 → RefusedLeft words 5 [] (addressLeft words x figures)
+      → stateFits words 6 figures ≡ true → addressLeft words x figures .number ≢ 0 → RefusedLeft words 6 [] (addressLeft words x figures)
   pub holder-refused : (words : List ℕ) (p : Spot) (figures : List ℕ)
       → stateFits words 1 figures ≡ true → holderLeft words p figures .number ≢ 0 → RefusedLeft words 1 [] (holderLeft words p figures)
   pub view-refused : (words : List ℕ) (first second k x : ℕ) (figures : List ℕ)

@@ -87,20 +87,20 @@ pub fn address_number(a: AddressAnswer) -> usize
 {
     match a {
         AddressAnswer::Refused(k) => k,
-        AddressAnswer::At(_, _) => 0,
+        AddressAnswer::At(_, _, _) => 0,
     }
 }
 
 // The figures of address.
-pub fn address_figures(a: AddressAnswer) -> [usize; 5]
+pub fn address_figures(a: AddressAnswer) -> [usize; 6]
     ensures { λ r. ⌜ r ≡ addressFigures a ⌝ }
 {
     match a {
-        AddressAnswer::Refused(_) => [0, 0, 0, 0, 0],
-        AddressAnswer::At(p, reason) => {
+        AddressAnswer::Refused(_) => [0, 0, 0, 0, 0, 0],
+        AddressAnswer::At(p, reason, moves) => {
             let f = reason_figures(reason);
             let row = p.row;
-            [p.disk, row.0, f[0], f[1], f[2]]
+            [p.disk, row.0, f[0], f[1], f[2], moves]
         }
     }
 }

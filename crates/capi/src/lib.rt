@@ -26,7 +26,7 @@ const CALLS_FIGURES: usize = 1;
 
 const ADVANCE_FIGURES: usize = 4;
 
-const ADDRESS_FIGURES: usize = 5;
+const ADDRESS_FIGURES: usize = 6;
 
 const HOLDER_FIGURES: usize = 1;
 

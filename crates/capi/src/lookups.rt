@@ -18,7 +18,7 @@ use layout::Block;
 use layout::Row;
 use layout::Spot;
 
-// Where a block lives, and why.
+// Where a block lives, why, and by how many growths it was moved.
 #[no_mangle]
 pub extern "C" fn streterva_address(state: &[usize], block: usize, figures: &mut [usize]) -> usize
     ensures { λ r. ⌜ r ≡ addressLeft (now (state .entry)) block (now (figures .entry)) .number ⌝ }

@@ -1,12 +1,14 @@
--- Histories whose disk counts rise.
-use Prim.Native.Nat.{ℕ, _-_, _<_}
+-- Histories whose disk counts rise, and the first growths of a history.
+use Prim.Native.Nat.{ℕ, suc, _-_, _≤_, _<_}
 use mathlib.Core.Path.{_≡_}
 use mathlib.Core.Bool.{true, false≢true}
 use mathlib.Core.List.{List, [], _∷_}
 use native.Mathlib.Omega.{arith}
 use lib.Dec.{ltb}
+use lib.ListN.{length}
 use borrow.Author.Tests.{ltb-true, leb-true}
 use Rattle.layout.specs.History.{rising}
+use Rattle.layout.specs.Reasons.{firstGrowths}
 use Rattle.base.proofs.Booleans.{and-left, and-right}
 
 pub not-rising : rising [] ≡ true → ⊥
@@ -25,3 +27,13 @@ pub rising-some : (c : ℕ) (h : List ℕ) → rising (c ∷ h) ≡ true → 0 <
 unfolding rising
 rising-some c [] e = leb-true 1 c e
 rising-some c (m ∷ h) e = omega (arith, rising-up c m h e)
+
+-- ---- the first growths of a history
+
+pub all-growths : (k : ℕ) (h : List ℕ) → length h ≤ suc k → firstGrowths k h ≡ h
+unfolding firstGrowths
+all-growths k h l = let e : length h - suc k ≡ 0 = omega arith in rw e
+
+pub without-newest : (k c : ℕ) (h : List ℕ) → k < length h → firstGrowths k (c ∷ h) ≡ firstGrowths k h
+unfolding firstGrowths
+without-newest k c h l = let e : suc (length h) - suc k ≡ suc (length h - suc k) = omega arith in rw e

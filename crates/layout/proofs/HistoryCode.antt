@@ -1,7 +1,7 @@
 -- What the loops over the growths need at each turn: the array of counts read as a history.
 use Prim.Native.Nat.{ℕ, zero, suc, _+_, _-_, _*_, _/_, _%_, _≤_, _<_}
 use mathlib.Core.Path.{_≡_, refl, sym, _∙_, ap, subst}
-use mathlib.Core.Bool.{true, false}
+use mathlib.Core.Bool.{true, false, cond}
 use mathlib.Core.List.{List, _∷_}
 use mathlib.Core.Logic.{_⊎_, inl, inr}
 use native.Mathlib.Nat.{mul-le-mul, le-refl}
@@ -16,16 +16,18 @@ use Rattle.layout.specs.declared.GrowthDisks.{GrowthDisks}
 use Rattle.layout.specs.declared.Reason.{Reason}
 use Rattle.layout.specs.declared.Reason.the-variants.{AddedBy}
 use Rattle.layout.specs.declared.Spot.{Spot}
-use Rattle.layout.specs.Growth.{oldBlockSpot, addedSpot, spotAfter, oldChange, changeOf, addedIndex, spotBefore, blockAfter}
+use Rattle.layout.specs.Growth.{movesFrom, oldBlockSpot, addedSpot, spotAfter, oldChange, changeOf, addedIndex, spotBefore, blockAfter}
 use Rattle.layout.specs.History.{Within, history, diskCount, earlier, oldCount, addedCount, newestGrowth, rising, spotOf, blockAt}
 use Rattle.layout.specs.Limits.{Limits, Grows, mostDisks, mostGrowths, mostRows}
-use Rattle.layout.specs.Reasons.{reasonAfter, placedReason, reasonOf}
+use Rattle.layout.specs.Reasons.{reasonAfter, placedReason, reasonOf, moveCountOf, movesAfter}
+use Rattle.layout.specs.Windows.{oldSpot, moving}
 use Rattle.base.proofs.Booleans.{and-both, clash, by-test}
 use Rattle.layout.proofs.Histories.{rising-up, rising-earlier, rising-some}
 use Rattle.layout.proofs.OneRow.{old-back}
 use Rattle.layout.proofs.OneGrowth.{spot-after-old, spot-after-added, block-after-added, block-after-old}
 use Rattle.layout.proofs.Bijection.{bijection}
 use Rattle.layout.proofs.GrowthCode.{old-blocks-most}
+use Rattle.layout.proofs.MovesTrue.{new-unmoved, moves-one-more, moves-at-format, absent-moves, moves-most}
 
 pub history-length : (t : ℕ) (l : List ℕ) → length (history t l) ≡ suc t
 unfolding history
@@ -258,6 +260,46 @@ pub reason-next : (s k : ℕ) (l : List ℕ) (x : ℕ) (p : Spot) (c : Change) (
 reason-next s k l x p c r q w e f g o =
     let old = change-old (getD l k 0) (getD l (suc k) 0 - getD l k 0) s x (spotOf s (history k l) x) (counted-there s k l x w) in
     rw (add-one k) (rw (g, e, f, add-one k, ← old) at o ∙ sym (reason-suc s k l x))
+
+-- and by how many growths it was moved
+moves-suc : (s k : ℕ) (l : List ℕ) (x : ℕ)
+    → moveCountOf s (history (suc k) l) x ≡ moveCountOf s (history k l) x + cond (moving s (history (suc k) l) x) 1 0
+unfolding history
+moves-suc s k l x = moves-one-more s (getD l (suc k) 0) (history k l) x
+
+moving-added : (s k : ℕ) (l : List ℕ) (x : ℕ) → getD l k 0 * s ≤ x → moving s (history (suc k) l) x ≡ false
+unfolding history oldCount earlier
+moving-added s k l x h = new-unmoved s (history (suc k) l) x (rw (history-disks k l) h)
+
+moving-old : (s k : ℕ) (l : List ℕ) (x : ℕ) → There s k l x
+    → moving s (history (suc k) l) x ≡ movesFrom (getD l k 0) (getD l (suc k) 0 - getD l k 0) (spotOf s (history k l) x)
+unfolding moving history oldCount addedCount oldSpot earlier diskCount
+moving-old s k l x h = rw (history-disks k l, lt-ltb x (getD l k 0 * s) (counted-there s k l x h))
+
+pub moves-placed : (s k : ℕ) (l : List ℕ) (x : ℕ) → rising (history k l) ≡ true → NotBefore s k l x → 0 ≡ moveCountOf s (history k l) x
+unfolding history
+moves-placed s zero l x r h = sym (moves-at-format s (getD l 0 0) x)
+moves-placed s (suc j) l x r h =
+    let old = not-before-counted s j (suc j) l x refl h in
+    sym (rw (moves-suc s j l x, moving-added s j l x old, absent-moves s (history j l) x (rise-before j l r) (rw (history-disks j l) old)))
+
+-- what a growth did with an old block says whether it moved it
+changed-moves : (m n : ℕ) (p : Spot) (before : ℕ) → movesAfter (oldChange m n p) before ≡ before + cond (movesFrom m n p) 1 0
+unfolding movesAfter
+changed-moves m n p before = by-test (movesFrom m n p) (λ e. rw e) (λ e. rw e (omega arith))
+
+pub moves-next : (s k : ℕ) (l : List ℕ) (x : ℕ) (p : Spot) (c : Change) (n q : ℕ) → There s k l x → p ≡ spotOf s (history k l) x
+    → n ≡ moveCountOf s (history k l) x → c ≡ oldChange (getD l k 0) (getD l (k + 1) 0 - getD l k 0) p → q ≡ movesAfter c n
+    → q ≡ moveCountOf s (history (k + 1) l) x
+moves-next s k l x p c n q w e f g o =
+    let m = getD l k 0 in
+    let a = getD l (suc k) 0 - getD l k 0 in
+    rw (add-one k)
+    (rw (g, e, f, add-one k, changed-moves m a (spotOf s (history k l) x) (moveCountOf s (history k l) x), ← moving-old s k l x w) at o ∙ sym (moves-suc s k l x))
+
+-- at most k, so that one more does not wrap
+pub moves-below : (s t k : ℕ) (l : List ℕ) (x n : ℕ) → t ≤ mostGrowths → k ≤ t → n ≡ moveCountOf s (history k l) x → n ≤ mostGrowths
+moves-below s t k l x n g h e = omega (arith, e, moves-most s (history k l) x, history-length k l)
 
 -- ---- the loop back from now to format, at its turn k = j + 1
 

@@ -13,6 +13,8 @@ pub mod ReasonsTrue
 pub mod MarkSpots
 pub mod MarkBlocks
 pub mod MoveCounts
+pub mod MovesTrue
+pub mod LiveMoves
 pub mod Theorems
 pub mod HistoryCode
 pub mod GrowthCode

@@ -11,8 +11,8 @@ use lib.ListN.{getD}
 use borrow.Author.Tests.{ltb-true, ltb-false, lt-ltb, le-ltb, eqb-true, eq-eqb, ne-eqb}
 use Rattle.base.specs.Below.{count, sum}
 use Rattle.layout.specs.History.{diskCount, earlier, oldCount, addedCount, rising}
-use Rattle.layout.specs.Windows.{spotOfMark, rowExists, oldSpot, moving, windowOfRow, windowOf, movingIn, markOf, blockOfMark, markedBlocks, movesOfWindow, uncopied, callsLeft, cutMoves, laterMoves, callsLeftByMarks}
-use Rattle.layout.specs.Laws.{Marks, Counts}
+use Rattle.layout.specs.Windows.{spotOfMark, rowExists, oldSpot, moving, windowOfRow, windowOf, movingIn, markOf, blockOfMark, markedBlocks, movesOfWindow, movesOfGrowth, uncopied, callsLeft, cutMoves, laterMoves, callsLeftByMarks}
+use Rattle.layout.specs.Laws.{Marks, Counts, GrowthMoves}
 use Rattle.base.proofs.Booleans.{and-left, and-right, and-both, same-order}
 use Rattle.base.proofs.Counting.{count-ext, count-none, count-all, count-split, sum-ext, count-digits, count-below, OneToOne, count-one-to-one}
 use Rattle.layout.proofs.NewestGrowth.{old-within, moving-old}
@@ -51,6 +51,15 @@ next-or-later true w v =
         | yes e ↦ rw (lt-ltb w v l, eq-eqb v (suc w) e, le-ltb (suc w) v (omega arith))
         | no e ↦ rw (lt-ltb w v l, ne-eqb v (suc w) e, lt-ltb (suc w) v (omega (arith, e)))
       ]
+    ]
+
+-- window 0, with no block copied, and those after it
+first-or-later : (a : Bool) (v : ℕ) → cond a 1 0 ≡ cond ((a && eqb v 0) && true) 1 0 + cond (a && ltb 0 v) 1 0
+first-or-later false v = refl
+first-or-later true v =
+    elim (ℕ-discrete v 0) [
+      | yes e ↦ rw (eq-eqb v 0 e, le-ltb 0 v (omega (arith, e)))
+      | no e ↦ rw (ne-eqb v 0 e, lt-ltb 0 v (omega (arith, e)))
     ]
 
 module _ (s c m : ℕ) (h : List ℕ) (r : rising (c ∷ m ∷ h) ≡ true) where
@@ -193,3 +202,30 @@ module _ (s c m : ℕ) (h : List ℕ) (r : rising (c ∷ m ∷ h) ≡ true) wher
   pub counts-law : Counts s (c ∷ m ∷ h)
   unfolding oldCount addedCount earlier diskCount
   counts-law = record { whole-window = whole; cut-window = cut; closed-form = closed; calls-by-marks = calls-left }
+
+  -- ---- all windows
+
+  at-start : movesOfGrowth s H ≡ uncopied s H 0 (λ x. false)
+  unfolding movesOfGrowth uncopied movingIn oldCount earlier diskCount
+  at-start = count-split (moving s H) _ (later 0) (m * s) (λ x. first-or-later (moving s H x) (windowOf s H x))
+
+  first-window : uncopied s H 0 (λ x. false) ≡ movesOfWindow s H 0 + laterMoves m n s 0
+  unfolding movesOfWindow
+  first-window = closed 0 (λ x. false) ∙ ap (_+ laterMoves m n s 0) (count-ext _ _ (m * n) (λ j l. and-true (rowExists m n s 0 j)) ∙ sym (moves-by-marks 0))
+
+  in-windows : movesOfGrowth s H ≡ s / k * (m * n) + cutMoves m n (s % k)
+  unfolding laterMoves
+  in-windows = at-start ∙ first-window ∙ by (s / k) refl
+    where
+      by : (q : ℕ) → s / k ≡ q → movesOfWindow s H 0 + laterMoves m n s 0 ≡ q * (m * n) + cutMoves m n (s % k)
+      by zero e =
+          let z : laterMoves m n s 0 ≡ 0 = (rw e) in
+          omega (arith, z, cut 0 (s % k) (rw e at rows-split))
+      by (suc q) e =
+          let p : suc q - 1 ≡ q = omega arith in
+          let z : laterMoves m n s 0 ≡ q * (m * n) + cutMoves m n (s % k) = (rw (e, lt-ltb 0 (suc q) (omega arith), p)) in
+          omega (arith, z, whole 0 (omega (arith, rw e at rows-split, suc-mul q k)), suc-mul q (m * n))
+
+  pub growth-law : GrowthMoves s (c ∷ m ∷ h)
+  unfolding oldCount addedCount earlier diskCount
+  growth-law = record { at-start = at-start; in-windows = in-windows }

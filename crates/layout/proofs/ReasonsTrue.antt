@@ -17,18 +17,8 @@ use Rattle.layout.specs.Windows.{oldSpot, moving, partMoved}
 use Rattle.layout.specs.Reasons.{reasonAfter, reasonOf, growthTold, firstGrowths}
 use Rattle.layout.specs.Laws.{UnchangedSince, AddedTrue, MovedTrue, ReasonTrue}
 use Rattle.base.proofs.Booleans.{by-test}
-use Rattle.layout.proofs.Histories.{not-rising, rising-earlier}
+use Rattle.layout.proofs.Histories.{not-rising, rising-earlier, all-growths, without-newest}
 use Rattle.layout.proofs.NewestGrowth.{old-within, still-there, moving-old, moving-moves, moving-law}
-
--- ---- the first growths of a history
-
-all-growths : (k : ℕ) (h : List ℕ) → length h ≤ suc k → firstGrowths k h ≡ h
-unfolding firstGrowths
-all-growths k h l = let e : length h - suc k ≡ 0 = omega arith in rw e
-
-without-newest : (k c : ℕ) (h : List ℕ) → k < length h → firstGrowths k (c ∷ h) ≡ firstGrowths k h
-unfolding firstGrowths
-without-newest k c h l = let e : suc (length h) - suc k ≡ suc (length h - suc k) = omega arith in rw e
 
 -- ---- spots that no growth has changed since
 
@@ -97,20 +87,20 @@ told-at-format s c x (MovedBy k part) t = absurd (omega (arith, t .growth-made .
 -- ---- the newest growth, from m disks to c
 
 module _ (s c m : ℕ) (h : List ℕ) (r : rising (c ∷ m ∷ h) ≡ true) (x : ℕ) where
-  reason-stays : x < m * s → moving s (c ∷ m ∷ h) x ≡ false → reasonOf s (c ∷ m ∷ h) x ≡ reasonOf s (m ∷ h) x
+  pub reason-stays : x < m * s → moving s (c ∷ m ∷ h) x ≡ false → reasonOf s (c ∷ m ∷ h) x ≡ reasonOf s (m ∷ h) x
   unfolding reasonOf reasonAfter changeOf moving oldSpot oldCount addedCount earlier diskCount
   reason-stays k e = let f : movesFrom m (c - m) (spotOf s (m ∷ h) x) ≡ false = (rw (lt-ltb x (m * s) k) at e) in rw (lt-ltb x (m * s) k, f)
 
-  reason-moved : moving s (c ∷ m ∷ h) x ≡ true → reasonOf s (c ∷ m ∷ h) x ≡ MovedBy (suc (length h)) (partMoved s (c ∷ m ∷ h) x)
+  pub reason-moved : moving s (c ∷ m ∷ h) x ≡ true → reasonOf s (c ∷ m ∷ h) x ≡ MovedBy (suc (length h)) (partMoved s (c ∷ m ∷ h) x)
   unfolding reasonOf reasonAfter changeOf partMoved oldSpot oldCount addedCount earlier diskCount
   reason-moved e = rw (lt-ltb x (m * s) (moving-old s c m h r x e), moving-moves s c m h r x e)
 
-  reason-added : m * s ≤ x → reasonOf s (c ∷ m ∷ h) x ≡ AddedBy (suc (length h))
+  pub reason-added : m * s ≤ x → reasonOf s (c ∷ m ∷ h) x ≡ AddedBy (suc (length h))
   unfolding reasonOf reasonAfter changeOf
   reason-added k = rw (le-ltb x (m * s) k)
 
   -- a block that moves changes its spot
-  moved-elsewhere : moving s (c ∷ m ∷ h) x ≡ true → spotOf s (c ∷ m ∷ h) x ≡ spotOf s (m ∷ h) x → ⊥
+  pub moved-elsewhere : moving s (c ∷ m ∷ h) x ≡ true → spotOf s (c ∷ m ∷ h) x ≡ spotOf s (m ∷ h) x → ⊥
   unfolding oldCount earlier diskCount
   moved-elsewhere e f =
       let there = moving-law s c m h r .to-added-disk x e in

@@ -15,9 +15,9 @@ use Rattle.layout.specs.declared.Spot.{Spot}
 use Rattle.layout.specs.History.{Within, diskCount, earlier, oldCount, addedCount, rising, spotOf, blockAt}
 use Rattle.layout.specs.Windows.{windows, windowOfRow, oldSpot, moving, windowOf, movingIn, uncopied, callsLeft}
 use Rattle.layout.specs.Limits.{Limits}
-use Rattle.layout.specs.Reasons.{reasonAfter, reasonOf}
+use Rattle.layout.specs.Reasons.{reasonAfter, reasonOf, moveCountOf}
 use Rattle.layout.specs.Tally.{Tally, isRunning, movedBlocks}
-use Rattle.layout.specs.Laws.{RemainderOf, Bijection, Moving, LiveSpots, Marks, MarksFit, Counts, LookUps, AddedAt, HeadBeforeTail, ReasonTrue, LayoutLaws}
+use Rattle.layout.specs.Laws.{RemainderOf, Bijection, Moving, LiveSpots, Marks, MarksFit, Counts, LookUps, AddedAt, HeadBeforeTail, ReasonTrue, MovesTrue, GrowthMoves, LiveMoves, LayoutLaws}
 use Rattle.layout.specs.Cases.{TableHolds, table, worked}
 use Rattle.layout.proofs.Histories.{rising-up}
 use Rattle.layout.proofs.Remainder.{remainder}
@@ -28,7 +28,9 @@ use Rattle.layout.proofs.LookUps.{LiveReasons, look-ups-law}
 use Rattle.layout.proofs.AddedBlocks.{added-law}
 use Rattle.layout.proofs.ReasonsTrue.{reasons-law, only-reason-law, live-reasons-law}
 use Rattle.layout.proofs.MarkBlocks.{marks-law}
-use Rattle.layout.proofs.MoveCounts.{counts-law}
+use Rattle.layout.proofs.MoveCounts.{counts-law, growth-law}
+use Rattle.layout.proofs.MovesTrue.{moves-at-format, moves-one-more, moves-law}
+use Rattle.layout.proofs.LiveMoves.{live-moves-law}
 use Rattle.layout.proofs.WindowsCode.{marks-most}
 
 -- the remainder of b-(n-1) is the true one, also for b < n-1
@@ -88,6 +90,9 @@ module _ (s : ℕ) (h : List ℕ) (r : rising h ≡ true) (g : 0 < oldCount h) w
   pub move-counts : Counts s h
   move-counts = has-growth (Counts s) (counts-law s) h r g
 
+  pub growth-moves : GrowthMoves s h
+  growth-moves = has-growth (GrowthMoves s) (growth-law s) h r g
+
 -- within the limits a window has at most 64 marks
 pub marks-fit : (s : ℕ) (h : List ℕ) → Limits s h → 0 < oldCount h → MarksFit h
 marks-fit s h a g = marks-most (oldCount h) (addedCount h) (omega (arith, disks-sum s h (a .rise) g, a .disks-most))
@@ -104,6 +109,13 @@ pub look-ups : (t : Tally) → rising (t .counts) ≡ true → (isRunning (t .mo
 look-ups t r g =
     look-ups-law t (spots-and-blocks (t .rows) (t .counts) r) (λ x. reason-true (t .rows) (t .counts) x r)
     (λ e. (live-spots (t .rows) (t .counts) r (g e) (movedBlocks t), live-reasons (t .rows) (t .counts) r (g e)))
+
+-- by how many growths a block was moved
+pub moves-true : (s : ℕ) (h : List ℕ) (x : ℕ) → rising h ≡ true → MovesTrue s h x (reasonOf s h x) (moveCountOf s h x)
+moves-true = moves-law
+
+pub live-moves : (t : Tally) → rising (t .counts) ≡ true → (isRunning (t .mode) ≡ true → 0 < oldCount (t .counts)) → LiveMoves t
+live-moves = live-moves-law
 
 -- which spots have a block that the newest growth added, no growth running
 pub added-blocks : (t : Tally) → rising (t .counts) ≡ true → 0 < oldCount (t .counts) → isRunning (t .mode) ≡ false
@@ -153,5 +165,10 @@ layout-laws =
       added-blocks = added-blocks;
       reason-true = reason-true;
       only-reason = only-reason;
+      moves-at-format = moves-at-format;
+      moves-one-more = moves-one-more;
+      moves-true = moves-true;
+      growth-moves = growth-moves;
+      live-moves = live-moves;
       layout-cases = layout-cases;
     }

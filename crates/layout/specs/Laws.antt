@@ -1,24 +1,25 @@
 -- What is proved of the layout: each law as a record of facts, and in `LayoutLaws` all of them with what each asks.
 -- `proofs/Theorems.antt` has the proof. None but `MarksFit` rests on the limit of 16 disks.
-use Prim.Native.Nat.{ℕ, suc, _+_, _-_, _*_, _%_, _≤_, _<_}
+use Prim.Native.Nat.{ℕ, suc, _+_, _-_, _*_, _/_, _%_, _≤_, _<_}
 use mathlib.Core.Path.{_≡_}
-use mathlib.Core.Bool.{Bool, true, false, not, _&&_}
-use mathlib.Core.List.{List}
+use mathlib.Core.Bool.{Bool, true, false, cond, not, _&&_}
+use mathlib.Core.List.{List, [], _∷_}
 use mathlib.Core.Logic.{_≢_, _⊎_}
 use mathlib.Core.Option.{none, some}
+use lib.Dec.{ltb}
 use lib.ListN.{length}
 use Rattle.layout.specs.declared.Part.{Part}
 use Rattle.layout.specs.declared.Part.the-variants.{Head}
 use Rattle.layout.specs.declared.Reason.{Reason}
 use Rattle.layout.specs.declared.Reason.the-variants.{SetOut, AddedBy, MovedBy}
 use Rattle.layout.specs.declared.Spot.{Spot}
-use Rattle.base.specs.Below.{count}
+use Rattle.base.specs.Below.{count, sum}
 use Rattle.layout.specs.Growth.{minusMod, moves, partOf, addedIndex, spotBefore}
 use Rattle.layout.specs.History.{diskCount, earlier, oldCount, addedCount, rising, Within, spotOf, blockAt}
-use Rattle.layout.specs.Windows.{windows, rowExists, oldSpot, moving, windowOf, markOf, blockOfMark, markedBlocks, partMoved, movesOfWindow, uncopied, callsLeft, cutMoves, laterMoves, callsLeftByMarks}
-use Rattle.layout.specs.Live.{liveSpot, liveBlock}
-use Rattle.layout.specs.Reasons.{reasonOf, firstGrowths}
-use Rattle.layout.specs.Tally.{Tally, isRunning, openBlocks, liveSpotOf, liveBlockOf, growthsOf, liveReasonOf}
+use Rattle.layout.specs.Windows.{windows, rowExists, oldSpot, moving, windowOf, markOf, blockOfMark, markedBlocks, partMoved, movesOfWindow, movesOfGrowth, uncopied, callsLeft, cutMoves, laterMoves, callsLeftByMarks}
+use Rattle.layout.specs.Live.{atNewSpot, liveSpot, liveBlock}
+use Rattle.layout.specs.Reasons.{reasonOf, firstGrowths, moveCountOf}
+use Rattle.layout.specs.Tally.{Tally, isRunning, openBlocks, movedBlocks, liveSpotOf, liveBlockOf, growthsOf, liveReasonOf, liveMoveCountOf, sourceOf}
 use Rattle.layout.specs.Limits.{Limits}
 use Rattle.layout.specs.Cases.{TableHolds}
 
@@ -137,6 +138,52 @@ pub record LookUps (t : Tally) : Type 0 where
   -- "the live spot and why it is there": the reason told is true of those growths
   pub live-reason : (x : ℕ) → x < openBlocks t → ReasonTrue (t .rows) (growthsOf t x) x (liveReasonOf t x)
 
+-- Document 02, W6: "by how many growths the block was moved". Of block x in history h, where r is why it is at its spot, n is that number.
+pub record MovesTrue (s : ℕ) (h : List ℕ) (x : ℕ) (r : Reason) (n : ℕ) : Type 0 where
+  -- 0 exactly where no growth of the history moved the block
+  pub none-moved : ((k : ℕ) → IsGrowth h k → moving s (firstGrowths k h) x ≡ false) → n ≡ 0
+  pub moved-none : n ≡ 0 → (k : ℕ) → IsGrowth h k → moving s (firstGrowths k h) x ≡ false
+  -- at most t
+  pub most-growths : n ≤ length h - 1
+  -- told as moved by growth k: at least that one, and no later one
+  pub told-moved : (k : ℕ) (part : Part) → r ≡ MovedBy k part → (1 ≤ n) × (n ≤ k)
+  -- told as set out or as added: no growth since
+  pub told-set-out : r ≡ SetOut → n ≡ 0
+  pub told-added : (k : ℕ) → r ≡ AddedBy k → n ≡ 0
+  -- a block that growth k added, moved since or not: only later growths count
+  pub later-only : (k : ℕ) → IsGrowth h k → diskCount (firstGrowths (k - 1) h) * s ≤ x
+      → n ≡ count (λ j. ltb k j && moving s (firstGrowths j h) x) (length h)
+
+-- the moves of the newest growth, of all its windows
+pub record GrowthMoves (s : ℕ) (h : List ℕ) : Type 0 where
+  -- U when it starts, with no block copied
+  pub at-start : movesOfGrowth s h ≡ uncopied s h 0 (λ x. false)
+  -- m·n for each whole window, and those of a last one that is cut off
+  pub in-windows : (let m = oldCount h in
+      let n = addedCount h in
+      movesOfGrowth s h ≡ s / (m + n) * (m * n) + cutMoves m n (s % (m + n)))
+
+-- the moves of all growths of a history, one growth after another
+abbrev pub movesOfGrowths : (s : ℕ) (h : List ℕ) → ℕ
+movesOfGrowths s h = sum (λ k. movesOfGrowth s (firstGrowths k h)) (length h)
+
+-- the same number of a tally's live spots
+pub record LiveMoves (t : Tally) : Type 0 where
+  -- it is that of the growths told of, all or all but the newest
+  pub live-moves-true : (x : ℕ) → MovesTrue (t .rows) (growthsOf t x) x (liveReasonOf t x) (liveMoveCountOf t x)
+  -- "one under way only while the live spot is the new one": not at the old spot, and once at the new one
+  pub at-old-spot : isRunning (t .mode) ≡ true → (x : ℕ) → liveSpotOf t x ≡ sourceOf t x
+      → liveMoveCountOf t x ≡ moveCountOf (t .rows) (earlier (t .counts)) x
+  pub at-new-spot : isRunning (t .mode) ≡ true → (x : ℕ) → liveSpotOf t x ≢ sourceOf t x
+      → liveMoveCountOf t x ≡ suc (moveCountOf (t .rows) (earlier (t .counts)) x)
+  -- of a block that the newest growth does not move: the same before this growth as during and after it
+  pub unmoved-same : (before : Tally) → before .rows ≡ t .rows → before .counts ≡ earlier (t .counts) → isRunning (before .mode) ≡ false
+      → (x : ℕ) → moving (t .rows) (t .counts) x ≡ false → liveMoveCountOf t x ≡ liveMoveCountOf before x
+  -- over all open blocks: the moves that the finished growths made, and those of one under way that are recorded
+  pub sum-at-rest : isRunning (t .mode) ≡ false → sum (liveMoveCountOf t) (openBlocks t) ≡ movesOfGrowths (t .rows) (t .counts)
+  pub sum-running : isRunning (t .mode) ≡ true → sum (liveMoveCountOf t) (openBlocks t)
+      ≡ movesOfGrowths (t .rows) (earlier (t .counts)) + count (atNewSpot (t .rows) (t .counts) (movedBlocks t)) (openBlocks t)
+
 -- x is an added block, "m·s ≤ x < (m+n)·s", and lives at p
 pub record AddedThere (t : Tally) (p : Spot) (m n x : ℕ) : Type 0 where
   pub not-old : m * t .rows ≤ x
@@ -178,5 +225,11 @@ pub record LayoutLaws : Type 0 where
   pub reason-true : (s : ℕ) (h : List ℕ) (x : ℕ) → rising h ≡ true → x < diskCount h * s → ReasonTrue s h x (reasonOf s h x)
   -- the three exclude each other, and no other growth or part is true
   pub only-reason : (s : ℕ) (h : List ℕ) (x : ℕ) → rising h ≡ true → (q r : Reason) → ReasonTrue s h x q → ReasonTrue s h x r → q ≡ r
+  -- by how many growths a block was moved: none at format, one more by each growth that moves it, and by no other
+  pub moves-at-format : (s c x : ℕ) → moveCountOf s (c ∷ []) x ≡ 0
+  pub moves-one-more : (s c : ℕ) (h : List ℕ) (x : ℕ) → moveCountOf s (c ∷ h) x ≡ moveCountOf s h x + cond (moving s (c ∷ h) x) 1 0
+  pub moves-true : (s : ℕ) (h : List ℕ) (x : ℕ) → rising h ≡ true → MovesTrue s h x (reasonOf s h x) (moveCountOf s h x)
+  pub growth-moves : (s : ℕ) (h : List ℕ) → rising h ≡ true → 0 < oldCount h → GrowthMoves s h
+  pub live-moves : (t : Tally) → rising (t .counts) ≡ true → (isRunning (t .mode) ≡ true → 0 < oldCount (t .counts)) → LiveMoves t
   -- L1 to L12
   pub layout-cases : TableHolds

@@ -1,6 +1,6 @@
 -- Document 01, "Looking up spots": why a block is at its spot, "set out at format or added, by the last growth that placed it, or
--- moved there, as head, body or tail, by the last growth that moved it".
-use Prim.Native.Nat.{ℕ, zero, suc, _-_}
+-- moved there, as head, body or tail, by the last growth that moved it". Document 02, W6: by how many growths it was moved.
+use Prim.Native.Nat.{ℕ, zero, suc, _+_, _-_}
 use mathlib.Core.List.{List, [], _∷_}
 use lib.ListN.{length, drop}
 use Rattle.layout.specs.declared.Address.{Address}
@@ -8,8 +8,10 @@ use Rattle.layout.specs.declared.Change.{Change}
 use Rattle.layout.specs.declared.Change.the-variants.{Moved, Added, Stays}
 use Rattle.layout.specs.declared.Reason.{Reason}
 use Rattle.layout.specs.declared.Reason.the-variants.{SetOut, AddedBy, MovedBy}
+use Rattle.base.specs.Below.{count}
 use Rattle.layout.specs.Growth.{changeOf}
 use Rattle.layout.specs.History.{spotOf}
+use Rattle.layout.specs.Windows.{moving}
 
 -- the reason after growth k, which did this with the block
 unfoldable pub reasonAfter : (change : Change) (k : ℕ) (before : Reason) → Reason
@@ -28,10 +30,6 @@ reasonOf s [] x = SetOut
 reasonOf s (c ∷ []) x = SetOut
 reasonOf s (c ∷ m ∷ h) x = reasonAfter (changeOf m (c - m) s x (spotOf s (m ∷ h) x)) (length (m ∷ h)) (reasonOf s (m ∷ h) x)
 
--- "the live spot and why it is there", of one history
-unfoldable pub addressOf : (s : ℕ) (h : List ℕ) (x : ℕ) → Address
-addressOf s h x = record { spot = spotOf s h x; reason = reasonOf s h x }
-
 -- "Growths are told by number, 1 to t; format is 0."
 unfoldable pub growthTold : (r : Reason) → ℕ
 growthTold SetOut = 0
@@ -41,3 +39,17 @@ growthTold (MovedBy k part) = k
 -- the history after its first k growths
 unfoldable pub firstGrowths : (k : ℕ) (h : List ℕ) → List ℕ
 firstGrowths k h = drop (length h - suc k) h
+
+-- "by how many growths the block was moved": those growths k, the newest of the first k, that move x. Format, told as 0, moves none.
+unfoldable pub moveCountOf : (s : ℕ) (h : List ℕ) (x : ℕ) → ℕ
+moveCountOf s h x = count (λ k. moving s (firstGrowths k h) x) (length h)
+
+-- the number after a growth, which did this with the block
+unfoldable pub movesAfter : (change : Change) (before : ℕ) → ℕ
+movesAfter (Moved part) before = before + 1
+movesAfter Added before = before
+movesAfter Stays before = before
+
+-- "the live spot and why it is there", of one history, and by how many of its growths the block was moved
+unfoldable pub addressOf : (s : ℕ) (h : List ℕ) (x : ℕ) → Address
+addressOf s h x = record { spot = spotOf s h x; reason = reasonOf s h x; moves = moveCountOf s h x }

@@ -10,7 +10,7 @@ use Rattle.layout.specs.declared.Reason.{Reason}
 use Rattle.layout.specs.declared.Spot.{Spot}
 use Rattle.layout.specs.History.{diskCount, earlier, oldCount, addedCount, spotOf, blockAt}
 use Rattle.layout.specs.Live.{atNewSpot, liveSpot, liveBlock}
-use Rattle.layout.specs.Reasons.{reasonOf}
+use Rattle.layout.specs.Reasons.{reasonOf, moveCountOf}
 use Rattle.layout.specs.Windows.{windows, oldSpot, windowOf, movingIn, markOf, nextToCopy, areCopied, callsLeft}
 
 -- whether a growth runs
@@ -58,9 +58,14 @@ growthsOf t x =
 unfoldable pub liveReasonOf : (t : Tally) (x : ℕ) → Reason
 liveReasonOf t x = reasonOf (t .rows) (growthsOf t x) x
 
--- "the live spot and why it is there"
+-- Document 02, W6: "by how many growths the block was moved. Only growths in the history count, and one under way only while the live spot is
+-- the new one."
+unfoldable pub liveMoveCountOf : (t : Tally) (x : ℕ) → ℕ
+liveMoveCountOf t x = moveCountOf (t .rows) (growthsOf t x) x
+
+-- "the live spot and why it is there", and how often x was moved
 unfoldable pub liveAddressOf : (t : Tally) (x : ℕ) → Address
-liveAddressOf t x = record { spot = liveSpotOf t x; reason = liveReasonOf t x }
+liveAddressOf t x = record { spot = liveSpotOf t x; reason = liveReasonOf t x; moves = liveMoveCountOf t x }
 
 -- "x copied but not recorded"
 unfoldable pub waiting : (t : Tally) (x : ℕ) → Bool

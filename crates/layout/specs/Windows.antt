@@ -86,6 +86,10 @@ allCopied s h w copied = areCopied (movingIn s h w) copied (oldCount h * s)
 unfoldable pub movesOfWindow : (s : ℕ) (h : List ℕ) (w : ℕ) → ℕ
 movesOfWindow s h w = count (movingIn s h w) (oldCount h * s)
 
+-- the moving blocks of all windows
+unfoldable pub movesOfGrowth : (s : ℕ) (h : List ℕ) → ℕ
+movesOfGrowth s h = count (moving s h) (oldCount h * s)
+
 -- "U counts moving blocks of window w without a copied mark and all moving blocks of later windows."
 unfoldable pub uncopied : (s : ℕ) (h : List ℕ) (w : ℕ) (copied : ℕ → Bool) → ℕ
 uncopied s h w copied =

@@ -57,8 +57,9 @@ pub enum Reason {
     MovedBy(usize, Part),
 }
 
-// What address tells of a block: its spot, and why it is there.
+// What address tells of a block: its spot, why it is there, and by how many growths it was moved.
 pub struct Address {
     pub spot: Spot,
     pub reason: Reason,
+    pub moves: usize,
 }

@@ -1,5 +1,5 @@
 -- Document 01, "Medium, state, record": sets of 64 marks, the counts after N[t], and the stages of a sound state.
-use Prim.Native.Nat.{ℕ, _*_}
+use Prim.Native.Nat.{ℕ, _+_, _*_}
 use mathlib.Core.Bool.{Bool, false, cond, not, _&&_, _||_}
 use mathlib.Core.List.{List}
 use mathlib.Core.Option.{Option, none, some}
@@ -76,11 +76,11 @@ movedAt m n w recorded p = movesFrom m n p && (ltb (windowOfRow m n (p .row)) w 
 unfoldable pub liveFrom : (m n s w : ℕ) (recorded : List Bool) (x : ℕ) (p : Spot) → Spot
 liveFrom m n s w recorded x p = cond (movedAt m n w recorded p) (spotAfter m n s x p) p
 
--- and why it is there, the growth's number being k
+-- and why it is there, the growth's number being k, and by how many growths it was moved
 unfoldable pub addressFrom : (m n s k w : ℕ) (recorded : List Bool) (x : ℕ) (old : Address) → Address
 addressFrom m n s k w recorded x old =
     cond (movedAt m n w recorded (old .spot))
-    (record { spot = spotAfter m n s x (old .spot); reason = MovedBy k (partOf m n (rowInWindow m n (old .spot .row))) })
+    (record { spot = spotAfter m n s x (old .spot); reason = MovedBy k (partOf m n (rowInWindow m n (old .spot .row))); moves = old .moves + 1 })
     old
 
 -- ---- what the code answers

@@ -8,7 +8,7 @@ ghost use lib.Dec.{eqb};
 ghost use lib.ListN.{getD};
 ghost use Rattle.layout.specs.Growth.{movesFrom};
 ghost use Rattle.layout.specs.History.{Within, history, oldCount, addedCount};
-ghost use Rattle.layout.specs.Limits.{Limits, Grows, mostRows};
+ghost use Rattle.layout.specs.Limits.{Limits, Grows, mostRows, mostGrowths};
 ghost use Rattle.layout.specs.Live.{liveBlock};
 ghost use Rattle.layout.specs.Tally.{recordedBy};
 ghost use Rattle.layout.specs.Windows.{markOfSpot, markedBlocks};
@@ -108,7 +108,8 @@ pub fn live_spot(
     live_from(g.old, g.added, s, w, recorded, x, p)
 }
 
-// The live spot of block x in growth k and why it is there, where `old` has its old spot and why it was there.
+// The live spot of block x in growth k, why it is there and by how many growths it was moved, where `old` has its old
+// spot and these of before the growth.
 pub fn address_from(
     m: usize,
     n: usize,
@@ -120,7 +121,7 @@ pub fn address_from(
     old: Address,
 ) -> Address
     requires { ⌜ Grows m n ⌝ }
-    requires { ⌜ (s ≤ mostRows) × (old .spot .disk < m) ⌝ }
+    requires { ⌜ (s ≤ mostRows) × (old .spot .disk < m) × (old .moves ≤ mostGrowths) ⌝ }
     ensures { λ r. ⌜ r ≡ addressFrom m n s k w (marksOf recorded) (x .0) old ⌝ }
 {
     let p = old.spot;
@@ -133,6 +134,7 @@ pub fn address_from(
     Address {
         spot,
         reason: Reason::MovedBy(k, part),
+        moves: old.moves + 1,
     }
 }
 

@@ -57,11 +57,12 @@ fn show_reason(reason: Reason) {
 pub fn show_address(answer: AddressAnswer) {
     match answer {
         AddressAnswer::Refused(k) => labelled(b": refusal", k),
-        AddressAnswer::At(p, reason) => {
+        AddressAnswer::At(p, reason, moves) => {
             let row = p.row;
             labelled(b": disk", p.disk);
             labelled(b", row", row.0);
             show_reason(reason);
+            labelled(b", moves", moves);
         }
     }
 }

@@ -56,7 +56,7 @@ fn kind_of(v: Volume, x: usize) -> usize {
     let answer = reply.answer;
     match answer {
         AddressAnswer::Refused(_) => 0,
-        AddressAnswer::At(p, reason) => if is_other(v, p, x) == 1 {
+        AddressAnswer::At(p, reason, _) => if is_other(v, p, x) == 1 {
             1
         } else {
             reason_number(reason)

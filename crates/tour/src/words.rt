@@ -59,17 +59,18 @@ pub fn show_answer(answer: Answer) {
     }
 }
 
-// Where block x lives, and why.
+// Where block x lives, why, and by how many growths it was moved.
 pub fn show_home(v: Volume, x: usize) {
     let reply = v.address(Block(x));
     let answer = reply.answer;
     match answer {
         AddressAnswer::Refused(k) => labelled(b" is refused with", k),
-        AddressAnswer::At(p, reason) => {
+        AddressAnswer::At(p, reason, moves) => {
             let row = p.row;
             labelled(b" lives at disk", p.disk);
             labelled(b", row", row.0);
             show_reason(reason);
+            labelled(b"; moves:", moves);
         }
     }
 }

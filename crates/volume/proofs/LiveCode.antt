@@ -20,7 +20,7 @@ use Rattle.layout.specs.History.{history, diskCount, earlier, oldCount, addedCo
 use Rattle.layout.specs.Limits.{Limits, Grows, mostDisks, mostGrowths, mostRows}
 use Rattle.layout.specs.Live.{atNewSpot, liveSpot, liveBlock}
 use Rattle.layout.specs.Reasons.{addressOf}
-use Rattle.layout.specs.Tally.{notGrowing, growing, openBlocks, recordedBy, movedBlocks, liveSpotOf, liveBlockOf, growthsOf, liveReasonOf, liveAddressOf, waiting, callsLeftOf}
+use Rattle.layout.specs.Tally.{notGrowing, growing, openBlocks, recordedBy, movedBlocks, liveSpotOf, liveBlockOf, growthsOf, liveReasonOf, liveMoveCountOf, liveAddressOf, waiting, callsLeftOf}
 use Rattle.layout.specs.Windows.{windows, windowOfRow, markOfSpot, markOf, oldSpot, movingIn, markedBlocks, callsLeft}
 use Rattle.layout.proofs.HistoryCode.{history-disks, history-length, growths-most}
 use Rattle.layout.proofs.NewestCode.{newest-asks}
@@ -100,7 +100,7 @@ module _ (v : Volume) (g : v .growing ≡ 0) where
   rest-spot x = rw rest-mode
 
   pub rest-address : (x : ℕ) → addressOf (v .rows) (countsNow v) x ≡ liveAddressOf (tallyOf v) x
-  unfolding addressOf liveAddressOf liveSpotOf liveReasonOf growthsOf tallyOf historyOf
+  unfolding addressOf liveAddressOf liveSpotOf liveReasonOf liveMoveCountOf growthsOf tallyOf historyOf
   rest-address x = rw rest-mode
 
   pub rest-block : (p : Spot) (x : Block) → x .0 ≡ blockAt (v .rows) (countsNow v) p → Lives x ≡ asLiveBlock (liveBlockOf (tallyOf v) p)
@@ -145,7 +145,7 @@ module _ (v : Volume) (g : v .growing ≢ 0) where
   growing-block p = rw growing-mode
 
   new-address : (x : ℕ) → atNewSpot (v .rows) (countsNow v) moved x ≡ true → addressOf (v .rows) (countsNow v) x ≡ liveAddressOf (tallyOf v) x
-  unfolding addressOf liveAddressOf liveSpotOf liveSpot liveReasonOf growthsOf movedBlocks tallyOf historyOf
+  unfolding addressOf liveAddressOf liveSpotOf liveSpot liveReasonOf liveMoveCountOf growthsOf movedBlocks tallyOf historyOf
   new-address x e = rw (growing-mode, e)
 
   growing-waiting : (x : ℕ) → (marked (marksOf (v .copied)) x && not (marked (marksOf (v .recorded)) x)) ≡ waiting (tallyOf v) x
@@ -180,7 +180,7 @@ module _ (v : Volume) (g : v .growing ≢ 0) where
         (limits-then, block-before (v .rows) (v .growths) (v .counts) (history-limits v e) has-growth x (old-block x h))
 
     old-address : (x : ℕ) → atNewSpot (v .rows) (countsNow v) moved x ≡ false → addressOf (v .rows) (countsBefore v) x ≡ liveAddressOf (tallyOf v) x
-    unfolding addressOf liveAddressOf liveSpotOf liveSpot oldSpot liveReasonOf growthsOf movedBlocks tallyOf historyOf
+    unfolding addressOf liveAddressOf liveSpotOf liveSpot oldSpot liveReasonOf liveMoveCountOf growthsOf movedBlocks tallyOf historyOf
     old-address x f = rw (growing-mode, f, history-before (v .growths) (v .counts) has-growth)
 
 -- ---- the newest growth, which the code has read while it runs
@@ -267,8 +267,12 @@ module _ (v : Volume) (g : v .growing ≢ 0) (e : sound v ≡ true) where
       unfolding addressOf
       a-spot = rw f
 
-      pub address-asks : Grows (d .old) (d .added) × ((v .rows ≤ mostRows) × (a .spot .disk < d .old))
-      address-asks = live-asks x h (a .spot) a-spot
+      a-moves : a .moves ≤ mostGrowths
+      unfolding addressOf
+      a-moves = rw f (moves-below ?)
+
+      pub address-asks : Grows (d .old) (d .added) × ((v .rows ≤ mostRows) × ((a .spot .disk < d .old) × (a .moves ≤ mostGrowths)))
+      address-asks = let l = live-asks x h (a .spot) a-spot in (l .0, (l .1 .0, (l .1 .1, a-moves)))
 
       number : v .growths ≡ length (earlier (countsNow v))
       number = rw (← history-before (v .growths) (v .counts) (has-growth v g e)) (omega (arith, has-growth v g e, history-length (v .growths - 1) (v .counts)))

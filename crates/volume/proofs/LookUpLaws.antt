@@ -13,14 +13,14 @@ use Rattle.base.specs.Refusals.{refusal}
 use Rattle.base.proofs.Booleans.{clash}
 use Rattle.layout.specs.declared.Spot.{Spot}
 use Rattle.layout.specs.History.{Within}
-use Rattle.layout.specs.Laws.{ReasonTrue, LookUps}
-use Rattle.layout.specs.Tally.{notGrowing, growing, isRunning, openBlocks, liveSpotOf, liveBlockOf, growthsOf, liveReasonOf}
+use Rattle.layout.specs.Laws.{ReasonTrue, LookUps, MovesTrue, LiveMoves}
+use Rattle.layout.specs.Tally.{notGrowing, growing, isRunning, openBlocks, liveSpotOf, liveBlockOf, growthsOf, liveReasonOf, liveMoveCountOf}
 use Rattle.layout.proofs.Theorems as layout
 use Rattle.medium.specs.Medium.{bytesNeeded, Inside}
 use Rattle.medium.proofs.Theorems.{medium-laws}
 use Rattle.volume.specs.declared.Volume.{Volume}
 use Rattle.volume.specs.declared.AddressAnswer.the-variants as address
-use Rattle.volume.specs.Answers.{addressNumber, spotTold, reasonTold, holderNumber, blockTold}
+use Rattle.volume.specs.Answers.{addressNumber, spotTold, reasonTold, movesTold, holderNumber, blockTold}
 use Rattle.volume.specs.Calls.{addressTable, addressReply, isNone, blockFound, holderTable, holderReply}
 use Rattle.volume.specs.Sound.{sound}
 use Rattle.volume.specs.States.{geometry, historyOf, disks, modeOf, tallyOf}
@@ -42,6 +42,12 @@ pub look-ups-of : (v : Volume) → sound v ≡ true → LookUps (tallyOf v)
 unfolding tallyOf historyOf
 look-ups-of v e =
     layout.look-ups (tallyOf v) (sound-facts v e .limits .rise)
+    (λ m. some-old v e (eqb-false (v .growing) 0 (running-number (v .growing) m)))
+
+pub live-moves-of : (v : Volume) → sound v ≡ true → LiveMoves (tallyOf v)
+unfolding tallyOf historyOf
+live-moves-of v e =
+    layout.live-moves (tallyOf v) (sound-facts v e .limits .rise)
     (λ m. some-old v e (eqb-false (v .growing) 0 (running-number (v .growing) m)))
 
 pub live-inside : (v : Volume) (x len : ℕ) → sound v ≡ true → x < openBlocks (tallyOf v) → bytesNeeded (geometry v) (disks v) ≤ len
@@ -71,7 +77,8 @@ module _ (v : Volume) (x k : ℕ) where
   address-refused e h = refused-when (addressTable v x) (λ n. record { state = v; answer = address.Refused n }) _ k e h
 
   pub address-found : k ≡ refusal (addressTable v x) → k ≡ 0
-      → addressReply v x ≡ record { state = v; answer = address.At (liveSpotOf (tallyOf v) x) (liveReasonOf (tallyOf v) x) }
+      → addressReply v x
+      ≡ record { state = v; answer = address.At (liveSpotOf (tallyOf v) x) (liveReasonOf (tallyOf v) x) (liveMoveCountOf (tallyOf v) x) }
   unfolding addressReply
   address-found e h = accepted-when (addressTable v x) (λ n. record { state = v; answer = address.Refused n }) _ k e h
 
@@ -91,6 +98,24 @@ address-reason v x e =
     let r : refusal (addressTable v x) ≡ 0 = sym (address-refuses v x .number-told) ∙ e in
     let f = address-accepted v x r in
     rw (reason-told v x r) (look-ups-of v (f .is-sound) .live-reason x (f .block-open))
+
+moves-told : (v : Volume) (x : ℕ) → refusal (addressTable v x) ≡ 0 → movesTold (addressReply v x .answer) ≡ liveMoveCountOf (tallyOf v) x
+unfolding movesTold
+moves-told v x e = rw (address-found v x (refusal (addressTable v x)) refl e)
+
+-- the growths that made a live spot are at most t
+growths-made : (v : Volume) (x : ℕ) → length (growthsOf (tallyOf v) x) - 1 ≤ v .growths
+growths-made v x = ?
+
+pub address-moves : (v : Volume) (x : ℕ) → addressNumber (addressReply v x .answer) ≡ 0
+    → (let answer = addressReply v x .answer in
+    MovesTrue (v .rows) (growthsOf (tallyOf v) x) x (reasonTold answer) (movesTold answer) × (movesTold answer ≤ v .growths))
+unfolding tallyOf
+address-moves v x e =
+    let r : refusal (addressTable v x) ≡ 0 = sym (address-refuses v x .number-told) ∙ e in
+    let f = address-accepted v x r in
+    let true-moves = live-moves-of v (f .is-sound) .live-moves-true x in
+    rw (reason-told v x r, moves-told v x r) (true-moves, omega (arith, true-moves .most-growths, growths-made v x))
 
 block-told : (v : Volume) (p : Spot) → refusal (holderTable v p) ≡ 0 → blockTold (holderReply v p .answer) ≡ blockFound (liveBlockOf (tallyOf v) p)
 unfolding holderReply blockTold

@@ -74,18 +74,22 @@ partCopied Done = none
 partCopied (CallsLeft n) = none
 partCopied (Told did n) = copiedPart did
 
--- of address: the number, the spot, and why the block is there
+-- of address: the number, the spot, why the block is there, and by how many growths it was moved
 unfoldable pub addressNumber : (a : AddressAnswer) → ℕ
 addressNumber (address.Refused k) = k
-addressNumber (address.At p reason) = 0
+addressNumber (address.At p reason moves) = 0
 
 unfoldable pub spotTold : (a : AddressAnswer) → Spot
 spotTold (address.Refused k) = record { disk = 0; row = record { 0 = 0 } }
-spotTold (address.At p reason) = p
+spotTold (address.At p reason moves) = p
 
 unfoldable pub reasonTold : (a : AddressAnswer) → Reason
 reasonTold (address.Refused k) = SetOut
-reasonTold (address.At p reason) = reason
+reasonTold (address.At p reason moves) = reason
+
+unfoldable pub movesTold : (a : AddressAnswer) → ℕ
+movesTold (address.Refused k) = 0
+movesTold (address.At p reason moves) = moves
 
 -- the part of a block that was moved
 unfoldable pub partTold : (r : Reason) → Option Part

@@ -9,7 +9,7 @@ use lib.ListN.{length}
 use Rattle.base.specs.Refusals.{refusal}
 use Rattle.layout.specs.declared.Spot.{Spot}
 use Rattle.layout.specs.Limits.{mostDisks, mostGrowths}
-use Rattle.layout.specs.Tally.{openBlocks, liveSpotOf, liveBlockOf, liveReasonOf, waiting, callsLeftOf, movesNow, sourceOf, targetOf, nextBlock}
+use Rattle.layout.specs.Tally.{openBlocks, liveSpotOf, liveBlockOf, liveReasonOf, liveMoveCountOf, waiting, callsLeftOf, movesNow, sourceOf, targetOf, nextBlock}
 use Rattle.layout.specs.Windows.{partMoved}
 use Rattle.medium.specs.declared.Geometry.{Geometry}
 use Rattle.medium.specs.Medium.{recordBytes, bytesNeeded, Observations, Store, noStore, recordStore, blockStore}
@@ -240,7 +240,8 @@ advanceEffect v o = advancing v (nextBlock (tallyOf v)) o
 unfoldable pub advanceOutcome : (v : Volume) (o : Observations) → Outcome
 advanceOutcome v o = judged (advanceTable v (o .byteCount)) (λ k. refused v k []) (advanceEffect v o)
 
--- ---- "Address of block x: 1; 3. It gives the live spot and why it is there"
+-- ---- "Address of block x: 1; 3. It gives the live spot and why it is there". Document 02, W6: "Address also tells by how many growths the
+-- block was moved."
 
 unfoldable pub addressTable : (v : Volume) (x : ℕ) → List (ℕ × Bool)
 addressTable v x = (1, not (sound v)) ∷ (3, leb (openBlocks (tallyOf v)) x) ∷ []
@@ -248,7 +249,7 @@ addressTable v x = (1, not (sound v)) ∷ (3, leb (openBlocks (tallyOf v)) x) �
 unfoldable pub addressReply : (v : Volume) (x : ℕ) → AddressReply
 addressReply v x =
     judged (addressTable v x) (λ k. record { state = v; answer = address.Refused k })
-    (record { state = v; answer = address.At (liveSpotOf (tallyOf v) x) (liveReasonOf (tallyOf v) x) })
+    (record { state = v; answer = address.At (liveSpotOf (tallyOf v) x) (liveReasonOf (tallyOf v) x) (liveMoveCountOf (tallyOf v) x) })
 
 -- ---- "Holder of (d, b): 1; 14, d ≥ N[t] or b ≥ s; 15, no open block lives there. It gives the block."
 

@@ -12,7 +12,7 @@ use Rattle.layout.specs.declared.Part.{Part}
 use Rattle.layout.specs.declared.Reason.the-variants.{MovedBy}
 use Rattle.layout.specs.declared.Spot.{Spot}
 use Rattle.layout.specs.History.{oldCount, addedCount}
-use Rattle.layout.specs.Laws.{ReasonTrue, LookUps}
+use Rattle.layout.specs.Laws.{ReasonTrue, LookUps, MovesTrue, LiveMoves}
 use Rattle.layout.specs.Limits.{Limits}
 use Rattle.layout.specs.Reasons.{growthTold}
 use Rattle.layout.specs.Tally.{isRunning, movedBlocks, liveSpotOf, growthsOf, waiting, movesNow, sourceOf, nextBlock}
@@ -25,7 +25,7 @@ use Rattle.volume.specs.declared.Advanced.the-variants.{Copied}
 use Rattle.volume.specs.declared.Answer.the-variants.{Told}
 use Rattle.volume.specs.declared.Pending.{Pending}
 use Rattle.volume.specs.declared.Volume.{Volume}
-use Rattle.volume.specs.Answers.{number, callsTold, blockCopied, partCopied, addressNumber, spotTold, reasonTold, partTold, holderNumber, blockTold}
+use Rattle.volume.specs.Answers.{number, callsTold, blockCopied, partCopied, addressNumber, spotTold, reasonTold, movesTold, partTold, holderNumber, blockTold}
 use Rattle.volume.specs.Calls.{Outcome, formatTable, formatOutcome, restartTable, restartOutcome, sectorTable, sectorOutcome, growTable, growOutcome, writeTable, writeOutcome, readTable, readOutcome, copyTable, copyOutcome, nothingToRecord, checkpointTable, checkpointOutcome, advanceTable, advanceOutcome, flushedTable, flushedOutcome, addressTable, addressReply, holderTable, holderReply}
 use Rattle.volume.specs.Records.{recordOf, stateRead, isSoundRecord}
 use Rattle.volume.specs.Sound.{sizeStep, leastSize, movingOf, sound}
@@ -92,6 +92,7 @@ pub record AddressRefuses (v : Volume) (x : ℕ) : Type 0 where
   pub no-spot : refusal (addressTable v x) ≢ 0 → spotTold (addressReply v x .answer) ≡ record { disk = 0; row = record { 0 = 0 } }
   pub no-growth : refusal (addressTable v x) ≢ 0 → growthTold (reasonTold (addressReply v x .answer)) ≡ 0
   pub no-part : refusal (addressTable v x) ≢ 0 → partTold (reasonTold (addressReply v x .answer)) ≡ none
+  pub no-moves : refusal (addressTable v x) ≢ 0 → movesTold (addressReply v x .answer) ≡ 0
 
 pub record HolderRefuses (v : Volume) (p : Spot) : Type 0 where
   pub number-told : holderNumber (holderReply v p .answer) ≡ refusal (holderTable v p)
@@ -161,6 +162,11 @@ pub record VolumeLaws : Type 0 where
   -- the reason that address tells is true of the growths that made the live spot
   pub address-reason : (v : Volume) (x : ℕ) → addressNumber (addressReply v x .answer) ≡ 0
       → ReasonTrue (v .rows) (growthsOf (tallyOf v) x) x (reasonTold (addressReply v x .answer))
+  -- and so is the number of growths that moved the block: at most t, and 0 exactly where none did
+  pub address-moves : (v : Volume) (x : ℕ) → addressNumber (addressReply v x .answer) ≡ 0
+      → (let answer = addressReply v x .answer in
+      MovesTrue (v .rows) (growthsOf (tallyOf v) x) x (reasonTold answer) (movesTold answer) × (movesTold answer ≤ v .growths))
+  pub live-moves : (v : Volume) → sound v ≡ true → LiveMoves (tallyOf v)
   -- address and holder are inverse to each other in every stage of a growth, and after a finished one 15 never occurs
   pub look-ups : (v : Volume) → sound v ≡ true → LookUps (tallyOf v)
   pub holder-of-address : (v : Volume) (x : ℕ) → addressNumber (addressReply v x .answer) ≡ 0

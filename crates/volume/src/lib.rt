@@ -66,10 +66,11 @@ struct SpotFound {
     mark: usize,
 }
 
-// The answer of address: refused with a number, or the live spot and why the block is there.
+// The answer of address: refused with a number, or the live spot, why the block is there, and by how many growths it
+// was moved.
 pub enum AddressAnswer {
     Refused(usize),
-    At(Spot, Reason),
+    At(Spot, Reason, usize),
 }
 
 pub struct AddressReply {

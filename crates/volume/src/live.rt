@@ -93,7 +93,7 @@ impl Volume {
         marks::live_spot(&counts, t, s, growing, w, self.recorded, x, old)
     }
 
-    // The live spot of block x, and why it is there.
+    // The live spot of block x, why it is there, and by how many growths it was moved.
     pub(crate) fn live_address(self, counts: &[usize; 8], x: Block) -> Address
         requires { ⌜ sound self ≡ true ⌝ }
         requires { ⌜ now counts ≡ self .counts ⌝ }

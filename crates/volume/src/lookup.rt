@@ -28,7 +28,7 @@ impl Volume {
         0
     }
 
-    // Where block x lives, and why.
+    // Where block x lives, why, and by how many growths it was moved.
     pub fn address(self, x: Block) -> AddressReply
         ensures { λ r. ⌜ r ≡ addressReply self (x .0) ⌝ }
     {
@@ -43,9 +43,10 @@ impl Volume {
         let found = self.live_address(&counts, x);
         let spot = found.spot;
         let reason = found.reason;
+        let moves = found.moves;
         AddressReply {
             state: self,
-            answer: AddressAnswer::At(spot, reason),
+            answer: AddressAnswer::At(spot, reason, moves),
         }
     }
 

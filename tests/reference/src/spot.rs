@@ -34,6 +34,8 @@ pub enum Why {
 pub struct Place {
     pub spot: Spot,
     pub why: Why,
+    /// By how many growths the block was moved.
+    pub moves: u64,
 }
 
 /// Where block `x` is after the growths that led through `counts`.
@@ -47,6 +49,7 @@ pub fn after(counts: &[u64], s: u64, x: Block) -> Place {
         return Place {
             spot,
             why: Why::SetOut,
+            moves: 0,
         };
     }
     let (m, n) = (counts[t - 1], counts[t] - counts[t - 1]);
@@ -55,6 +58,7 @@ pub fn after(counts: &[u64], s: u64, x: Block) -> Place {
         return Place {
             spot: added(m, n, s, x),
             why: Why::Added { growth },
+            moves: 0,
         };
     }
     let old = after(&counts[..t], s, x);
@@ -62,6 +66,7 @@ pub fn after(counts: &[u64], s: u64, x: Block) -> Place {
         Some((spot, part)) => Place {
             spot,
             why: Why::Moved { growth, part },
+            moves: old.moves + 1,
         },
         None => old,
     }

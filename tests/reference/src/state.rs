@@ -147,24 +147,27 @@ impl State {
         }
     }
 
-    /// Where open block `x` lives, and why there.
+    /// Where open block `x` lives, why there, and by how many growths it was
+    /// moved: one under way counts while the block lives at its new spot.
     pub fn live(&self, x: Block) -> Place {
         let counts = self.used_counts();
         if self.growing == 0 {
             return after(counts, self.s, x);
         }
-        let t = self.t as usize;
+        let old = after(&counts[..self.t as usize], self.s, x);
         match self.growth().move_of(x) {
             Some(step)
                 if step.window < self.w
                     || step.window == self.w && marked(self.recorded, step.mark) =>
             {
-                let (spot, part) = (step.new, step.part);
-                let growth = self.t;
-                let why = Why::Moved { growth, part };
-                Place { spot, why }
+                let (growth, part) = (self.t, step.part);
+                Place {
+                    spot: step.new,
+                    why: Why::Moved { growth, part },
+                    moves: old.moves + 1,
+                }
             }
-            _ => after(&counts[..t], self.s, x),
+            _ => old,
         }
     }
 

@@ -2,6 +2,7 @@
 
 use crate::spot::{after, Block, Spot};
 use crate::window::{Growth, Move};
+use std::collections::BTreeMap;
 
 #[derive(Clone, Debug)]
 pub struct Tally {
@@ -11,6 +12,8 @@ pub struct Tally {
     w: u64,
     copied: Vec<Block>,
     recorded: Vec<Block>,
+    /// How often a copy of each block became a recorded one, since format.
+    times: BTreeMap<Block, u64>,
 }
 
 impl Tally {
@@ -22,6 +25,7 @@ impl Tally {
             w: 0,
             copied: Vec::new(),
             recorded: Vec::new(),
+            times: BTreeMap::new(),
         }
     }
 
@@ -38,6 +42,9 @@ impl Tally {
     }
 
     pub fn checkpoint(&mut self) {
+        for x in self.copied.iter().filter(|x| !self.recorded.contains(x)) {
+            *self.times.entry(*x).or_default() += 1;
+        }
         self.recorded = self.copied.clone();
         let full = self
             .moves()
@@ -97,6 +104,11 @@ impl Tally {
             Some(step) if step.window < self.w || self.recorded.contains(&x) => step.new,
             _ => self.growth().old_spot(x),
         }
+    }
+
+    /// By how many growths block `x` was moved: a growth records its copy once.
+    pub fn times_moved(&self, x: Block) -> u64 {
+        self.times.get(&x).copied().unwrap_or(0)
     }
 
     /// The advance calls left, U + R - w; 0 when no growth runs.

@@ -81,6 +81,7 @@ impl<'a> Layout<'a> {
             0 => Why::SetOut,
             growth => Why::Added { growth },
         };
+        let mut times = 0;
         for growth in placed + 1..=self.t {
             let (m, n) = self.disks(growth);
             let b1 = b % (m + n);
@@ -89,13 +90,18 @@ impl<'a> Layout<'a> {
                 d = disk;
                 let growth = growth as u64;
                 why = Why::Moved { growth, part };
+                times += 1;
             }
         }
         let spot = Spot {
             disk: d as u64,
             row: Row(b as u64),
         };
-        Place { spot, why }
+        Place {
+            spot,
+            why,
+            moves: times,
+        }
     }
 
     /// Disk and row of block `x`.

@@ -260,19 +260,23 @@ fn live(state: &State, run: Option<Run>, x: u32) -> (Place, bool) {
     let mark = run.mark(d0, b1);
     if done(state, window, mark) {
         let (d, part) = run.target(d0, b1);
-        return (moved_to(d, b, state.t, part), false);
+        return (moved_to(old, d, state.t, part), false);
     }
     let waits = window as u64 == state.w && state.copied >> mark & 1 == 1;
     (old, waits)
 }
 
-fn moved_to(d: u32, b: u32, growth: u64, part: Part) -> Place {
+/// The place of a block that this growth moved to disk `d`.
+fn moved_to(old: Place, d: u32, growth: u64, part: Part) -> Place {
     let spot = Spot {
         disk: d as u64,
-        row: Row(b as u64),
+        ..old.spot
     };
-    let why = Why::Moved { growth, part };
-    Place { spot, why }
+    Place {
+        spot,
+        why: Why::Moved { growth, part },
+        moves: old.moves + 1,
+    }
 }
 
 fn copy_mark(state: State, medium: &mut [u8], run: Run, d0: u32, b: u32, mark: u32) -> Next {

@@ -1,4 +1,4 @@
--- `address_of` meets its contract. The loop's invariant: at and reason are those of the block after k growths, and it is there then.
+-- `address_of` meets its contract. The loop's invariant: at, reason and moves are those of the block after k growths, and it is there then.
 use Prim.Native.Nat.{_+_, _-_, _<_, _≤_}
 use mathlib.Core.Path.{_≡_, _∙_}
 use native.Mathlib.Omega.{arith}
@@ -6,16 +6,22 @@ use lib.ListN.{getD}
 use borrow.Author.Needs.{needs}
 use Rattle.layout.specs.Limits.{Grows, mostGrowths}
 use Rattle.layout.specs.History.{history, spotOf}
-use Rattle.layout.specs.Reasons.{reasonOf, addressOf}
-use Rattle.layout.proofs.HistoryCode.{growths-most, limits-at, There, turn-up, turn-grows, turn-there, turn-disk, spot-next, reason-placed, reason-next}
+use Rattle.layout.specs.Reasons.{reasonOf, moveCountOf, addressOf}
+use Rattle.layout.proofs.HistoryCode.{growths-most, limits-at, There, turn-up, turn-grows, turn-there, turn-disk, spot-next, reason-placed, reason-next, moves-placed, moves-next, moves-below}
 use Rattle.layout.proofs.history.address_of.Statement.{statement}
 use Rattle.layout.proofs.history.address_of.Tie as tie
 
 abbrev Inv-loop : tie.InvT-loop
-Inv-loop counts t s number k₀ at₀ reason₀ k at reason = (k ≤ t) × (t ≤ mostGrowths) × There s k counts number × (at ≡ spotOf s (history k counts) number) × (reason ≡ reasonOf s (history k counts) number)
+Inv-loop counts t s number k₀ at₀ reason₀ moves₀ k at reason moves =
+    (k ≤ t)
+    × (t ≤ mostGrowths)
+    × There s k counts number
+    × (at ≡ spotOf s (history k counts) number)
+    × (reason ≡ reasonOf s (history k counts) number)
+    × (moves ≡ moveCountOf s (history k counts) number)
 
 abbrev μ-loop : tie.MeasureT-loop
-μ-loop counts t s number k₀ at₀ reason₀ k at reason = t - k
+μ-loop counts t s number k₀ at₀ reason₀ moves₀ k at reason moves = t - k
 
 placed-by-requires : tie.Need-placed-by-requires Inv-loop μ-loop
 placed-by-requires c κs = c .pre
@@ -35,6 +41,7 @@ loop-holds c =
       by .1,
       c .before .placed-at .ensures,
       c .placed-reason .ensures ∙ reason-placed _ _ (start .args .counts .now) _ (by .2),
+      moves-placed _ _ (start .args .counts .now) _ (limits-at _ _ _ (start .args .counts .now) (start .pre .0) (by .0) .rise) (by .2),
     )
 
 mul-m : tie.Need-mul-m Inv-loop μ-loop
@@ -79,8 +86,13 @@ add-reason-after c = search needs
 reason-after-requires : tie.Need-reason-after-requires Inv-loop μ-loop
 reason-after-requires c κs = search needs
 
+moves-after-requires : tie.Need-moves-after-requires Inv-loop μ-loop
+moves-after-requires c κs =
+    let inv = c .before .before .before .before .before .loop .inv in
+    moves-below _ _ _ (c .before .before .before .before .before .before .before .before .before .args .counts .now) _ _ (inv .1) (inv .0) (inv .5)
+
 old-block-spot-requires : tie.Need-old-block-spot-requires Inv-loop μ-loop
-old-block-spot-requires c κs = old (c .before .before .before .before)
+old-block-spot-requires c κs = old (c .before .before .before .before .before)
 
 add-k : tie.Need-add-k Inv-loop μ-loop
 add-k c = search needs
@@ -90,21 +102,22 @@ loop-less c = search needs
 
 loop-again : tie.Need-loop-again Inv-loop μ-loop
 loop-again c =
-    let turn = c .before .before .before .before .before in
-    let start = c .before .before .before .before .before .before .before .before .before .before in
+    let turn = c .before .before .before .before .before .before in
+    let start = c .before .before .before .before .before .before .before .before .before .before .before in
     let inv = turn .before .loop .inv in (
       omega arith,
       inv .1,
       turn-there _ _ _ (start .args .counts .now) (start .pre .0) _ (turn .loop-test .taken) (inv .2),
       spot-next _ _ (start .args .counts .now) _ _ _ (inv .2) (inv .3) (c .old-block-spot .ensures),
-      reason-next _ _ (start .args .counts .now) _ _ _ _ _ (inv .2) (inv .3) (inv .4) (c .before .before .old-change .ensures) (c .before .reason-after .ensures),
+      reason-next _ _ (start .args .counts .now) _ _ _ _ _ (inv .2) (inv .3) (inv .4) (c .before .before .before .old-change .ensures) (c .before .before .reason-after .ensures),
+      moves-next _ _ (start .args .counts .now) _ _ _ _ _ (inv .2) (inv .3) (inv .5) (c .before .before .before .old-change .ensures) (c .before .moves-after .ensures),
     )
 
 returns : tie.Need-returns Inv-loop μ-loop
 unfolding addressOf
 returns c =
     let e : c .before .loop .k ≡ c .before .before .before .before .before .args .t = omega arith in
-    rw (c .before .loop .inv .3, c .before .loop .inv .4, e)
+    rw (c .before .loop .inv .3, c .before .loop .inv .4, c .before .loop .inv .5, e)
 
 pub address-of-spec : {M : Type 1} → statement M
 address-of-spec =
@@ -125,6 +138,7 @@ address-of-spec =
     old-change-requires
     add-reason-after
     reason-after-requires
+    moves-after-requires
     old-block-spot-requires
     add-k
     loop-less
