@@ -1,13 +1,13 @@
 -- Histories whose disk counts rise, and the first growths of a history.
 use Prim.Native.Nat.{ℕ, suc, _-_, _≤_, _<_}
-use mathlib.Core.Path.{_≡_}
+use mathlib.Core.Path.{_≡_, refl}
 use mathlib.Core.Bool.{true, false≢true}
 use mathlib.Core.List.{List, [], _∷_}
 use native.Mathlib.Omega.{arith}
 use lib.Dec.{ltb}
 use lib.ListN.{length}
 use borrow.Author.Tests.{ltb-true, leb-true}
-use Rattle.layout.specs.History.{rising}
+use Rattle.layout.specs.History.{earlier, rising}
 use Rattle.layout.specs.Reasons.{firstGrowths}
 use Rattle.base.proofs.Booleans.{and-left, and-right}
 
@@ -29,6 +29,11 @@ rising-some c [] e = leb-true 1 c e
 rising-some c (m ∷ h) e = omega (arith, rising-up c m h e)
 
 -- ---- the first growths of a history
+
+pub earlier-length : (h : List ℕ) → length (earlier h) ≡ length h - 1
+unfolding earlier
+earlier-length [] = refl
+earlier-length (c ∷ h) = omega arith
 
 pub all-growths : (k : ℕ) (h : List ℕ) → length h ≤ suc k → firstGrowths k h ≡ h
 unfolding firstGrowths

@@ -58,7 +58,7 @@ moved-away s [] x r e f = not-rising r
 moved-away s (c ∷ []) x r e f = clash e (format-unmoved s c x)
 moved-away s (c ∷ m ∷ h) x r e f = moved-elsewhere s c m h r x e f
 
-moved-more : (s : ℕ) (h : List ℕ) (x : ℕ) → moving s h x ≡ true → moveCountOf s h x ≡ moveCountOf s (earlier h) x + 1
+pub moved-more : (s : ℕ) (h : List ℕ) (x : ℕ) → moving s h x ≡ true → moveCountOf s h x ≡ moveCountOf s (earlier h) x + 1
 unfolding oldCount earlier diskCount
 moved-more s [] x e = clash e (new-unmoved s [] x (omega arith))
 moved-more s (c ∷ h) x e = rw e at (moves-one-more s c h x)

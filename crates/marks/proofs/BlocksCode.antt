@@ -20,6 +20,7 @@ use Rattle.layout.specs.Reasons.{reasonAfter, addressOf}
 use Rattle.layout.specs.Tally.{recordedBy}
 use Rattle.layout.specs.Windows.{windowOfRow, markOfSpot, oldSpot, moving, windowOf, movingIn, markOf, markedBlocks}
 use Rattle.layout.proofs.HistoryCode.{history-disks, limits-at, newest-old, back-added, back-older}
+use Rattle.layout.proofs.LiveMoves.{moved-more}
 use Rattle.layout.proofs.MarkSpots.{mark-below}
 use Rattle.layout.proofs.NewestCode.{old-is, added-is, newest-grows}
 use Rattle.layout.proofs.Theorems.{disks-sum, spots-and-blocks, spot-after-newest, reason-after-newest}
@@ -170,7 +171,7 @@ pub live-from-spot : (s : ℕ) (h : List ℕ) (w x : ℕ) → rising h ≡ true 
 unfolding liveFrom liveSpot
 live-from-spot s h w x r g k marks = rw (moved-at-spot s h w x k marks, ← spot-after-newest s h r g x)
 
--- and why it is there: the reason before the growth, or that it moved
+-- why it is there, the reason before the growth or that it moved, and how often it was moved, as often as before or once more
 module _ (s : ℕ) (h : List ℕ) (w x k : ℕ) (below : x < oldCount h * s) (marks : List Bool) where
   abbrev newest : (old : Address) → Address
   newest old = addressFrom (oldCount h) (addedCount h) s k w marks x old
@@ -186,14 +187,18 @@ module _ (s : ℕ) (h : List ℕ) (w x k : ℕ) (below : x < oldCount h * s) (ma
   unfolding addressFrom addressOf
   address-stays e = rw (moved-told, e)
 
+  moving-then : moved ≡ true → moving s h x ≡ true
+  unfolding atNewSpot
+  moving-then e = and-left (moving s h x) _ e
+
   moves-then : moved ≡ true → movesFrom (oldCount h) (addedCount h) (spotOf s (earlier h) x) ≡ true
-  unfolding atNewSpot moving oldSpot
-  moves-then e = and-right (ltb x (oldCount h * s)) _ (and-left (moving s h x) _ e)
+  unfolding moving oldSpot
+  moves-then e = and-right (ltb x (oldCount h * s)) _ (moving-then e)
 
   pub address-moved : rising h ≡ true → 0 < oldCount h → k ≡ length (earlier h) → moved ≡ true → newest (addressOf s (earlier h) x) ≡ addressOf s h x
   unfolding addressFrom addressOf reasonAfter changeOf oldSpot
   address-moved r g q e =
-      rw (moved-told, e, q, spot-after-newest s h r g x, reason-after-newest s h r g x, lt-ltb x (oldCount h * s) below, moves-then e)
+      rw (moved-told, e, q, spot-after-newest s h r g x, reason-after-newest s h r g x, lt-ltb x (oldCount h * s) below, moves-then e, moved-more s h x (moving-then e))
 
 -- ---- spots of old blocks
 

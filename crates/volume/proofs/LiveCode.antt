@@ -22,7 +22,7 @@ use Rattle.layout.specs.Live.{atNewSpot, liveSpot, liveBlock}
 use Rattle.layout.specs.Reasons.{addressOf}
 use Rattle.layout.specs.Tally.{notGrowing, growing, openBlocks, recordedBy, movedBlocks, liveSpotOf, liveBlockOf, growthsOf, liveReasonOf, liveMoveCountOf, liveAddressOf, waiting, callsLeftOf}
 use Rattle.layout.specs.Windows.{windows, windowOfRow, markOfSpot, markOf, oldSpot, movingIn, markedBlocks, callsLeft}
-use Rattle.layout.proofs.HistoryCode.{history-disks, history-length, growths-most}
+use Rattle.layout.proofs.HistoryCode.{history-disks, history-length, growths-most, moves-below}
 use Rattle.layout.proofs.NewestCode.{newest-asks}
 use Rattle.layout.proofs.Theorems.{spot-after-newest}
 use Rattle.marks.specs.declared.LiveBlock.the-variants.{Lives}
@@ -269,10 +269,12 @@ module _ (v : Volume) (g : v .growing ≢ 0) (e : sound v ≡ true) where
 
       a-moves : a .moves ≤ mostGrowths
       unfolding addressOf
-      a-moves = rw f (moves-below ?)
+      a-moves =
+          moves-below (v .rows) (v .growths) (v .growths - 1) (v .counts) x (a .moves) (growths-most (v .rows) (v .growths) (v .counts) (history-limits v e))
+          (omega arith) (ap (λ (b : Address). b .moves) f)
 
-      pub address-asks : Grows (d .old) (d .added) × ((v .rows ≤ mostRows) × ((a .spot .disk < d .old) × (a .moves ≤ mostGrowths)))
-      address-asks = let l = live-asks x h (a .spot) a-spot in (l .0, (l .1 .0, (l .1 .1, a-moves)))
+      pub address-asks : Grows (d .old) (d .added) × ((v .rows ≤ mostRows) × (a .spot .disk < d .old) × (a .moves ≤ mostGrowths))
+      address-asks = let l = live-asks x h (a .spot) a-spot in (l .0, (l .1 .0, l .1 .1, a-moves))
 
       number : v .growths ≡ length (earlier (countsNow v))
       number = rw (← history-before (v .growths) (v .counts) (has-growth v g e)) (omega (arith, has-growth v g e, history-length (v .growths - 1) (v .counts)))

@@ -1,20 +1,23 @@
 -- Looking up the blocks of a sound state: a live spot lies in the medium, the reason told is true, address and holder are inverse to each
 -- other, and after a finished growth 15 never occurs.
-use Prim.Native.Nat.{ℕ, _≤_, _<_}
+use Prim.Native.Nat.{ℕ, _-_, _≤_, _<_}
 use mathlib.Core.Path.{_≡_, refl, sym, ap, _∙_}
 use mathlib.Core.Bool.{Bool, true, false, cond, not, false≢true}
 use mathlib.Core.List.{[], _∷_}
-use mathlib.Core.Logic.{_≢_}
+use mathlib.Core.Logic.{_≢_, ⊎-elim}
 use mathlib.Core.Option.{Option, none, some}
 use native.Mathlib.Omega.{arith}
 use lib.Dec.{eqb, leb}
+use lib.ListN.{length}
 use borrow.Author.Tests.{eqb-false, eq-eqb, lt-leb, not-false}
 use Rattle.base.specs.Refusals.{refusal}
 use Rattle.base.proofs.Booleans.{clash}
 use Rattle.layout.specs.declared.Spot.{Spot}
-use Rattle.layout.specs.History.{Within}
+use Rattle.layout.specs.History.{Within, history, earlier}
 use Rattle.layout.specs.Laws.{ReasonTrue, LookUps, MovesTrue, LiveMoves}
 use Rattle.layout.specs.Tally.{notGrowing, growing, isRunning, openBlocks, liveSpotOf, liveBlockOf, growthsOf, liveReasonOf, liveMoveCountOf}
+use Rattle.layout.proofs.HistoryCode.{history-length}
+use Rattle.layout.proofs.Histories.{earlier-length}
 use Rattle.layout.proofs.Theorems as layout
 use Rattle.medium.specs.Medium.{bytesNeeded, Inside}
 use Rattle.medium.proofs.Theorems.{medium-laws}
@@ -104,8 +107,14 @@ unfolding movesTold
 moves-told v x e = rw (address-found v x (refusal (addressTable v x)) refl e)
 
 -- the growths that made a live spot are at most t
-growths-made : (v : Volume) (x : ℕ) → length (growthsOf (tallyOf v) x) - 1 ≤ v .growths
-growths-made v x = ?
+growths-made : (v : Volume) (x : ℕ) → sound v ≡ true → length (growthsOf (tallyOf v) x) - 1 ≤ v .growths
+unfolding tallyOf historyOf
+growths-made v x e =
+    let h = history (v .growths) (v .counts) in
+    let all = history-length (v .growths) (v .counts) in
+    ⊎-elim (λ (q : growthsOf (tallyOf v) x ≡ h). rw q (omega (arith, all)))
+    (λ (q : growthsOf (tallyOf v) x ≡ earlier h). rw q (omega (arith, all, earlier-length h)))
+    (look-ups-of v e .all-or-earlier x)
 
 pub address-moves : (v : Volume) (x : ℕ) → addressNumber (addressReply v x .answer) ≡ 0
     → (let answer = addressReply v x .answer in
@@ -115,7 +124,7 @@ address-moves v x e =
     let r : refusal (addressTable v x) ≡ 0 = sym (address-refuses v x .number-told) ∙ e in
     let f = address-accepted v x r in
     let true-moves = live-moves-of v (f .is-sound) .live-moves-true x in
-    rw (reason-told v x r, moves-told v x r) (true-moves, omega (arith, true-moves .most-growths, growths-made v x))
+    rw (reason-told v x r, moves-told v x r) (true-moves, omega (arith, true-moves .most-growths, growths-made v x (f .is-sound)))
 
 block-told : (v : Volume) (p : Spot) → refusal (holderTable v p) ≡ 0 → blockTold (holderReply v p .answer) ≡ blockFound (liveBlockOf (tallyOf v) p)
 unfolding holderReply blockTold

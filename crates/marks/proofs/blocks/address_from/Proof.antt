@@ -1,5 +1,6 @@
 -- `address_from` meets its contract.
 use mathlib.Core.Path.{sym, _∙_}
+use native.Mathlib.Omega.{arith}
 use borrow.Author.Needs.{needs}
 use borrow.Author.Tests.{not-true, not-false}
 use Rattle.marks.specs.Marks.{addressFrom}
@@ -25,10 +26,13 @@ part-of-requires c κs = search needs
 spot-after-requires : tie.Need-spot-after-requires
 spot-after-requires c κs = search needs
 
+add-t15 : tie.Need-add-t15
+add-t15 c = omega (arith, c .before .before .before .before .before .before .before .before .pre .1 .2)
+
 returns-2 : tie.Need-returns-2
 unfolding addressFrom
 returns-2 c =
-    rw (sym (c .before .before .before .before .before .at-new-spot .ensures) ∙ not-false _ (c .before .before .before .before .if1 .left), c .before .part-of .ensures, c .spot-after .ensures)
+    rw (sym (c .before .before .before .before .before .before .at-new-spot .ensures) ∙ not-false _ (c .before .before .before .before .before .if1 .left), c .before .before .part-of .ensures, c .before .spot-after .ensures)
 
 pub address-from-spec : {M : Type 1} → statement M
 address-from-spec =
@@ -40,4 +44,5 @@ address-from-spec =
     rem-part-of
     part-of-requires
     spot-after-requires
+    add-t15
     returns-2)
