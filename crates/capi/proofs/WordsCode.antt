@@ -1,7 +1,7 @@
 -- What the code of the words needs besides: lists of numbers written out one by one, and a slice stored number by number.
 use Prim.Native.Nat.{ℕ, _+_, _≤_, _<_}
-use mathlib.Core.Path.{_≡_, sym, _∙_}
-use mathlib.Core.List.{List, [], _∷_}
+use mathlib.Core.Path.{_≡_, sym, ap, _∙_}
+use mathlib.Core.List.{List, [], _∷_, _++_}
 use native.Mathlib.Numerals.{add-one}
 use native.Mathlib.Omega.{arith}
 use lib.ListN.{length, take, getD, set, drop-of-length-le}
@@ -14,6 +14,10 @@ use Rattle.base.proofs.Lists.{table-self}
 pub three-listed : (l : List ℕ) → length l ≡ 3 → getD l 0 0 ∷ getD l 1 0 ∷ getD l 2 0 ∷ [] ≡ l
 unfolding table
 three-listed l e = table-self 0 l 3 e
+
+-- with others behind them
+pub three-before : (l rest : List ℕ) → length l ≡ 3 → getD l 0 0 ∷ getD l 1 0 ∷ getD l 2 0 ∷ rest ≡ l ++ rest
+three-before l rest e = ap (_++ rest) (three-listed l e)
 
 -- ---- a slice stored number by number
 

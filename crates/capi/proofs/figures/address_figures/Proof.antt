@@ -3,7 +3,7 @@ use mathlib.Core.Path.{_≡_}
 use lib.ListN.{length}
 use borrow.Author.Needs.{needs}
 use Rattle.capi.specs.Figures.{addressFigures}
-use Rattle.capi.proofs.WordsCode.{three-listed}
+use Rattle.capi.proofs.WordsCode.{three-before}
 use Rattle.capi.proofs.figures.address_figures.Statement.{statement}
 use Rattle.capi.proofs.figures.address_figures.Tie as tie
 
@@ -16,14 +16,14 @@ enum-known-a c = search needs
 reason-figures-requires : tie.Need-reason-figures-requires
 reason-figures-requires c κs = search needs
 
-array-read-t10 : tie.Need-array-read-t10
-array-read-t10 c = search needs
+array-read-t11 : tie.Need-array-read-t11
+array-read-t11 c = search needs
 
-array-read-t13 : tie.Need-array-read-t13
-array-read-t13 c = search needs
+array-read-t14 : tie.Need-array-read-t14
+array-read-t14 c = search needs
 
-array-read-t16 : tie.Need-array-read-t16
-array-read-t16 c = search needs
+array-read-t17 : tie.Need-array-read-t17
+array-read-t17 c = search needs
 
 returns : tie.Need-returns
 unfolding addressFigures
@@ -33,7 +33,7 @@ returns-2 : tie.Need-returns-2
 unfolding addressFigures
 returns-2 c =
     let e : length (c .before .reason-figures .result) ≡ 3 = search needs in
-    rw (c .before .before .before .a .given .1, three-listed _ e, c .before .reason-figures .ensures)
+    rw (c .before .before .before .a .given .1, three-before (c .before .reason-figures .result) _ e, c .before .reason-figures .ensures)
 
 pub address-figures-spec : {M : Type 1} → statement M
 address-figures-spec =
@@ -42,8 +42,8 @@ address-figures-spec =
     enum-told
     enum-known-a
     reason-figures-requires
-    array-read-t10
-    array-read-t13
-    array-read-t16
+    array-read-t11
+    array-read-t14
+    array-read-t17
     returns
     returns-2)
