@@ -1,9 +1,9 @@
 /*
  * Streterva: a RAID-0 volume (striping without parity) that takes more disks while it is in use.
  *
- * Link with libcapi.a (x86-64). "Document 01" is the specification, and "document 02" that of load, flushed and view;
- * numbers and words here are their own: a block is an address in the volume, a row is a position on one disk, a spot is
- * a disk and a row.
+ * Link with libcapi.a (x86-64). "Document 01" is the specification, and "document 02" that of load, flushed, view and
+ * the number of moves; numbers and words here are their own: a block is an address in the volume, a row is a position
+ * on one disk, a spot is a disk and a row.
  *
  * Answers. Every function returns 0 when it accepts the call, or else the number of the refusal (enum
  * streterva_refusal). Tests are made in the order given at each function, and the first that fails gives the number. A
@@ -126,7 +126,7 @@ extern "C" {
 #define STRETERVA_LEFT_FIGURES 1
 #define STRETERVA_ADVANCE_FIGURES 4
 #define STRETERVA_VIEW_FIGURES 2
-#define STRETERVA_ADDRESS_FIGURES 5
+#define STRETERVA_ADDRESS_FIGURES 6
 #define STRETERVA_HOLDER_FIGURES 1
 #define STRETERVA_LOAD_FIGURES 17
 
@@ -221,7 +221,8 @@ enum streterva_address_figure {
     STRETERVA_ADDRESS_ROW = 1,
     STRETERVA_ADDRESS_WHY = 2,    /* an enum streterva_why */
     STRETERVA_ADDRESS_GROWTH = 3, /* the growth that put the block there, 1 to t; 0 for format */
-    STRETERVA_ADDRESS_PART = 4    /* an enum streterva_part when moved, else 0 */
+    STRETERVA_ADDRESS_PART = 4,   /* an enum streterva_part when moved, else 0 */
+    STRETERVA_ADDRESS_MOVES = 5   /* by how many growths the block was moved, 0 to t */
 };
 
 /* Why a block is where it is. */
@@ -346,9 +347,12 @@ uint64_t streterva_view(const uint64_t *state, size_t state_words, size_t first_
                         uint64_t first_disks, uint64_t block, uint64_t *figures, size_t figures_words);
 
 /*
- * Address: tells the live spot of the block, where it is read and written now, and why it is there.
+ * Address: tells the live spot of the block, where it is read and written now, why it is there, and by how many growths
+ * the block was moved. Only growths in the history count, and the one under way only once the block's copy is recorded
+ * and the live spot is the new one. Format and the growth that added the block are no moves. A growth counts once, also
+ * where it had to copy the block again after a power cut.
  * Refuses: 1; 3.
- * Figures (5): enum streterva_address_figure.
+ * Figures (6): enum streterva_address_figure.
  */
 uint64_t streterva_address(const uint64_t *state, size_t state_words, uint64_t block, uint64_t *figures,
                            size_t figures_words);

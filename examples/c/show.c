@@ -9,7 +9,8 @@
 #include <stdlib.h>
 #include <string.h>
 
-enum { SIZE = 1024, ROWS = 12, OLD_DISKS = 3, NEW_DISKS = 5, OLD_BLOCKS = OLD_DISKS * ROWS, NEW_BLOCKS = NEW_DISKS * ROWS };
+enum { SIZE = 1024, ROWS = 12, OLD_DISKS = 3, NEW_DISKS = 5 };
+enum { OLD_BLOCKS = OLD_DISKS * ROWS, NEW_BLOCKS = NEW_DISKS * ROWS };
 
 static streterva_state state;
 static uint8_t *medium;
@@ -161,13 +162,18 @@ static uint64_t cut_in_copy(void)
     return figures[STRETERVA_ADVANCE_BLOCK];
 }
 
+static void address(uint64_t block, uint64_t *at)
+{
+    expect("address", streterva_address(state.words, STRETERVA_STATE_WORDS, block, at, STRETERVA_ADDRESS_FIGURES),
+           STRETERVA_ACCEPTED);
+}
+
 static void tell(uint64_t block)
 {
     static const char *const parts[] = {"", ", head", ", body", ", tail"};
     static const char *const whys[] = {"", "set out at format", "added by growth", "moved by growth"};
     uint64_t at[STRETERVA_ADDRESS_FIGURES];
-    expect("address", streterva_address(state.words, STRETERVA_STATE_WORDS, block, at, STRETERVA_ADDRESS_FIGURES),
-           STRETERVA_ACCEPTED);
+    address(block, at);
     printf("block %llu: disk %llu, row %llu, %s", (unsigned long long)block,
            (unsigned long long)at[STRETERVA_ADDRESS_DISK], (unsigned long long)at[STRETERVA_ADDRESS_ROW],
            whys[at[STRETERVA_ADDRESS_WHY]]);
@@ -194,6 +200,21 @@ static void show(uint64_t block)
            (unsigned long long)found[STRETERVA_VIEW_BYTE], (unsigned long long)found[STRETERVA_VIEW_SHELF]);
 }
 
+/* The holder of each block's spot is the block. */
+static void check_holders(void)
+{
+    for (uint64_t block = 0; block < NEW_BLOCKS; block++) {
+        uint64_t at[STRETERVA_ADDRESS_FIGURES], holder[STRETERVA_HOLDER_FIGURES];
+        address(block, at);
+        expect("holder",
+               streterva_holder(state.words, STRETERVA_STATE_WORDS, at[STRETERVA_ADDRESS_DISK],
+                                at[STRETERVA_ADDRESS_ROW], holder, STRETERVA_HOLDER_FIGURES),
+               STRETERVA_ACCEPTED);
+        expect("the holder of a block's spot", holder[0], block);
+    }
+    printf("address and holder agree on blocks 0 to %d\n", NEW_BLOCKS - 1);
+}
+
 /* How many blocks of three scenes each disk serves, counted once more block by block. */
 static void tell_load(void)
 {
@@ -206,9 +227,7 @@ static void tell_load(void)
     for (size_t i = 0; i < SCENES; i++)
         for (uint64_t j = 0; j < scenes[i].count; j++) {
             uint64_t at[STRETERVA_ADDRESS_FIGURES];
-            expect("address",
-                   streterva_address(state.words, STRETERVA_STATE_WORDS, scenes[i].first + j, at, STRETERVA_ADDRESS_FIGURES),
-                   STRETERVA_ACCEPTED);
+            address(scenes[i].first + j, at);
             counted[at[STRETERVA_ADDRESS_DISK]]++;
         }
     printf("load of blocks 0 to 19, blocks 15 to 24 and no blocks:");
@@ -218,6 +237,32 @@ static void tell_load(void)
             printf(" %llu", (unsigned long long)load[STRETERVA_LOAD_SERVED + disk]);
     }
     printf("\n");
+}
+
+/* How many blocks were moved, and how many stayed or were added. Copies made again after the power cut do not count. */
+static void tell_moves(void)
+{
+    unsigned blocks[STRETERVA_MOST_GROWTHS + 1] = {0};
+    for (uint64_t block = 0; block < NEW_BLOCKS; block++) {
+        uint64_t at[STRETERVA_ADDRESS_FIGURES];
+        address(block, at);
+        blocks[at[STRETERVA_ADDRESS_MOVES]]++;
+    }
+    printf("moved: %u blocks once, %u blocks never\n", blocks[1], blocks[0]);
+}
+
+/* Where blocks are and why, without a growth under way. */
+static void look_up(void)
+{
+    tell(0);
+    tell(1);
+    tell(4);
+    tell(OLD_BLOCKS);
+    show(1);
+    show(4);
+    check_holders();
+    tell_load();
+    tell_moves();
 }
 
 /* Begins the growth. With pictures written and not flushed it is refused with 18. Returns the advance calls left. */
@@ -236,6 +281,39 @@ static uint64_t grow(void)
            STRETERVA_ACCEPTED);
     flush();
     return left[0];
+}
+
+/* The power fails in a copy, and all saved pictures are there after it. */
+static void cut_and_restart(void)
+{
+    uint64_t block = cut_in_copy();
+    uint64_t left = restart();
+    check_all(OLD_BLOCKS);
+    printf("power cut while block %llu was copied: restarted, %llu advance calls left, blocks 0 to %d are right\n",
+           (unsigned long long)block, (unsigned long long)left, OLD_BLOCKS - 1);
+}
+
+/* The whole growth, with saves and reads all along. */
+static void grow_in_use(void)
+{
+    uint64_t left = grow();
+    printf("growing: %d disks to %d, %llu advance calls left\n", OLD_DISKS, NEW_DISKS, (unsigned long long)left);
+
+    uint64_t figures[STRETERVA_ADVANCE_FIGURES];
+    for (unsigned step = 1; state.growing == 1; step++) {
+        if (step == 10)
+            cut_and_restart();
+        advance(figures);
+        check_all(OLD_BLOCKS);
+        if (figures[STRETERVA_ADVANCE_DID] == STRETERVA_COPIED && step % 4 == 0)
+            save(figures[STRETERVA_ADVANCE_BLOCK]); /* copied a moment ago, so the write is refused with 7 */
+        save(step * 5 % OLD_BLOCKS);
+    }
+    expect("calls left at the end", figures[STRETERVA_ADVANCE_LEFT], 0);
+    expect("the last step", figures[STRETERVA_ADVANCE_DID], STRETERVA_FINISHED);
+    printf("finished: saved and read all along, %u saves waited for a checkpoint, %u calls for a flush\n", checkpoints,
+           waits);
+    check_all(OLD_BLOCKS);
 }
 
 /* The first write after format is refused with 19, as format's record is pending. */
@@ -266,29 +344,7 @@ int main(void)
     check_all(OLD_BLOCKS);
     printf("written: blocks 0 to %d\n", OLD_BLOCKS - 1);
 
-    uint64_t left = grow();
-    printf("growing: %d disks to %d, %llu advance calls left\n", OLD_DISKS, NEW_DISKS, (unsigned long long)left);
-
-    uint64_t figures[STRETERVA_ADVANCE_FIGURES];
-    for (unsigned step = 1; state.growing == 1; step++) {
-        if (step == 10) {
-            uint64_t block = cut_in_copy();
-            uint64_t again = restart();
-            check_all(OLD_BLOCKS);
-            printf("power cut while block %llu was copied: restarted, %llu advance calls left, blocks 0 to %d are right\n",
-                   (unsigned long long)block, (unsigned long long)again, OLD_BLOCKS - 1);
-        }
-        advance(figures);
-        check_all(OLD_BLOCKS);
-        if (figures[STRETERVA_ADVANCE_DID] == STRETERVA_COPIED && step % 4 == 0)
-            save(figures[STRETERVA_ADVANCE_BLOCK]); /* copied a moment ago, so the write is refused with 7 */
-        save(step * 5 % OLD_BLOCKS);
-    }
-    expect("calls left at the end", figures[STRETERVA_ADVANCE_LEFT], 0);
-    expect("the last step", figures[STRETERVA_ADVANCE_DID], STRETERVA_FINISHED);
-    printf("finished: saved and read all along, %u saves waited for a checkpoint, %u calls for a flush\n", checkpoints,
-           waits);
-    check_all(OLD_BLOCKS);
+    grow_in_use();
 
     for (uint64_t block = OLD_BLOCKS; block < NEW_BLOCKS; block++)
         save(block);
@@ -300,24 +356,7 @@ int main(void)
     check_all(NEW_BLOCKS);
     printf("restarted: blocks 0 to %d are right\n", NEW_BLOCKS - 1);
 
-    tell(0);
-    tell(1);
-    tell(4);
-    tell(OLD_BLOCKS);
-    show(1);
-    show(4);
-    for (uint64_t block = 0; block < NEW_BLOCKS; block++) {
-        uint64_t at[STRETERVA_ADDRESS_FIGURES], holder[STRETERVA_HOLDER_FIGURES];
-        expect("address", streterva_address(state.words, STRETERVA_STATE_WORDS, block, at, STRETERVA_ADDRESS_FIGURES),
-               STRETERVA_ACCEPTED);
-        expect("holder",
-               streterva_holder(state.words, STRETERVA_STATE_WORDS, at[STRETERVA_ADDRESS_DISK],
-                                at[STRETERVA_ADDRESS_ROW], holder, STRETERVA_HOLDER_FIGURES),
-               STRETERVA_ACCEPTED);
-        expect("the holder of a block's spot", holder[0], block);
-    }
-    printf("address and holder agree on blocks 0 to %d\n", NEW_BLOCKS - 1);
-    tell_load();
+    look_up();
     free(medium);
     return 0;
 }

@@ -14,6 +14,7 @@
 #include <unistd.h>
 
 enum { SIZE = 4096, ROWS = 5, OLD_DISKS = 3, NEW_DISKS = 5, SPARE = 2, PAGES = 1 + NEW_DISKS * ROWS + SPARE };
+enum { MOVING = 6 }; /* blocks that the growth moves */
 
 static streterva_state state;
 static uint8_t *pages;  /* the record's page, then a page for each spot, then spare ones */
@@ -59,10 +60,15 @@ static size_t page_of(uint64_t disk, uint64_t row)
 }
 
 /* Address touches no medium at all. */
+static void address(uint64_t block, uint64_t *at)
+{
+    expect("address", streterva_address(state.words, STRETERVA_STATE_WORDS, block, at, STRETERVA_ADDRESS_FIGURES), 0);
+}
+
 static size_t live_page(uint64_t block)
 {
     uint64_t at[STRETERVA_ADDRESS_FIGURES];
-    expect("address", streterva_address(state.words, STRETERVA_STATE_WORDS, block, at, STRETERVA_ADDRESS_FIGURES), 0);
+    address(block, at);
     return page_of(at[STRETERVA_ADDRESS_DISK], at[STRETERVA_ADDRESS_ROW]);
 }
 
@@ -165,7 +171,8 @@ static void wrong_lengths(void)
     expect("view", streterva_view(words, n - 1, medium_bytes, 0, OLD_DISKS, 0, figures, 2), wrong);
     expect("view", streterva_view(words, n, medium_bytes, 0, OLD_DISKS, 0, figures, 1), wrong);
     expect("view", streterva_view(words, n, medium_bytes, 0, OLD_DISKS, 0, figures, 3), wrong);
-    expect("address", streterva_address(words, n, 0, figures, 4), wrong);
+    expect("address", streterva_address(words, n, 0, figures, 5), wrong);
+    expect("address", streterva_address(words, n, 0, figures, 7), wrong);
     expect("holder", streterva_holder(words, n, 0, 0, figures, 2), wrong);
     expect("load", streterva_load(words, n, NULL, 0, figures, 16), wrong);
     expect("flushed", streterva_flushed(words, n - 1), wrong);
@@ -198,6 +205,17 @@ static void null_pointers(void)
     expect("the state", (uint64_t)memcmp(&kept, &state, sizeof kept), 0);
 }
 
+/* A refused address sets its six figures to 0 and no other. */
+static void refused_address(uint64_t block, uint64_t wanted)
+{
+    memset(figures, 0x77, sizeof figures);
+    expect("address",
+           streterva_address(state.words, STRETERVA_STATE_WORDS, block, figures, STRETERVA_ADDRESS_FIGURES), wanted);
+    for (size_t i = 0; i < STRETERVA_ADDRESS_FIGURES; i++)
+        expect("a figure of a refused address", figures[i], 0);
+    expect("the figure after them", figures[STRETERVA_ADDRESS_FIGURES], UINT64_C(0x7777777777777777));
+}
+
 /* Refused on a medium of which no byte may be touched; the state stays, and the figures are 0. */
 static void refusals_at_rest(void)
 {
@@ -217,6 +235,7 @@ static void refusals_at_rest(void)
     expect("read", read_block(medium_bytes, 0, SIZE - 1), STRETERVA_PIECE_SIZE);
     expect("holder", holder(OLD_DISKS, 0), STRETERVA_NO_SUCH_SPOT);
     expect("load", load(0, OLD_DISKS * ROWS + 1), STRETERVA_SCENE_REFUSED);
+    refused_address(OLD_DISKS * ROWS, STRETERVA_BLOCK_NOT_OPEN);
     expect("the state", (uint64_t)memcmp(&kept, &state, sizeof kept), 0);
 }
 
@@ -230,6 +249,7 @@ static void zeros(void)
     expect("soundness", streterva_soundness(state.words, STRETERVA_STATE_WORDS), STRETERVA_NOT_SOUND);
     expect("flushed", streterva_flushed(state.words, STRETERVA_STATE_WORDS), STRETERVA_NOT_SOUND);
     expect("read", read_block(medium_bytes, 0, SIZE), STRETERVA_NOT_SOUND);
+    refused_address(0, STRETERVA_NOT_SOUND);
     state = kept;
     expect("restart", restart(STRETERVA_RECORD_BYTES - 1), STRETERVA_MEDIUM_TOO_SHORT);
     expect("the state", (uint64_t)memcmp(&zero, &state, sizeof zero), 0);
@@ -378,30 +398,21 @@ static void views(void)
 
 /* ---- a growth, and what is after it */
 
-/* From 3 disks to 5: a copy and a checkpoint, then advance calls, to the one that finishes; views after each store. */
-static void growth(void)
+/* So many of the open blocks were moved, each by one growth, as their reason tells; all others by none. */
+static void moves(uint64_t wanted)
 {
-    open_record(PROT_READ | PROT_WRITE);
-    expect("grow", grow(medium_bytes, NEW_DISKS), 0);
-    uint64_t left = figures[0];
-    flushed();
-    close_all();
-    expect("copy", copy(medium_bytes, 1), STRETERVA_NOT_MOVING);
-    expect("checkpoint", checkpoint(medium_bytes), STRETERVA_NOTHING_TO_RECORD);
-    open_copy(live_page(0), 1);
-    expect("copy", copy(medium_bytes, 0), 0);
-    expect("calls left", figures[0], --left);
-    views();
-    close_all();
-    expect("copy", copy(medium_bytes, 0), STRETERVA_ALREADY_COPIED);
-    expect("write", write_block(medium_bytes, 0, SIZE), STRETERVA_COPY_NOT_RECORDED);
-    expect("checkpoint", checkpoint(medium_bytes), STRETERVA_FLUSH_BLOCKS);
-    flushed();
-    open_record(PROT_READ | PROT_WRITE);
-    expect("checkpoint", checkpoint(medium_bytes), 0);
-    views();
-    close_all();
-    expect("advance", advance(medium_bytes), STRETERVA_FLUSH_RECORD);
+    uint64_t at[STRETERVA_ADDRESS_FIGURES], sum = 0;
+    for (uint64_t block = 0; block < open_blocks(); block++) {
+        address(block, at);
+        expect("the moves of a block", at[STRETERVA_ADDRESS_MOVES], at[STRETERVA_ADDRESS_WHY] == STRETERVA_MOVED);
+        sum += at[STRETERVA_ADDRESS_MOVES];
+    }
+    expect("the blocks moved", sum, wanted);
+}
+
+/* Advance calls, so many, to the one that finishes; only that one records what they copy. */
+static void advances(uint64_t left)
+{
     while (left > 0) {
         flushed();
         open_copy(page_of(0, 0), OLD_DISKS * ROWS);
@@ -410,9 +421,41 @@ static void growth(void)
         expect("advance", advance(medium_bytes), 0);
         expect("calls left", figures[STRETERVA_ADVANCE_LEFT], --left);
         expect("finished", figures[STRETERVA_ADVANCE_DID] == STRETERVA_FINISHED, left == 0);
+        moves(left == 0 ? MOVING : 1);
         views();
     }
     flushed();
+}
+
+/* From 3 disks to 5: a copy and a checkpoint, then advance calls; views and moves after each store. */
+static void growth(void)
+{
+    moves(0);
+    open_record(PROT_READ | PROT_WRITE);
+    expect("grow", grow(medium_bytes, NEW_DISKS), 0);
+    uint64_t left = figures[0];
+    moves(0);
+    flushed();
+    close_all();
+    expect("copy", copy(medium_bytes, 1), STRETERVA_NOT_MOVING);
+    expect("checkpoint", checkpoint(medium_bytes), STRETERVA_NOTHING_TO_RECORD);
+    open_copy(live_page(0), 1);
+    expect("copy", copy(medium_bytes, 0), 0);
+    expect("calls left", figures[0], --left);
+    moves(0);
+    views();
+    close_all();
+    expect("copy", copy(medium_bytes, 0), STRETERVA_ALREADY_COPIED);
+    expect("write", write_block(medium_bytes, 0, SIZE), STRETERVA_COPY_NOT_RECORDED);
+    expect("checkpoint", checkpoint(medium_bytes), STRETERVA_FLUSH_BLOCKS);
+    flushed();
+    open_record(PROT_READ | PROT_WRITE);
+    expect("checkpoint", checkpoint(medium_bytes), 0);
+    moves(1);
+    views();
+    close_all();
+    expect("advance", advance(medium_bytes), STRETERVA_FLUSH_RECORD);
+    advances(left);
 }
 
 /* Every spot has one block, whose address it is, and all of them are the load of one scene. */
@@ -479,6 +522,7 @@ int main(void)
     for (uint64_t block = 0; block < OLD_DISKS * ROWS; block++)
         check(block, (uint8_t)(block + 1));
     views();
+    moves(MOVING);
     look_ups();
     printf("calls and values compared: %u\n", calls);
     return 0;

@@ -1,8 +1,9 @@
 //! Bindings to Streterva: a RAID-0 volume (striping without parity) that takes more disks while it is in use.
 //!
 //! The library behind it, `libcapi.a`, is proved against its specification, "document 01", and "document 02" for
-//! [`State::load`], [`State::flushed`] and [`State::view`]; the words and the numbers of refusals here are those
-//! documents'. A *block* is an address in the volume, a *row* is a position on one disk, a *spot* is a disk and a row.
+//! [`State::load`], [`State::flushed`], [`State::view`] and [`Address::moves`]; the words and the numbers of refusals
+//! here are those documents'. A *block* is an address in the volume, a *row* is a position on one disk, a *spot* is a
+//! disk and a row.
 //!
 //! The caller keeps two things: the medium, a slice of bytes with the record and all disks, and the [`State`], plain
 //! data. Both are lent to each call, to view the medium as two shelves. A call that is refused changes neither and
@@ -41,9 +42,10 @@
 //! let (first, second) = medium.split_at(State::medium_bytes(512, 5, 2));
 //! assert_eq!(volume.view(first, second, 2, Block(7))?, piece);
 //!
-//! // Block 7 has moved to a new disk, within its row.
-//! let spot = volume.address(Block(7))?.spot;
-//! assert_eq!((spot.disk, spot.row.0), (3, 2));
+//! // Block 7 has moved once, to a new disk, within its row.
+//! let address = volume.address(Block(7))?;
+//! let spot = address.spot;
+//! assert_eq!((spot.disk, spot.row.0, address.moves), (3, 2, 1));
 //! assert_eq!(volume.holder(spot.disk, spot.row)?, Block(7));
 //! # Ok(())
 //! # }
@@ -136,13 +138,15 @@ pub enum Reason {
     },
 }
 
-/// Where a block is and why: the answer of [`State::address`].
+/// Where a block is, why, and how often it was moved: the answer of [`State::address`].
 #[derive(Clone, Copy, Debug, PartialEq, Eq, Hash)]
 pub struct Address {
     /// The live spot, where the block is read and written now.
     pub spot: Spot,
     /// Why it is there.
     pub reason: Reason,
+    /// By how many growths of the history it was moved; one under way counts only while the block is at its new spot.
+    pub moves: u64,
 }
 
 /// What one advance call did.

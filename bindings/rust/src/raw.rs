@@ -40,8 +40,9 @@ pub const ADVANCE_FIGURES: usize = 4;
 /// Figures of [`view`]: 1 for the first shelf, 2 for the second; the byte of that shelf at which the block starts.
 pub const VIEW_FIGURES: usize = 2;
 
-/// Figures of [`address`]: disk; row; 1 set out at format, 2 added, 3 moved; the growth's number; the part, when moved.
-pub const ADDRESS_FIGURES: usize = 5;
+/// Figures of [`address`]: disk; row; 1 set out at format, 2 added, 3 moved; the growth's number; the part, when moved;
+/// by how many growths the block was moved.
+pub const ADDRESS_FIGURES: usize = 6;
 
 /// Figures of [`holder`]: the block.
 pub const HOLDER_FIGURES: usize = 1;
@@ -347,7 +348,7 @@ pub fn view(
     }
 }
 
-/// Tells the live spot of the block and why it is there. Refuses 1; 3.
+/// Tells the live spot of the block, why it is there and by how many growths it was moved. Refuses 1; 3.
 pub fn address(state: &[u64], block: u64, figures: &mut [u64]) -> u64 {
     // SAFETY: each pointer goes with the length of its slice, borrowed for the call; the written figures overlap nothing; the
     // state is only read.

@@ -280,7 +280,9 @@ impl State {
         Ok(&shelf[start..start + self.size() as usize])
     }
 
-    /// Tells the live spot of the block, where it is read and written now, and why it is there.
+    /// Tells the live spot of the block, where it is read and written now, why it is there, and by how many growths it
+    /// was moved. Format and the growth that added the block are no moves. A growth counts once, also where it had to
+    /// copy the block again after a power cut.
     ///
     /// # Errors
     ///
@@ -288,7 +290,7 @@ impl State {
     pub fn address(&self, block: Block) -> Result<Address, Refusal> {
         let mut figures = [0; raw::ADDRESS_FIGURES];
         accepted(raw::address(&self.words, block.0, &mut figures))?;
-        let [disk, row, why, growth, part_number] = figures;
+        let [disk, row, why, growth, part_number, moves] = figures;
         let reason = match why {
             1 => Reason::SetOut,
             2 => Reason::Added { growth },
@@ -304,6 +306,7 @@ impl State {
                 row: Row(row),
             },
             reason,
+            moves,
         })
     }
 

@@ -1,6 +1,7 @@
 //! Each call accepted and refused, on document 01's cases, with a flushed after each store or each run of block stores;
 //! load on volumes of the same kind; holder at the spots of added blocks.
 
+mod moves;
 mod pending;
 mod view;
 
@@ -91,6 +92,12 @@ fn with_word(state: &State, word: usize, value: u64) -> State {
     let mut words = state.words();
     words[word] = value;
     State::from_words(words).unwrap()
+}
+
+/// The number of open blocks.
+fn open_blocks(volume: &State) -> u64 {
+    let place = volume.growths() - u64::from(volume.is_growing());
+    volume.counts()[place as usize] * volume.rows()
 }
 
 /// The state of zeros.
@@ -437,6 +444,7 @@ fn address_tells_why() {
             row: Row(0),
         },
         reason: Reason::SetOut,
+        moves: 0,
     };
     let new = Address {
         spot: Spot {
@@ -447,6 +455,7 @@ fn address_tells_why() {
             growth: 1,
             part: Part::Head,
         },
+        moves: 1,
     };
     assert_eq!(volume.address(Block(0)), Ok(old));
     assert_eq!(volume.address(Block(15)), Err(Refusal::BlockNotOpen));
@@ -604,7 +613,7 @@ fn wrong_lengths_touch_nothing() {
     for words in (0..=18).filter(|words| *words != raw::STATE_WORDS) {
         let mut state = [3; 18];
         let state = &mut state[..words];
-        let mut figures = [8; 5];
+        let mut figures = [8; 6];
         let answers = [
             raw::format(state, &mut medium, 512, 5, 3),
             raw::format(state, &mut [], 0, 0, 0),
@@ -623,7 +632,7 @@ fn wrong_lengths_touch_nothing() {
         ];
         assert_eq!(answers, [raw::WRONG_LENGTH; 14]);
         assert!(state.iter().all(|word| *word == 3));
-        assert_eq!(figures, [8; 5]);
+        assert_eq!(figures, [8; 6]);
     }
     assert_eq!(medium, before);
     assert_eq!(piece, [9; 512]);
@@ -634,8 +643,8 @@ fn wrong_lengths_touch_nothing() {
 fn wrong_lengths_of_figures_touch_nothing() {
     let (mut medium, volume) = three_disks();
     let before = medium.clone();
-    for words in 0..=6 {
-        let mut figures = [8; 6];
+    for words in 0..=7 {
+        let mut figures = [8; 7];
         let figures = &mut figures[..words];
         let mut state = volume.words();
         let mut answers = vec![];
@@ -712,9 +721,9 @@ fn refusals_have_zeros() {
     let mut figures = [6; 4];
     assert_eq!(raw::advance(&mut state, &mut medium, &mut figures), 5);
     assert_eq!(figures, [0; 4]);
-    let mut figures = [6; 5];
+    let mut figures = [6; 6];
     assert_eq!(raw::address(&state, 15, &mut figures), 3);
-    assert_eq!(figures, [0; 5]);
+    assert_eq!(figures, [0; 6]);
     left = [6];
     assert_eq!(raw::holder(&state, 3, 0, &mut left), 14);
     assert_eq!(left, [0]);

@@ -110,24 +110,42 @@ module _ (s : ℕ) (h : List ℕ) (w : ℕ) (copied recorded : ℕ → Bool) (r 
         sum-running = λ e. absurd (false≢true e);
       }
 
-  running : 0 < oldCount h → LiveMoves (tally growing)
-  unfolding openBlocks growthsOf liveReasonOf liveMoveCountOf liveSpotOf liveSpot sourceOf oldCount
-  running g =
+  -- the growth under way: not counted at the old spot, once at the new one
+  at-old : (x : ℕ) → liveSpotOf (tally growing) x ≡ sourceOf (tally growing) x → liveMoveCountOf (tally growing) x ≡ moveCountOf s (earlier h) x
+  unfolding growthsOf liveMoveCountOf liveSpotOf liveSpot sourceOf
+  at-old x f = by-test (new x) (λ e. absurd (moved-away s h x r (moves-there s h (movedBlocks (tally growing)) x e) (rw e at f))) (λ e. rw e)
+
+  at-new : (x : ℕ) → liveSpotOf (tally growing) x ≢ sourceOf (tally growing) x
+      → liveMoveCountOf (tally growing) x ≡ suc (moveCountOf s (earlier h) x)
+  unfolding growthsOf liveMoveCountOf liveSpotOf liveSpot sourceOf
+  at-new x f =
+      by-test (new x) (λ e. rw e (moved-more s h x (moves-there s h (movedBlocks (tally growing)) x e) ∙ add-one _))
+      (λ e. absurd ((rw e at f) refl))
+
+  live-sum : rising (earlier h) ≡ true
+      → sum (liveMoveCountOf (tally growing)) (oldCount h * s) ≡ movesOfGrowths s (earlier h) + count new (oldCount h * s)
+  unfolding growthsOf liveMoveCountOf oldCount
+  live-sum q =
+      sum-ext _ _ (oldCount h * s) (λ x _. live-count s h (movedBlocks (tally growing)) x)
+      ∙ sum-with-count (moveCountOf s (earlier h)) new (oldCount h * s)
+      ∙ ap (_+ count new (oldCount h * s)) (sum-of-moves s (earlier h) q)
+
+  running : rising (earlier h) ≡ true → LiveMoves (tally growing)
+  unfolding openBlocks growthsOf liveReasonOf liveMoveCountOf
+  running q =
       record {
-        live-moves-true = λ x. cond-cases (λ k. MovesTrue s k x (reasonOf s k x) (moveCountOf s k x)) (new x) (λ e. moves-law s h x r) (λ e. moves-law s (earlier h) x (rising-before h r g));
-        at-old-spot = λ _ x f. by-test (new x) (λ e. absurd (moved-away s h x r (moves-there s h (movedBlocks (tally growing)) x e) (rw e at f))) (λ e. rw e);
-        at-new-spot = λ _ x f. by-test (new x) (λ e. rw e (moved-more s h x (moves-there s h (movedBlocks (tally growing)) x e) ∙ add-one _)) (λ e. absurd ((rw e at f) refl));
+        live-moves-true = λ x.
+            cond-cases (λ k. MovesTrue s k x (reasonOf s k x) (moveCountOf s k x)) (new x) (λ e. moves-law s h x r) (λ e. moves-law s (earlier h) x q);
+        at-old-spot = λ _. at-old;
+        at-new-spot = λ _. at-new;
         unmoved-same = λ before a b e x f. rw (unmoved-old s h (movedBlocks (tally growing)) x f) (sym (at-rest-same before e x ∙ (rw (a, b))));
         sum-at-rest = λ e. absurd (true≢false e);
-        sum-running = λ _.
-            sum-ext _ _ (oldCount h * s) (λ x _. live-count s h (movedBlocks (tally growing)) x)
-            ∙ sum-with-count (moveCountOf s (earlier h)) new (oldCount h * s)
-            ∙ ap (_+ count new (oldCount h * s)) (sum-of-moves s (earlier h) (rising-before h r g));
+        sum-running = λ _. live-sum q;
       }
 
   by-mode : (mode : Mode) → (isRunning mode ≡ true → 0 < oldCount h) → LiveMoves (tally mode)
   by-mode notGrowing g = at-rest
-  by-mode growing g = running (g refl)
+  by-mode growing g = running (rising-before h r (g refl))
 
 pub live-moves-law : (t : Tally) → rising (t .counts) ≡ true → (isRunning (t .mode) ≡ true → 0 < oldCount (t .counts)) → LiveMoves t
 live-moves-law t r = by-mode (t .rows) (t .counts) (t .window) (t .copied) (t .recorded) r (t .mode)

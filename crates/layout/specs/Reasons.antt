@@ -44,11 +44,11 @@ firstGrowths k h = drop (length h - suc k) h
 unfoldable pub moveCountOf : (s : ℕ) (h : List ℕ) (x : ℕ) → ℕ
 moveCountOf s h x = count (λ k. moving s (firstGrowths k h) x) (length h)
 
--- the number after a growth, which did this with the block
-unfoldable pub movesAfter : (change : Change) (before : ℕ) → ℕ
-movesAfter (Moved part) before = before + 1
-movesAfter Added before = before
-movesAfter Stays before = before
+-- that number after a growth, which did this with the block
+unfoldable pub movesAfter : (change : Change) (moves : ℕ) → ℕ
+movesAfter (Moved part) moves = moves + 1
+movesAfter Added moves = moves
+movesAfter Stays moves = moves
 
 -- "the live spot and why it is there", of one history, and by how many of its growths the block was moved
 unfoldable pub addressOf : (s : ℕ) (h : List ℕ) (x : ℕ) → Address

@@ -26,7 +26,7 @@ use Rattle.layout.proofs.NewestCode.{old-is, added-is, newest-grows}
 use Rattle.layout.proofs.Theorems.{disks-sum, spots-and-blocks, spot-after-newest, reason-after-newest}
 use Rattle.layout.proofs.WindowsCode.{marks-most}
 use Rattle.marks.specs.declared.LiveBlock.the-variants.{Lives, Nothing}
-use Rattle.marks.specs.Marks.{markCount, movesAt, markedAt, movedAt, liveFrom, addressFrom, asLiveBlock, difference}
+use Rattle.marks.specs.Marks.{markCount, movesAt, markedAt, movedAt, liveFrom, movedAddress, addressFrom, asLiveBlock, difference}
 use Rattle.marks.proofs.MarkWords.{difference-at}
 
 -- ---- the mark of a moving block
@@ -196,7 +196,7 @@ module _ (s : ℕ) (h : List ℕ) (w x k : ℕ) (below : x < oldCount h * s) (ma
   moves-then e = and-right (ltb x (oldCount h * s)) _ (moving-then e)
 
   pub address-moved : rising h ≡ true → 0 < oldCount h → k ≡ length (earlier h) → moved ≡ true → newest (addressOf s (earlier h) x) ≡ addressOf s h x
-  unfolding addressFrom addressOf reasonAfter changeOf oldSpot
+  unfolding addressFrom movedAddress addressOf reasonAfter changeOf oldSpot
   address-moved r g q e =
       rw (moved-told, e, q, spot-after-newest s h r g x, reason-after-newest s h r g x, lt-ltb x (oldCount h * s) below, moves-then e, moved-more s h x (moving-then e))
 

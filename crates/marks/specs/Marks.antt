@@ -76,12 +76,18 @@ movedAt m n w recorded p = movesFrom m n p && (ltb (windowOfRow m n (p .row)) w 
 unfoldable pub liveFrom : (m n s w : ℕ) (recorded : List Bool) (x : ℕ) (p : Spot) → Spot
 liveFrom m n s w recorded x p = cond (movedAt m n w recorded p) (spotAfter m n s x p) p
 
--- and why it is there, the growth's number being k, and by how many growths it was moved
+-- its address after growth k has moved it, where `old` is the one before
+unfoldable pub movedAddress : (m n s k x : ℕ) (old : Address) → Address
+movedAddress m n s k x old =
+    record {
+      spot = spotAfter m n s x (old .spot);
+      reason = MovedBy k (partOf m n (rowInWindow m n (old .spot .row)));
+      moves = old .moves + 1;
+    }
+
+-- its live spot, why it is there, and by how many growths it was moved
 unfoldable pub addressFrom : (m n s k w : ℕ) (recorded : List Bool) (x : ℕ) (old : Address) → Address
-addressFrom m n s k w recorded x old =
-    cond (movedAt m n w recorded (old .spot))
-    (record { spot = spotAfter m n s x (old .spot); reason = MovedBy k (partOf m n (rowInWindow m n (old .spot .row))); moves = old .moves + 1 })
-    old
+addressFrom m n s k w recorded x old = cond (movedAt m n w recorded (old .spot)) (movedAddress m n s k x old) old
 
 -- ---- what the code answers
 

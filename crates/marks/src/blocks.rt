@@ -12,7 +12,7 @@ ghost use Rattle.layout.specs.Limits.{Limits, Grows, mostRows, mostGrowths};
 ghost use Rattle.layout.specs.Live.{liveBlock};
 ghost use Rattle.layout.specs.Tally.{recordedBy};
 ghost use Rattle.layout.specs.Windows.{markOfSpot, markedBlocks};
-ghost use Rattle.marks.specs.Marks.{markedAt, movedAt, liveFrom, addressFrom, asLiveBlock};
+ghost use Rattle.marks.specs.Marks.{markedAt, movedAt, liveFrom, movedAddress, addressFrom, asLiveBlock};
 ghost use Rattle.marks.specs.Words.{marksOf};
 use super::LiveBlock;
 use super::words::has_mark;
@@ -108,8 +108,26 @@ pub fn live_spot(
     live_from(g.old, g.added, s, w, recorded, x, p)
 }
 
-// The live spot of block x in growth k, why it is there and by how many growths it was moved, where `old` has its old
-// spot and these of before the growth.
+// The new spot of block x, which growth k has moved, why it is there and by how many growths it was moved, where `old`
+// has these from before the growth.
+fn moved_address(m: usize, n: usize, s: usize, k: usize, x: Block, old: Address) -> Address
+    requires { ⌜ Grows m n ⌝ }
+    requires { ⌜ (s ≤ mostRows) × (old .spot .disk < m) × (old .moves ≤ mostGrowths) ⌝ }
+    ensures { λ r. ⌜ r ≡ movedAddress m n s k (x .0) old ⌝ }
+{
+    let p = old.spot;
+    let row = p.row;
+    let part = layout::part_of(m, n, row.0 % (m + n));
+    let spot = layout::spot_after(m, n, s, x.0, p);
+    Address {
+        spot,
+        reason: Reason::MovedBy(k, part),
+        moves: old.moves + 1,
+    }
+}
+
+// The live spot of block x in growth k, why it is there and by how many growths it was moved, where `old` has these
+// from before the growth.
 pub fn address_from(
     m: usize,
     n: usize,
@@ -128,14 +146,7 @@ pub fn address_from(
     if !at_new_spot(m, n, w, recorded, p) {
         return old;
     }
-    let row = p.row;
-    let part = layout::part_of(m, n, row.0 % (m + n));
-    let spot = layout::spot_after(m, n, s, x.0, p);
-    Address {
-        spot,
-        reason: Reason::MovedBy(k, part),
-        moves: old.moves + 1,
-    }
+    moved_address(m, n, s, k, x, old)
 }
 
 // The block that lives at p.

@@ -3,7 +3,7 @@
 use crate::library;
 use reference::refusal::{Refusal, NOT_SOUND};
 use reference::sample::Random;
-use reference::spot::{Block, Part, Row, Why};
+use reference::spot::{Block, Part, Place, Row, Why};
 use reference::state::State;
 use reference::store::{Advanced, Next};
 use reference::view::{view, Shelf, Shelves};
@@ -54,7 +54,9 @@ pub struct Piece {
 /// The boundary's own refusal: a wrong length, or words that are no state.
 pub const NO_STATE: u64 = 100;
 /// Most figures of a call.
-pub const FIGURES: usize = 5;
+pub const FIGURES: usize = 6;
+/// The figure of address that tells by how many growths the block was moved.
+pub const MOVES: usize = 5;
 
 impl Call {
     pub fn kind(&self) -> usize {
@@ -77,7 +79,7 @@ impl Call {
 
     /// How many figures the call answers with.
     pub fn figures(&self) -> usize {
-        [0, 1, 1, 1, 1, 4, 0, 0, 5, 1, 0, 0, 2][self.kind()]
+        [0, 1, 1, 1, 1, 4, 0, 0, 6, 1, 0, 0, 2][self.kind()]
     }
 
     /// Bytes of the piece.
@@ -176,8 +178,7 @@ fn looked_up(call: &Call, state: &State, figures: &mut [u64]) -> Result<(), Refu
     match *call {
         Call::Address { block } => {
             let place = lookup::address(state, Block(block))?;
-            figures[..2].copy_from_slice(&[place.spot.disk, place.spot.row.0]);
-            figures[2..].copy_from_slice(&why_figures(place.why));
+            figures.copy_from_slice(&place_figures(place));
         }
         Call::Holder { disk, row } => figures[0] = lookup::holder(state, disk, Row(row))?.0,
         Call::View { block, shelves } => {
@@ -248,6 +249,13 @@ fn advanced_figures(done: Advanced) -> [u64; 3] {
         Advanced::Recorded => [2, 0, 0],
         Advanced::Finished => [3, 0, 0],
     }
+}
+
+/// Disk, row, the figures of the reason, the moves.
+fn place_figures(place: Place) -> [u64; 6] {
+    let Place { spot, why, moves } = place;
+    let [why, growth, part] = why_figures(why);
+    [spot.disk, spot.row.0, why, growth, part, moves]
 }
 
 /// Why a block is at its spot, the growth's number, the part.

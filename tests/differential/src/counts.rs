@@ -75,6 +75,13 @@ events! {
     MovedHead: "address: moved as head",
     MovedBody: "address: moved as body",
     MovedTail: "address: moved as tail",
+    NeverMoved: "address: moved by no growth",
+    MovedOnce: "address: moved by one growth",
+    MovedTwice: "address: moved by two growths",
+    MovedOften: "address: moved by three growths or more",
+    WindowCounted: "address: growth under way counted, window finished",
+    MarkCounted: "address: growth under way counted, copy recorded",
+    CopyNotCounted: "address: growth under way not counted, copy not recorded",
     SevenGrowths: "seventh growth finished",
     FullRuns: "growth run to its end by the calls left",
     FlushedInRun: "flushed between the advances of such a run",
@@ -156,7 +163,7 @@ impl Counts {
         };
         self.calls[call.kind()][at] += 1;
         match (call, number) {
-            // Counted with the state, in `views`.
+            // Counted with the state, in `views`; the moves of address in `lookups`.
             (Call::View { .. }, _) => {}
             (_, 2) => self.event(Event::ShortMedium),
             (Call::Advance, 0) => self.event(match (figures[1], figures[3]) {

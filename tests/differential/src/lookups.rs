@@ -1,12 +1,14 @@
 //! Addresses, holders and views: all of them in small volumes, some in the largest.
 
-use crate::call::Call;
+use crate::call::{Call, MOVES};
 use crate::counts::{Counts, Event};
-use crate::pair::{Changed, Difference, Pair};
+use crate::pair::{Answer, Changed, Difference, Pair};
 use crate::report::Step;
 use crate::views;
 use reference::sample::{sound_state, Random};
-use reference::state::{Pending, State};
+use reference::spot::Block;
+use reference::state::{marked, Pending, State, WORDS};
+use std::cmp::Ordering;
 
 /// Looks up every block and spot at every stage of a growth.
 pub fn sweep(
@@ -117,4 +119,36 @@ pub fn big(
         }
     }
     Ok(())
+}
+
+/// After an accepted address: counts by how many growths its block was moved,
+/// and whether one under way is among them.
+pub fn note(call: &Call, words: &[u64; WORDS], answer: &Answer, counts: &mut Counts) {
+    let (&Call::Address { block }, true) = (call, answer.accepted()) else {
+        return;
+    };
+    counts.event(match answer.figures[MOVES] {
+        0 => Event::NeverMoved,
+        1 => Event::MovedOnce,
+        2 => Event::MovedTwice,
+        _ => Event::MovedOften,
+    });
+    let state = State::from_words(words).expect("a state");
+    if state.growing == 1 {
+        note_under_way(&state, Block(block), counts);
+    }
+}
+
+/// Counts whether the growth under way has moved the block, or only copied it.
+fn note_under_way(state: &State, x: Block, counts: &mut Counts) {
+    let Some(step) = state.growth().move_of(x) else {
+        return;
+    };
+    let is_set = |marks| marked(marks, step.mark);
+    match step.window.cmp(&state.w) {
+        Ordering::Less => counts.event(Event::WindowCounted),
+        Ordering::Equal if is_set(state.recorded) => counts.event(Event::MarkCounted),
+        Ordering::Equal if is_set(state.copied) => counts.event(Event::CopyNotCounted),
+        _ => {}
+    }
 }

@@ -1,6 +1,6 @@
 //! The plain volume and the tally beside a list of calls.
 
-use crate::call::Call;
+use crate::call::{Call, MOVES};
 use crate::library;
 use crate::pair::{same, same_bytes, Difference};
 use reference::followed::Followed;
@@ -119,8 +119,9 @@ impl Model {
     }
 
     /// Reads back every open block with the library: the bytes at its live
-    /// spot, which the library has to give as its address, and where they are
-    /// `held` to the plain volume, the block's bytes if it is set.
+    /// spot, which the library has to give as its address with the moves that
+    /// the tally has counted, and where they are `held` to the plain volume,
+    /// the block's bytes if it is set.
     pub fn read_back(&self, state: &[u64], medium: &[u8], held: bool) -> Result<(), Difference> {
         let mut piece = vec![0; self.z as usize];
         for x in (0..self.open()).map(Block) {
@@ -132,9 +133,11 @@ impl Model {
             let spot = self.followed.tally.live(x);
             let bytes = &medium[self.bytes_of(spot)];
             same_bytes("a block at its live spot", &piece, bytes)?;
-            let mut figures = [0; 5];
+            let mut figures = [0; library::ADDRESS_FIGURES];
             library::address(state, x.0, &mut figures);
             same("a live spot", &figures[..2], &[spot.disk, spot.row.0])?;
+            let moves = self.followed.tally.times_moved(x);
+            same("the moves by the tally", figures[MOVES], moves)?;
         }
         let number = library::read(state, medium, self.open(), &mut piece);
         same("a read past the open blocks", number, NOT_OPEN)

@@ -2,7 +2,7 @@
 
 use crate::call::{by_library, by_reference, Call, Lent, FIGURES};
 use crate::counts::Counts;
-use crate::views;
+use crate::{lookups, views};
 use reference::state::WORDS;
 use std::ops::Range;
 
@@ -179,6 +179,7 @@ impl Pair {
             .map_err(|difference| self.with_answers(difference, used, number, expected))?;
         counts.call(call, number, &answer.figures);
         counts.comparisons += 5;
+        lookups::note(call, &state, &answer, counts);
         views::check(call, &state, &self.before, &answer, counts)?;
         let makes_state = matches!(call, Call::Format { .. } | Call::Restart);
         if number != 0 && !makes_state {

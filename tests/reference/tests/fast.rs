@@ -49,18 +49,24 @@ fn any_block(random: &mut Random, state: &State) -> Block {
 #[test]
 fn lookups() {
     let mut random = Random::new(1);
+    let mut moves = [0; 8];
     for round in 0..ROUNDS {
         let rows = if round % 4 == 0 { 1_000_000 } else { 40 };
         let state = sound_state(&mut random, rows);
         assert!(state.sound() && fast::sound(&state));
         for _ in 0..50 {
             let x = any_block(&mut random, &state);
-            assert_eq!(fast::address(&state, x), lookup::address(&state, x));
+            let place = lookup::address(&state, x);
+            assert_eq!(fast::address(&state, x), place);
+            if let Ok(place) = place {
+                moves[place.moves as usize] += 1;
+            }
             let d = random.below(state.disks() + 1);
             let b = Row(random.below(state.s + 1));
             assert_eq!(fast::holder(&state, d, b), lookup::holder(&state, d, b));
         }
     }
+    assert!(moves[..4].iter().all(|&count| count > 100), "{moves:?}");
 }
 
 /// Shelves for the state, at times too short or with a k outside 1 to N[t].

@@ -335,7 +335,7 @@ fn touches_nothing(words: Words, medium: &mut [u8]) {
         raw::flushed(&mut state),
         raw::read(&state, medium, 14, &mut piece),
         raw::view(&state, medium.len(), 0, 5, 14, &mut figures[..2]),
-        raw::address(&state, 14, &mut figures[..5]),
+        raw::address(&state, 14, &mut figures[..6]),
         raw::holder(&state, 0, 0, &mut figures[..1]),
         raw::load(&state, &[scene(0, 1)], &mut figures),
         raw::soundness(&state),

@@ -9,12 +9,6 @@ fn needed(volume: &State, first_disks: u64) -> [usize; 2] {
     [first, medium_bytes(volume.disks()) - first]
 }
 
-/// The number of open blocks.
-fn open_blocks(volume: &State) -> u64 {
-    let place = volume.growths() - u64::from(volume.is_growing());
-    volume.counts()[place as usize] * volume.rows()
-}
-
 /// The number and the figures of a view on shelves of these lengths.
 fn told(volume: &State, bytes: [usize; 2], first_disks: u64, block: u64) -> (u64, [u64; 2]) {
     let mut figures = [9; raw::VIEW_FIGURES];

@@ -323,7 +323,7 @@ impl List<'_> {
             model.read_back(self.pair.state(), self.pair.medium(), held)?;
             self.counts.event(Event::ReadBacks);
             self.counts.read_backs += model.open();
-            self.counts.comparisons += 4 * model.open();
+            self.counts.comparisons += 5 * model.open();
         }
         Ok(())
     }

@@ -100,6 +100,23 @@ add-k c = search needs
 loop-less : tie.Need-loop-less Inv-loop μ-loop
 loop-less c = search needs
 
+-- why the block is there and by how many growths it was moved, after a turn
+reason-turn : (c : tie.After-reason-after Inv-loop μ-loop)
+    → let a = c .before .before .before .before .before .before .before .before .before .args in
+    c .reason-after .result ≡ reasonOf (a .s) (history (c .before .before .before .before .before .loop .k + 1) (a .counts .now)) (a .x .0)
+reason-turn c =
+    let inv = c .before .before .before .before .before .loop .inv in
+    reason-next _ _ (c .before .before .before .before .before .before .before .before .before .args .counts .now) _ _ _ _ _ (inv .2) (inv .3) (inv .4)
+    (c .before .old-change .ensures) (c .reason-after .ensures)
+
+moves-turn : (c : tie.After-moves-after Inv-loop μ-loop)
+    → let a = c .before .before .before .before .before .before .before .before .before .before .args in
+    c .moves-after .result ≡ moveCountOf (a .s) (history (c .before .before .before .before .before .before .loop .k + 1) (a .counts .now)) (a .x .0)
+moves-turn c =
+    let inv = c .before .before .before .before .before .before .loop .inv in
+    moves-next _ _ (c .before .before .before .before .before .before .before .before .before .before .args .counts .now) _ _ _ _ _ (inv .2) (inv .3) (inv .5)
+    (c .before .before .old-change .ensures) (c .moves-after .ensures)
+
 loop-again : tie.Need-loop-again Inv-loop μ-loop
 loop-again c =
     let turn = c .before .before .before .before .before .before in
@@ -109,8 +126,8 @@ loop-again c =
       inv .1,
       turn-there _ _ _ (start .args .counts .now) (start .pre .0) _ (turn .loop-test .taken) (inv .2),
       spot-next _ _ (start .args .counts .now) _ _ _ (inv .2) (inv .3) (c .old-block-spot .ensures),
-      reason-next _ _ (start .args .counts .now) _ _ _ _ _ (inv .2) (inv .3) (inv .4) (c .before .before .before .old-change .ensures) (c .before .before .reason-after .ensures),
-      moves-next _ _ (start .args .counts .now) _ _ _ _ _ (inv .2) (inv .3) (inv .5) (c .before .before .before .old-change .ensures) (c .before .moves-after .ensures),
+      reason-turn (c .before .before),
+      moves-turn (c .before),
     )
 
 returns : tie.Need-returns Inv-loop μ-loop
