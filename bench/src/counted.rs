@@ -50,12 +50,12 @@ const WINDOWS: u64 = 8;
 pub fn all() -> Vec<Counted> {
     let mut rows = lookups();
     rows.extend([
-        transfer("read", Direction::Read, GROWN, 512, 0.96),
-        transfer("read", Direction::Read, GROWN, 4096, 0.99),
-        transfer("write", Direction::Write, GROWN, 512, 0.97),
-        transfer("write", Direction::Write, GROWN, 4096, 1.00),
-        transfer("read", Direction::Read, GROWING, 512, 0.94),
-        transfer("write", Direction::Write, GROWING, 512, 0.95),
+        transfer("read", Direction::Read, GROWN, 512, 0.94),
+        transfer("read", Direction::Read, GROWN, 4096, 0.98),
+        transfer("write", Direction::Write, GROWN, 512, 0.95),
+        transfer("write", Direction::Write, GROWN, 4096, 0.99),
+        transfer("read", Direction::Read, GROWING, 512, 0.92),
+        transfer("write", Direction::Write, GROWING, 512, 0.93),
         moving("copy", moves::Call::Copy, 1.08),
         moving("advance", moves::Call::Advance, 1.1),
         recorded("checkpoint", GROWING, record::Call::Checkpoint, 1.06),
@@ -86,8 +86,8 @@ fn lookups() -> Vec<Counted> {
         counted(down(GROWING, growing), 1.08),
         counted(at(GROWN, grown, 16 * s), 1.05),
         counted(at(GROWING, growing, 14 * s), 1.02),
-        counted(shown(GROWN, grown, 16 * s), 0.94).no_more_than("address"),
-        counted(shown(GROWING, growing, 14 * s), 0.93).no_more_than("address"),
+        counted(shown(GROWN, grown, 16 * s), 0.92).no_more_than("address"),
+        counted(shown(GROWING, growing, 14 * s), 0.91).no_more_than("address"),
         counted(held(GROWN, grown, 16 * s), 1.03),
         counted(held(GROWING, growing, 14 * s), 0.98),
     ]

@@ -15,6 +15,7 @@ pub mod MarkBlocks
 pub mod MoveCounts
 pub mod MovesTrue
 pub mod LiveMoves
+pub mod MoveCases
 pub mod Theorems
 pub mod HistoryCode
 pub mod GrowthCode

@@ -111,9 +111,13 @@ module _ (s : ℕ) (h : List ℕ) (w : ℕ) (copied recorded : ℕ → Bool) (r 
       }
 
   -- the growth under way: not counted at the old spot, once at the new one
+  not-counted : (x : ℕ) → new x ≡ false → liveMoveCountOf (tally growing) x ≡ moveCountOf s (earlier h) x
+  unfolding growthsOf liveMoveCountOf
+  not-counted x e = rw e
+
   at-old : (x : ℕ) → liveSpotOf (tally growing) x ≡ sourceOf (tally growing) x → liveMoveCountOf (tally growing) x ≡ moveCountOf s (earlier h) x
-  unfolding growthsOf liveMoveCountOf liveSpotOf liveSpot sourceOf
-  at-old x f = by-test (new x) (λ e. absurd (moved-away s h x r (moves-there s h (movedBlocks (tally growing)) x e) (rw e at f))) (λ e. rw e)
+  unfolding liveSpotOf liveSpot sourceOf
+  at-old x f = by-test (new x) (λ e. absurd (moved-away s h x r (moves-there s h (movedBlocks (tally growing)) x e) (rw e at f))) (not-counted x)
 
   at-new : (x : ℕ) → liveSpotOf (tally growing) x ≢ sourceOf (tally growing) x
       → liveMoveCountOf (tally growing) x ≡ suc (moveCountOf s (earlier h) x)

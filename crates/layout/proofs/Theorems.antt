@@ -31,6 +31,7 @@ use Rattle.layout.proofs.MarkBlocks.{marks-law}
 use Rattle.layout.proofs.MoveCounts.{counts-law, growth-law}
 use Rattle.layout.proofs.MovesTrue.{moves-at-format, moves-one-more, moves-law}
 use Rattle.layout.proofs.LiveMoves.{live-moves-law}
+use Rattle.layout.proofs.MoveCases.{moves-hold}
 use Rattle.layout.proofs.WindowsCode.{marks-most}
 
 -- the remainder of b-(n-1) is the true one, also for b < n-1
@@ -170,5 +171,6 @@ layout-laws =
       moves-true = moves-true;
       growth-moves = growth-moves;
       live-moves = live-moves;
+      move-cases = moves-hold;
       layout-cases = layout-cases;
     }

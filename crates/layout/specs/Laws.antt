@@ -22,6 +22,7 @@ use Rattle.layout.specs.Reasons.{reasonOf, firstGrowths, moveCountOf}
 use Rattle.layout.specs.Tally.{Tally, isRunning, openBlocks, movedBlocks, liveSpotOf, liveBlockOf, growthsOf, liveReasonOf, liveMoveCountOf, sourceOf}
 use Rattle.layout.specs.Limits.{Limits}
 use Rattle.layout.specs.Cases.{TableHolds}
+use Rattle.layout.specs.MoveCases.{MovesHold}
 
 -- r is the remainder of a - c by k, also where a is less than c; no other number is
 pub record RemainderOf (a c k r : ℕ) : Type 0 where
@@ -231,5 +232,6 @@ pub record LayoutLaws : Type 0 where
   pub moves-true : (s : ℕ) (h : List ℕ) (x : ℕ) → rising h ≡ true → MovesTrue s h x (reasonOf s h x) (moveCountOf s h x)
   pub growth-moves : (s : ℕ) (h : List ℕ) → rising h ≡ true → 0 < oldCount h → GrowthMoves s h
   pub live-moves : (t : Tally) → rising (t .counts) ≡ true → (isRunning (t .mode) ≡ true → 0 < oldCount (t .counts)) → LiveMoves t
+  pub move-cases : MovesHold
   -- L1 to L12
   pub layout-cases : TableHolds

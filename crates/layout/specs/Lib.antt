@@ -7,3 +7,4 @@ pub mod Tally
 pub mod Limits
 pub mod Laws
 pub mod Cases
+pub mod MoveCases
