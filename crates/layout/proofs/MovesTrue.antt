@@ -3,6 +3,7 @@ use Prim.Native.Nat.{ℕ, _+_, _-_, _*_, _≤_, _<_}
 use mathlib.Core.Path.{_≡_, refl, _∙_, subst}
 use mathlib.Core.Bool.{true, false, cond, _&&_}
 use mathlib.Core.List.{List, [], _∷_}
+use mathlib.Core.Logic.{_⊎_, inl, inr}
 use native.Mathlib.Nat.{mul-le-mul-right}
 use native.Mathlib.Decide.{ℕ-discrete, decLt}
 use native.Mathlib.Omega.{arith}
@@ -149,15 +150,21 @@ module _ (s : ℕ) (h : List ℕ) (x : ℕ) (r : rising h ≡ true) where
   unfolding moveCountOf
   moved-none e k g = count-zero (λ j. moving s (firstGrowths j h) x) (length h) e k (g .1)
 
-  later-only : (k : ℕ) → IsGrowth h k → diskCount (firstGrowths (k - 1) h) * s ≤ x
+  -- of a block that growth k placed, or format
+  placed-unmoved : (k : ℕ) → k < length h → (k ≡ 0) ⊎ (diskCount (firstGrowths (k - 1) h) * s ≤ x) → (j : ℕ) → j ≤ k
+      → moving s (firstGrowths j h) x ≡ false
+  placed-unmoved k u (inl z) j i = let e : j ≡ 0 = omega arith in rw e (start-unmoved s h x r)
+  placed-unmoved k u (inr l) j i = added-unmoved s h x k r u l j i
+
+  later-only : (k : ℕ) → k < length h → (k ≡ 0) ⊎ (diskCount (firstGrowths (k - 1) h) * s ≤ x)
       → moveCountOf s h x ≡ count (λ j. ltb k j && moving s (firstGrowths j h) x) (length h)
   unfolding moveCountOf
-  later-only k g l =
+  later-only k u placed =
       count-ext _ _ (length h)
       (λ j _.
       elim (decLt k j) [
         | yes a ↦ rw (lt-ltb k j a)
-        | no a ↦ rw (le-ltb k j (omega (arith, a)), added-unmoved s h x k r (g .1) l j (omega (arith, a)))
+        | no a ↦ rw (le-ltb k j (omega (arith, a)), placed-unmoved k u placed j (omega (arith, a)))
       ])
 
   told : {q : Reason} → reasonOf s h x ≡ q → ByReason q (moveCountOf s h x)

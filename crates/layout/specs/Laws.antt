@@ -151,8 +151,8 @@ pub record MovesTrue (s : ℕ) (h : List ℕ) (x : ℕ) (r : Reason) (n : ℕ) :
   -- told as set out or as added: no growth since
   pub told-set-out : r ≡ SetOut → n ≡ 0
   pub told-added : (k : ℕ) → r ≡ AddedBy k → n ≡ 0
-  -- a block that growth k added, moved since or not: only later growths count
-  pub later-only : (k : ℕ) → IsGrowth h k → diskCount (firstGrowths (k - 1) h) * s ≤ x
+  -- a block that growth k added, or set out at format for 0: later growths that move it count, and nothing else does
+  pub later-only : (k : ℕ) → k < length h → (k ≡ 0) ⊎ (diskCount (firstGrowths (k - 1) h) * s ≤ x)
       → n ≡ count (λ j. ltb k j && moving s (firstGrowths j h) x) (length h)
 
 -- the moves of the newest growth, of all its windows

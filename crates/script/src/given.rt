@@ -55,10 +55,12 @@ pub const BACK: usize = 24;
 
 pub const VIEW: usize = 25;
 
-pub const NOTHING: usize = 26;
+pub const MOVES: usize = 26;
+
+pub const NOTHING: usize = 27;
 
 // The word `view`, with the lengths of the shelves.
-pub const VIEW_OF_LENGTHS: usize = 27;
+pub const VIEW_OF_LENGTHS: usize = 28;
 
 // A call with its numbers; NOTHING where no call has the word, or not so many numbers follow it.
 pub struct Given {
@@ -98,8 +100,9 @@ fn wanted(k: usize) -> usize {
         0,
         2,
         2,
+        1,
     ];
-    if k < 26 {
+    if k < 27 {
         return counts[k];
     }
     0
@@ -109,7 +112,7 @@ fn call_of(line: &[u8], count: usize) -> usize {
     let k = word_number(
         line,
         b"format restart sector grow copy checkpoint advance flushed write saves read reads address holder \
-addresses chart chart-of-record state medium cache record put bytes keep back view ",
+addresses chart chart-of-record state medium cache record put bytes keep back view moves ",
     );
     // Text may follow the number of `bytes`.
     if k == BYTES {

@@ -27,8 +27,12 @@ pub fn holder(v: Volume, disk: usize, row: usize) {
     show_holder(answer);
 }
 
-// Why a block is where it is, as a number.
-fn reason_number(reason: Reason) -> usize {
+// Kinds of blocks: 0, address refuses the block; 1, holder does not give it at its spot; 2 to 6, why it is there; and
+// UNMOVED + k, moved by k growths.
+const UNMOVED: usize = 7;
+
+// The kind by the reason why a block is at its spot.
+fn reason_kind(reason: Reason) -> usize {
     match reason {
         Reason::SetOut => 2,
         Reason::AddedBy(_) => 3,
@@ -40,26 +44,26 @@ fn reason_number(reason: Reason) -> usize {
     }
 }
 
-// 0 if holder gives block x at p, else 1.
-fn is_other(v: Volume, p: Spot, x: usize) -> usize {
+// The kind below UNMOVED of block x, which is at p by its address.
+fn kind_at(v: Volume, p: Spot, x: usize, reason: Reason) -> usize {
     let reply = v.holder(p);
     let answer = reply.answer;
     match answer {
         HolderAnswer::Refused(_) => 1,
-        HolderAnswer::Has(y) => if y.0 == x { 0 } else { 1 },
+        HolderAnswer::Has(y) => if y.0 == x { reason_kind(reason) } else { 1 },
     }
 }
 
-// Why block x is where it is; 0 where address refuses it, 1 where holder does not give it at its spot.
-fn kind_of(v: Volume, x: usize) -> usize {
+// Is block x of a kind?
+fn is_of(v: Volume, x: usize, kind: usize) -> bool {
     let reply = v.address(Block(x));
     let answer = reply.answer;
     match answer {
-        AddressAnswer::Refused(_) => 0,
-        AddressAnswer::At(p, reason, _) => if is_other(v, p, x) == 1 {
-            1
+        AddressAnswer::Refused(_) => kind == 0,
+        AddressAnswer::At(p, reason, moves) => if kind < UNMOVED {
+            kind_at(v, p, x, reason) == kind
         } else {
-            reason_number(reason)
+            moves == kind - UNMOVED
         },
     }
 }
@@ -69,7 +73,7 @@ fn blocks_of(v: Volume, end: usize, kind: usize) -> usize {
     let mut total = 0;
     let mut x = 0;
     while x < end {
-        if kind_of(v, x) == kind {
+        if is_of(v, x, kind) {
             total += 1;
         }
         x += 1;
@@ -77,12 +81,22 @@ fn blocks_of(v: Volume, end: usize, kind: usize) -> usize {
     total
 }
 
-// How many blocks below `end` are refused, not found again by holder, set out at format, added, and moved as head, body and tail.
-pub fn addresses(v: Volume, end: usize) {
+// How many blocks below `end` are of each kind from `from` up to, not including, `to`.
+fn show_counts(v: Volume, end: usize, from: usize, to: usize) {
     text(b":");
-    let mut kind = 0;
-    while kind < 7 {
+    let mut kind = from;
+    while kind < to {
         next_number(blocks_of(v, end, kind));
         kind += 1;
     }
+}
+
+// How many blocks below `end` are refused, not found again by holder, set out at format, added, and moved as head, body and tail.
+pub fn addresses(v: Volume, end: usize) {
+    show_counts(v, end, 0, UNMOVED);
+}
+
+// How many blocks below `end` were moved by 0 growths, by 1, and so on up to 7. A block that is refused is not counted.
+pub fn moves(v: Volume, end: usize) {
+    show_counts(v, end, UNMOVED, 15);
 }

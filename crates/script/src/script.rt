@@ -20,6 +20,7 @@ use super::given::Given;
 use super::given::HOLDER;
 use super::given::KEEP;
 use super::given::MEDIUM;
+use super::given::MOVES;
 use super::given::PUT;
 use super::given::READ;
 use super::given::READS;
@@ -36,6 +37,7 @@ use super::lines::place_after;
 use super::lookups::address;
 use super::lookups::addresses;
 use super::lookups::holder;
+use super::lookups::moves;
 use super::run::Run;
 use super::run::keep;
 use super::run::start;
@@ -59,6 +61,7 @@ fn look(v: Volume, given: Given) {
         ADDRESS => address(v, given.a),
         HOLDER => holder(v, given.a, given.b),
         ADDRESSES => addresses(v, given.a),
+        MOVES => moves(v, given.a),
         _ => text(b": no such line, or not so many numbers"),
     }
 }

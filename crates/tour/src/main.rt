@@ -21,7 +21,8 @@ The medium holds the disks, and the record, which says how far a growth has come
 \nformat makes a volume. write saves a picture in a block, read fetches it.
 grow begins a growth. advance copies one block or, after the last, does a checkpoint.
 checkpoint records the copies made. restart takes the state from the record.
-address tells where a block lives and why, holder which block lives at a spot.
+address tells where a block lives and why, and by how many growths it was moved.
+holder tells which block lives at a spot.
 view shows a block where it stands, without a copy, from disks on two shelves.
 flushed tells the volume that the drives were flushed: all that it stored is on them.
 Before part 6 the drives are flushed after each call that stores, and flushed is called.
@@ -94,6 +95,7 @@ fn second_growth(rack: Rack) -> Rack {
   advance: @V
   advance: @V
 The last of the 6 calls that were reported finished the growth.
+Growth 2 moved only blocks that growth 1 added: none was moved by both.
 The blocks that growth 2 added are open now, 25 to 29.
   write picture 1 of each open block from 25 on: done @E times
   address: block 7@A

@@ -5,7 +5,7 @@ use native.Mathlib.Omega.{arith}
 use borrow.Author.Needs.{needs}
 use Rattle.script.proofs.lookups.blocks_of.Statement.{statement}
 use Rattle.script.proofs.lookups.blocks_of.Tie as tie
-use Rattle.script.proofs.lookups.kind_of.Reads as kind-of-reads
+use Rattle.script.proofs.lookups.is_of.Reads as is-of-reads
 
 abbrev Inv-loop : tie.InvT-loop
 Inv-loop v end kind total₀ x₀ total x = (x ≤ end) × (total ≤ x)
@@ -16,8 +16,8 @@ abbrev μ-loop : tie.MeasureT-loop
 loop-holds : tie.Need-loop-holds Inv-loop μ-loop
 loop-holds c = search needs
 
-kind-of-requires : tie.Need-kind-of-requires Inv-loop μ-loop
-kind-of-requires c κs = search needs
+is-of-requires : tie.Need-is-of-requires Inv-loop μ-loop
+is-of-requires c κs = search needs
 
 add-total : tie.Need-add-total Inv-loop μ-loop
 add-total c = search needs
@@ -41,7 +41,7 @@ blocks-of-spec =
     Inv-loop
     μ-loop
     loop-holds
-    kind-of-requires
+    is-of-requires
     add-total
     add-x
     loop-less

@@ -1,17 +1,17 @@
--- `addresses` meets its contract.
+-- `show_counts` meets its contract.
 use Prim.Native.Nat.{_-_, _≤_}
 use borrow.Author.Needs.{needs}
-use Rattle.script.proofs.lookups.addresses.Statement.{statement}
-use Rattle.script.proofs.lookups.addresses.Tie as tie
+use Rattle.script.proofs.lookups.show_counts.Statement.{statement}
+use Rattle.script.proofs.lookups.show_counts.Tie as tie
 use Rattle.printing.proofs.text.Reads as text-reads
 use Rattle.printing.proofs.next_number.Reads as next-number-reads
 use Rattle.script.proofs.lookups.blocks_of.Reads as blocks-of-reads
 
 abbrev Inv-loop : tie.InvT-loop
-Inv-loop v end kind₀ kind = kind ≤ 7
+Inv-loop v end from to kind₀ kind = from ≤ kind
 
 abbrev μ-loop : tie.MeasureT-loop
-μ-loop v end kind₀ kind = 7 - kind
+μ-loop v end from to kind₀ kind = to - kind
 
 slice-aggregate-text : tie.Need-slice-aggregate-text Inv-loop μ-loop
 slice-aggregate-text c = search needs
@@ -40,8 +40,8 @@ loop-again c = search needs
 returns : tie.Need-returns Inv-loop μ-loop
 returns c = search needs
 
-pub addresses-spec : {M : Type 1} → statement M
-addresses-spec =
+pub show-counts-spec : {M : Type 1} → statement M
+show-counts-spec =
     tie.close
     (tie.spec
     Inv-loop
