@@ -1,11 +1,10 @@
 -- By how many growths the blocks of a tally were moved, at rest and while a growth runs, and the sums over all blocks.
-use Prim.Native.Nat.{ℕ, suc, _+_, _*_, _≤_, _<_}
+use Prim.Native.Nat.{ℕ, suc, _+_, _*_, _<_}
 use mathlib.Core.Path.{_≡_, refl, sym, _∙_, ap}
 use mathlib.Core.Bool.{Bool, true, false, cond, true≢false, false≢true}
 use mathlib.Core.List.{List, [], _∷_}
 use mathlib.Core.Logic.{_≢_}
 use native.Mathlib.Nat.{mul-le-mul-right}
-use native.Mathlib.Decide.{decLt}
 use native.Mathlib.Numerals.{add-one}
 use native.Mathlib.Omega.{arith}
 use lib.ListN.{length}
@@ -18,22 +17,11 @@ use Rattle.layout.specs.Tally.{Mode, notGrowing, growing, isRunning, Tal
 use Rattle.layout.specs.Laws.{MovesTrue, movesOfGrowths, LiveMoves}
 use Rattle.base.proofs.Booleans.{cond-cases, and-left, by-test, clash}
 use Rattle.base.proofs.Counting.{sum-ext, count-end, sum-of-counts, sum-with-count}
-use Rattle.layout.proofs.Histories.{not-rising, rising-up, rising-earlier, all-growths, without-newest}
+use Rattle.layout.proofs.Histories.{not-rising, rising-earlier}
 use Rattle.layout.proofs.ReasonsTrue.{moved-elsewhere}
-use Rattle.layout.proofs.MovesTrue.{new-unmoved, format-unmoved, moves-one-more, moves-law}
+use Rattle.layout.proofs.MovesTrue.{new-unmoved, format-unmoved, moves-one-more, old-below, moves-law}
 
 -- ---- the sum over all blocks of a history
-
-old-below : (h : List ℕ) (k : ℕ) → rising h ≡ true → oldCount (firstGrowths k h) ≤ diskCount h
-unfolding oldCount earlier diskCount
-old-below [] k r = absurd (not-rising r)
-old-below (c ∷ []) k r = rw (all-growths k (c ∷ []) (omega arith)) (omega arith)
-old-below (c ∷ m ∷ h) k r =
-    let up = rising-up c m h r in
-    elim (decLt k (length (m ∷ h))) [
-      | yes a ↦ rw (without-newest k c (m ∷ h) a) (omega (arith, up, old-below (m ∷ h) k (rising-earlier c m h r)))
-      | no a ↦ rw (all-growths k (c ∷ m ∷ h) (omega (arith, a))) (omega (arith, up))
-    ]
 
 sum-of-moves : (s : ℕ) (h : List ℕ) → rising h ≡ true → sum (moveCountOf s h) (diskCount h * s) ≡ movesOfGrowths s h
 unfolding moveCountOf movesOfGrowth

@@ -1,4 +1,4 @@
--- By how many growths a block was moved: the number told is true of a history, and of a tally's live spots.
+-- By how many growths of a history a block was moved: one more by each that moves it, none by others, and the number told is true.
 use Prim.Native.Nat.{ℕ, _+_, _-_, _*_, _≤_, _<_}
 use mathlib.Core.Path.{_≡_, refl, _∙_, subst}
 use mathlib.Core.Bool.{true, false, cond, _&&_}
@@ -47,17 +47,21 @@ moves-at-format s c x = moves-one-more s c [] x ∙ (rw (format-unmoved s c x))
 
 -- ---- blocks that are not there
 
--- a block that a history does not have was moved by none of its growths
-absent-unmoved : (s : ℕ) (h : List ℕ) (x : ℕ) → rising h ≡ true → diskCount h * s ≤ x → (k : ℕ) → moving s (firstGrowths k h) x ≡ false
-unfolding diskCount oldCount earlier
-absent-unmoved s [] x r l k = absurd (not-rising r)
-absent-unmoved s (c ∷ []) x r l k = rw (all-growths k (c ∷ []) (omega arith)) (format-unmoved s c x)
-absent-unmoved s (c ∷ m ∷ h) x r l k =
-    let old : m * s ≤ x = omega (arith, mul-le-mul-right s (rising-up c m h r)) in
+-- no growth of a history has more old disks than there are now
+pub old-below : (h : List ℕ) (k : ℕ) → rising h ≡ true → oldCount (firstGrowths k h) ≤ diskCount h
+unfolding oldCount earlier diskCount
+old-below [] k r = absurd (not-rising r)
+old-below (c ∷ []) k r = rw (all-growths k (c ∷ []) (omega arith)) (omega arith)
+old-below (c ∷ m ∷ h) k r =
+    let up = rising-up c m h r in
     elim (decLt k (length (m ∷ h))) [
-      | yes a ↦ rw (without-newest k c (m ∷ h) a) (absent-unmoved s (m ∷ h) x (rising-earlier c m h r) old k)
-      | no a ↦ rw (all-growths k (c ∷ m ∷ h) (omega (arith, a))) (new-unmoved s (c ∷ m ∷ h) x old)
+      | yes a ↦ rw (without-newest k c (m ∷ h) a) (omega (arith, up, old-below (m ∷ h) k (rising-earlier c m h r)))
+      | no a ↦ rw (all-growths k (c ∷ m ∷ h) (omega (arith, a))) (omega (arith, up))
     ]
+
+-- so a block that a history does not have was moved by none of its growths
+absent-unmoved : (s : ℕ) (h : List ℕ) (x : ℕ) → rising h ≡ true → diskCount h * s ≤ x → (k : ℕ) → moving s (firstGrowths k h) x ≡ false
+absent-unmoved s h x r l k = new-unmoved s (firstGrowths k h) x (omega (arith, mul-le-mul-right s (old-below h k r)))
 
 pub absent-moves : (s : ℕ) (h : List ℕ) (x : ℕ) → rising h ≡ true → diskCount h * s ≤ x → moveCountOf s h x ≡ 0
 unfolding moveCountOf
