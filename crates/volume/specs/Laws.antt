@@ -166,6 +166,7 @@ pub record VolumeLaws : Type 0 where
   pub address-moves : (v : Volume) (x : ℕ) → addressNumber (addressReply v x .answer) ≡ 0
       → (let answer = addressReply v x .answer in
       MovesTrue (v .rows) (growthsOf (tallyOf v) x) x (reasonTold answer) (movesTold answer) × (movesTold answer ≤ v .growths))
+  -- when a growth under way counts, and what the numbers of all open blocks add up to
   pub live-moves : (v : Volume) → sound v ≡ true → LiveMoves (tallyOf v)
   -- address and holder are inverse to each other in every stage of a growth, and after a finished one 15 never occurs
   pub look-ups : (v : Volume) → sound v ≡ true → LookUps (tallyOf v)
