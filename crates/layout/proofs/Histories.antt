@@ -7,7 +7,7 @@ use native.Mathlib.Omega.{arith}
 use lib.Dec.{ltb}
 use lib.ListN.{length}
 use borrow.Author.Tests.{ltb-true, leb-true}
-use Rattle.layout.specs.History.{earlier, rising}
+use Rattle.layout.specs.History.{diskCount, earlier, oldCount, rising}
 use Rattle.layout.specs.Reasons.{firstGrowths}
 use Rattle.base.proofs.Booleans.{and-left, and-right}
 
@@ -27,6 +27,18 @@ pub rising-some : (c : ℕ) (h : List ℕ) → rising (c ∷ h) ≡ true → 0 <
 unfolding rising
 rising-some c [] e = leb-true 1 c e
 rising-some c (m ∷ h) e = omega (arith, rising-up c m h e)
+
+-- the history before its newest growth, of one that has a growth
+pub rising-before : (h : List ℕ) → rising h ≡ true → 0 < oldCount h → rising (earlier h) ≡ true
+unfolding oldCount earlier diskCount
+rising-before [] r g = absurd (not-rising r)
+rising-before (c ∷ []) r g = absurd (omega arith)
+rising-before (c ∷ m ∷ h) r g = rising-earlier c m h r
+
+-- no history is empty
+pub rising-length : (h : List ℕ) → rising h ≡ true → 0 < length h
+rising-length [] r = absurd (not-rising r)
+rising-length (c ∷ h) r = omega arith
 
 -- ---- the first growths of a history
 

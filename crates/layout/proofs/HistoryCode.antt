@@ -267,21 +267,21 @@ moves-suc : (s k : ℕ) (l : List ℕ) (x : ℕ)
 unfolding history
 moves-suc s k l x = moves-one-more s (getD l (suc k) 0) (history k l) x
 
-moving-added : (s k : ℕ) (l : List ℕ) (x : ℕ) → getD l k 0 * s ≤ x → moving s (history (suc k) l) x ≡ false
+unmoved-counted : (s k : ℕ) (l : List ℕ) (x : ℕ) → getD l k 0 * s ≤ x → moving s (history (suc k) l) x ≡ false
 unfolding history oldCount earlier
-moving-added s k l x h = new-unmoved s (history (suc k) l) x (rw (history-disks k l) h)
+unmoved-counted s k l x h = new-unmoved s (history (suc k) l) x (rw (history-disks k l) h)
 
-moving-old : (s k : ℕ) (l : List ℕ) (x : ℕ) → There s k l x
+moving-counted : (s k : ℕ) (l : List ℕ) (x : ℕ) → There s k l x
     → moving s (history (suc k) l) x ≡ movesFrom (getD l k 0) (getD l (suc k) 0 - getD l k 0) (spotOf s (history k l) x)
 unfolding moving history oldCount addedCount oldSpot earlier diskCount
-moving-old s k l x h = rw (history-disks k l, lt-ltb x (getD l k 0 * s) (counted-there s k l x h))
+moving-counted s k l x h = rw (history-disks k l, lt-ltb x (getD l k 0 * s) (counted-there s k l x h))
 
 pub moves-placed : (s k : ℕ) (l : List ℕ) (x : ℕ) → rising (history k l) ≡ true → NotBefore s k l x → 0 ≡ moveCountOf s (history k l) x
 unfolding history
 moves-placed s zero l x r h = sym (moves-at-format s (getD l 0 0) x)
 moves-placed s (suc j) l x r h =
     let old = not-before-counted s j (suc j) l x refl h in
-    sym (rw (moves-suc s j l x, moving-added s j l x old, absent-moves s (history j l) x (rise-before j l r) (rw (history-disks j l) old)))
+    sym (rw (moves-suc s j l x, unmoved-counted s j l x old, absent-moves s (history j l) x (rise-before j l r) (rw (history-disks j l) old)))
 
 -- what a growth did with an old block says whether it moved it
 changed-moves : (m n : ℕ) (p : Spot) (before : ℕ) → movesAfter (oldChange m n p) before ≡ before + cond (movesFrom m n p) 1 0
@@ -295,7 +295,7 @@ moves-next s k l x p c n q w e f g o =
     let m = getD l k 0 in
     let a = getD l (suc k) 0 - getD l k 0 in
     rw (add-one k)
-    (rw (g, e, f, add-one k, changed-moves m a (spotOf s (history k l) x) (moveCountOf s (history k l) x), ← moving-old s k l x w) at o ∙ sym (moves-suc s k l x))
+    (rw (g, e, f, add-one k, changed-moves m a (spotOf s (history k l) x) (moveCountOf s (history k l) x), ← moving-counted s k l x w) at o ∙ sym (moves-suc s k l x))
 
 -- at most k, so that one more does not wrap
 pub moves-below : (s t k : ℕ) (l : List ℕ) (x n : ℕ) → t ≤ mostGrowths → k ≤ t → n ≡ moveCountOf s (history k l) x → n ≤ mostGrowths

@@ -17,7 +17,7 @@ use Rattle.layout.specs.Tally.{Mode, notGrowing, growing, isRunning, Tal
 use Rattle.layout.specs.Laws.{MovesTrue, movesOfGrowths, LiveMoves}
 use Rattle.base.proofs.Booleans.{cond-cases, and-left, by-test, clash}
 use Rattle.base.proofs.Counting.{sum-ext, count-end, sum-of-counts, sum-with-count}
-use Rattle.layout.proofs.Histories.{not-rising, rising-earlier}
+use Rattle.layout.proofs.Histories.{not-rising, rising-before}
 use Rattle.layout.proofs.ReasonsTrue.{moved-elsewhere}
 use Rattle.layout.proofs.MovesTrue.{new-unmoved, format-unmoved, moves-one-more, old-below, moves-law}
 
@@ -53,7 +53,7 @@ moved-more s (c ∷ h) x e = rw e at (moves-one-more s c h x)
 
 module _ (s : ℕ) (h : List ℕ) (moved : ℕ → Bool) (x : ℕ) where
   -- at its new spot x is a block that moves
-  moves-there : atNewSpot s h moved x ≡ true → moving s h x ≡ true
+  pub moves-there : atNewSpot s h moved x ≡ true → moving s h x ≡ true
   unfolding atNewSpot
   moves-there e = and-left (moving s h x) (moved x) e
 
@@ -66,13 +66,6 @@ module _ (s : ℕ) (h : List ℕ) (moved : ℕ → Bool) (x : ℕ) where
   live-count = by-test (atNewSpot s h moved x) (λ e. rw e (moved-more s h x (moves-there e))) (λ e. rw e (omega arith))
 
 -- ---- a tally
-
--- the history before a growth that runs
-rising-before : (h : List ℕ) → rising h ≡ true → 0 < oldCount h → rising (earlier h) ≡ true
-unfolding oldCount earlier diskCount
-rising-before [] r g = absurd (not-rising r)
-rising-before (c ∷ []) r g = absurd (omega arith)
-rising-before (c ∷ m ∷ h) r g = rising-earlier c m h r
 
 module _ (s : ℕ) (h : List ℕ) (w : ℕ) (copied recorded : ℕ → Bool) (r : rising h ≡ true) where
   abbrev tally : Mode → Tally

@@ -1,6 +1,5 @@
 -- The table of moves worked out by hand, by computing.
 use mathlib.Core.Path.{refl}
-use lib.ListN.{length, drop}
 use Rattle.base.specs.Below.{count, sum}
 use Rattle.layout.specs.Growth.{minusMod, moves, partOf, newDisk, diskAfter, movesFrom, oldBlockSpot, addedDisk, addedSpot, spotAfter}
 use Rattle.layout.specs.History.{diskCount, earlier, oldCount, addedCount, spotOf}

@@ -1,6 +1,6 @@
 -- By how many growths of a history a block was moved: one more by each that moves it, none by others, and the number told is true.
 use Prim.Native.Nat.{ℕ, _+_, _-_, _*_, _≤_, _<_}
-use mathlib.Core.Path.{_≡_, refl, _∙_, subst}
+use mathlib.Core.Path.{_≡_, refl, sym, _∙_, subst}
 use mathlib.Core.Bool.{true, false, cond, _&&_}
 use mathlib.Core.List.{List, [], _∷_}
 use mathlib.Core.Logic.{_⊎_, inl, inr}
@@ -19,7 +19,7 @@ use Rattle.layout.specs.Reasons.{reasonOf, firstGrowths, moveCountOf}
 use Rattle.layout.specs.Laws.{IsGrowth, MovesTrue}
 use Rattle.base.proofs.Booleans.{by-test}
 use Rattle.base.proofs.Counting.{count-ext, count-none, count-zero}
-use Rattle.layout.proofs.Histories.{not-rising, rising-up, rising-earlier, all-growths, without-newest}
+use Rattle.layout.proofs.Histories.{not-rising, rising-up, rising-earlier, rising-length, all-growths, without-newest}
 use Rattle.layout.proofs.ReasonsTrue.{reason-stays, reason-moved, reason-added}
 
 -- ---- one growth more
@@ -68,12 +68,12 @@ unfolding moveCountOf
 absent-moves s h x r l = count-none _ (length h) (λ k _. absent-unmoved s h x r l k)
 
 -- nor was a block that growth k added moved by that growth or by one before
-added-unmoved : (s : ℕ) (h : List ℕ) (x k : ℕ) → rising h ≡ true → k < length h → diskCount (firstGrowths (k - 1) h) * s ≤ x
+unmoved-until-added : (s : ℕ) (h : List ℕ) (x k : ℕ) → rising h ≡ true → k < length h → diskCount (firstGrowths (k - 1) h) * s ≤ x
     → (j : ℕ) → j ≤ k → moving s (firstGrowths j h) x ≡ false
 unfolding diskCount oldCount earlier
-added-unmoved s [] x k r u l j i = absurd (not-rising r)
-added-unmoved s (c ∷ []) x k r u l j i = rw (all-growths j (c ∷ []) (omega arith)) (format-unmoved s c x)
-added-unmoved s (c ∷ m ∷ h) x k r u l j i =
+unmoved-until-added s [] x k r u l j i = absurd (not-rising r)
+unmoved-until-added s (c ∷ []) x k r u l j i = rw (all-growths j (c ∷ []) (omega arith)) (format-unmoved s c x)
+unmoved-until-added s (c ∷ m ∷ h) x k r u l j i =
     elim (ℕ-discrete k (length (m ∷ h))) [
       | yes a ↦
           let e : k - 1 ≡ length h = omega (arith, a) in
@@ -81,7 +81,7 @@ added-unmoved s (c ∷ m ∷ h) x k r u l j i =
           newest (rw f at l)
       | no a ↦
           rw (without-newest j c (m ∷ h) (omega (arith, a)))
-          (added-unmoved s (m ∷ h) x k (rising-earlier c m h r) (omega (arith, a)) (rw (without-newest (k - 1) c (m ∷ h) (omega (arith, a))) at l) j i)
+          (unmoved-until-added s (m ∷ h) x k (rising-earlier c m h r) (omega (arith, a)) (rw (without-newest (k - 1) c (m ∷ h) (omega (arith, a))) at l) j i)
     ]
   where
     newest : m * s ≤ x → moving s (firstGrowths j (c ∷ m ∷ h)) x ≡ false
@@ -158,7 +158,7 @@ module _ (s : ℕ) (h : List ℕ) (x : ℕ) (r : rising h ≡ true) where
   placed-unmoved : (k : ℕ) → k < length h → (k ≡ 0) ⊎ (diskCount (firstGrowths (k - 1) h) * s ≤ x) → (j : ℕ) → j ≤ k
       → moving s (firstGrowths j h) x ≡ false
   placed-unmoved k u (inl z) j i = let e : j ≡ 0 = omega arith in rw e (start-unmoved s h x r)
-  placed-unmoved k u (inr l) j i = added-unmoved s h x k r u l j i
+  placed-unmoved k u (inr l) j i = unmoved-until-added s h x k r u l j i
 
   later-only : (k : ℕ) → k < length h → (k ≡ 0) ⊎ (diskCount (firstGrowths (k - 1) h) * s ≤ x)
       → moveCountOf s h x ≡ count (λ j. ltb k j && moving s (firstGrowths j h) x) (length h)
@@ -185,3 +185,8 @@ module _ (s : ℕ) (h : List ℕ) (x : ℕ) (r : rising h ≡ true) where
         told-added = λ k e. told e;
         later-only = later-only;
       }
+
+-- by those after format alone it is told
+pub only-moves-law : (s : ℕ) (h : List ℕ) (x : ℕ) → rising h ≡ true → (q r : Reason) (n k : ℕ) → MovesTrue s h x q n → MovesTrue s h x r k → n ≡ k
+only-moves-law s h x a q r n k t u =
+    let some = rising-length h a in t .later-only 0 some (inl refl) ∙ sym (u .later-only 0 some (inl refl))

@@ -29,7 +29,7 @@ use Rattle.layout.proofs.AddedBlocks.{added-law}
 use Rattle.layout.proofs.ReasonsTrue.{reasons-law, only-reason-law, live-reasons-law}
 use Rattle.layout.proofs.MarkBlocks.{marks-law}
 use Rattle.layout.proofs.MoveCounts.{counts-law, growth-law}
-use Rattle.layout.proofs.MovesTrue.{moves-at-format, moves-one-more, moves-law}
+use Rattle.layout.proofs.MovesTrue.{moves-at-format, moves-one-more, moves-law, only-moves-law}
 use Rattle.layout.proofs.LiveMoves.{live-moves-law}
 use Rattle.layout.proofs.MoveCases.{moves-hold}
 use Rattle.layout.proofs.WindowsCode.{marks-most}
@@ -169,6 +169,7 @@ layout-laws =
       moves-at-format = moves-at-format;
       moves-one-more = moves-one-more;
       moves-true = moves-true;
+      only-moves = only-moves-law;
       growth-moves = growth-moves;
       live-moves = live-moves;
       move-cases = moves-hold;

@@ -230,6 +230,8 @@ pub record LayoutLaws : Type 0 where
   pub moves-at-format : (s c x : ℕ) → moveCountOf s (c ∷ []) x ≡ 0
   pub moves-one-more : (s c : ℕ) (h : List ℕ) (x : ℕ) → moveCountOf s (c ∷ h) x ≡ moveCountOf s h x + cond (moving s (c ∷ h) x) 1 0
   pub moves-true : (s : ℕ) (h : List ℕ) (x : ℕ) → rising h ≡ true → MovesTrue s h x (reasonOf s h x) (moveCountOf s h x)
+  -- no other number is, whatever reason is told beside it
+  pub only-moves : (s : ℕ) (h : List ℕ) (x : ℕ) → rising h ≡ true → (q r : Reason) (n k : ℕ) → MovesTrue s h x q n → MovesTrue s h x r k → n ≡ k
   pub growth-moves : (s : ℕ) (h : List ℕ) → rising h ≡ true → 0 < oldCount h → GrowthMoves s h
   pub live-moves : (t : Tally) → rising (t .counts) ≡ true → (isRunning (t .mode) ≡ true → 0 < oldCount (t .counts)) → LiveMoves t
   pub move-cases : MovesHold

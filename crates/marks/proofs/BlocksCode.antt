@@ -7,7 +7,7 @@ use native.Mathlib.Omega.{arith}
 use lib.Dec.{eqb, ltb}
 use lib.ListN.{length, getD}
 use borrow.Author.Tests.{lt-ltb, le-ltb}
-use Rattle.base.proofs.Booleans.{and-left, and-right, by-test}
+use Rattle.base.proofs.Booleans.{and-right, by-test}
 use Rattle.layout.specs.declared.Address.{Address}
 use Rattle.layout.specs.declared.Block.{Block}
 use Rattle.layout.specs.declared.GrowthDisks.{GrowthDisks}
@@ -20,7 +20,7 @@ use Rattle.layout.specs.Reasons.{reasonAfter, addressOf}
 use Rattle.layout.specs.Tally.{recordedBy}
 use Rattle.layout.specs.Windows.{windowOfRow, markOfSpot, oldSpot, moving, windowOf, movingIn, markOf, markedBlocks}
 use Rattle.layout.proofs.HistoryCode.{history-disks, limits-at, newest-old, back-added, back-older}
-use Rattle.layout.proofs.LiveMoves.{moved-more}
+use Rattle.layout.proofs.LiveMoves.{moved-more, moves-there}
 use Rattle.layout.proofs.MarkSpots.{mark-below}
 use Rattle.layout.proofs.NewestCode.{old-is, added-is, newest-grows}
 use Rattle.layout.proofs.Theorems.{disks-sum, spots-and-blocks, spot-after-newest, reason-after-newest}
@@ -188,8 +188,7 @@ module _ (s : ℕ) (h : List ℕ) (w x k : ℕ) (below : x < oldCount h * s) (ma
   address-stays e = rw (moved-told, e)
 
   moving-then : moved ≡ true → moving s h x ≡ true
-  unfolding atNewSpot
-  moving-then e = and-left (moving s h x) _ e
+  moving-then = moves-there s h (recordedBy s h w (markedBlocks s h w marks)) x
 
   moves-then : moved ≡ true → movesFrom (oldCount h) (addedCount h) (spotOf s (earlier h) x) ≡ true
   unfolding moving oldSpot
