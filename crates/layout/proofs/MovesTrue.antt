@@ -186,7 +186,7 @@ module _ (s : ℕ) (h : List ℕ) (x : ℕ) (r : rising h ≡ true) where
         later-only = later-only;
       }
 
--- by those after format alone it is told
+-- `later-only` of format gives the number, so no other one is true
 pub only-moves-law : (s : ℕ) (h : List ℕ) (x : ℕ) → rising h ≡ true → (q r : Reason) (n k : ℕ) → MovesTrue s h x q n → MovesTrue s h x r k → n ≡ k
 only-moves-law s h x a q r n k t u =
     let some = rising-length h a in t .later-only 0 some (inl refl) ∙ sym (u .later-only 0 some (inl refl))
