@@ -4,11 +4,12 @@ use mathlib.Core.List.{List}
 use Rattle.volume.specs.Calls.{Outcome}
 use Rattle.promise.specs.Calls as promise
 use Rattle.calls.specs.declared.Call.{Call}
-use Rattle.calls.specs.declared.Call.the-variants.{Grow, Copy, Checkpoint, Advance, Write, Read, Restart, Flushed}
+use Rattle.calls.specs.declared.Call.the-variants.{Grow, GrowBeyondDoubling, Copy, Checkpoint, Advance, Write, Read, Restart, Flushed}
 
 -- the same call; write and read take the lent piece
 abbrev pub asked : (call : Call) (piece : List ℕ) → promise.Call
 asked (Grow count) piece = promise.grow count
+asked (GrowBeyondDoubling count) piece = promise.growBeyondDoubling count
 asked (Copy x) piece = promise.copy (x .0)
 asked Checkpoint piece = promise.checkpoint
 asked Advance piece = promise.advance
@@ -20,6 +21,7 @@ asked Flushed piece = promise.flushed
 -- the piece after it: the outcome's for write and read; the calls that take none leave what was lent
 unfoldable pub pieceAfter : (call : Call) (piece : List ℕ) (o : Outcome) → List ℕ
 pieceAfter (Grow count) piece o = piece
+pieceAfter (GrowBeyondDoubling count) piece o = piece
 pieceAfter (Copy x) piece o = piece
 pieceAfter Checkpoint piece o = piece
 pieceAfter Advance piece o = piece

@@ -8,6 +8,7 @@ pub use making::make;
 // A call with its numbers; the piece of a write or a read is lent beside it.
 pub enum Call {
     Grow(usize),
+    GrowBeyondDoubling(usize),
     Copy(Block),
     Checkpoint,
     Advance,

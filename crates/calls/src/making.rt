@@ -16,6 +16,7 @@ pub fn make(state: Volume, medium: &mut [u8], call: Call, piece: &mut [u8]) -> R
 {
     match call {
         Call::Grow(count) => state.grow(medium, count),
+        Call::GrowBeyondDoubling(count) => state.grow_beyond_doubling(medium, count),
         Call::Copy(x) => state.copy(medium, x),
         Call::Checkpoint => state.checkpoint(medium),
         Call::Advance => state.advance(medium),

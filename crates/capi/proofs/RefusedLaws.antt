@@ -1,16 +1,16 @@
 -- What the exported functions leave: no call has the number of a wrong length, and a refused call leaves the words and the piece as they
 -- were, zeros as figures and nothing stored.
-use Prim.Native.Nat.{ℕ, _<_}
-use mathlib.Core.Path.{_≡_, refl, ap, _∙_}
-use mathlib.Core.Bool.{Bool, true, false, cond, _&&_, false≢true}
+use Prim.Native.Nat.{ℕ}
+use mathlib.Core.Path.{_≡_, refl, ap, sym, _∙_}
+use mathlib.Core.Bool.{Bool, true, false, cond, not, false≢true}
 use mathlib.Core.List.{List, [], _∷_}
 use mathlib.Core.Logic.{_≢_}
 use native.Mathlib.Omega.{arith}
-use lib.Dec.{eqb, ltb}
+use lib.Dec.{eqb}
 use lib.ListN.{length, take, replicate}
-use borrow.Author.Tests.{ltb-true}
 use Rattle.base.specs.Refusals.{refusal}
-use Rattle.base.proofs.Booleans.{cond-cases, and-left, and-right}
+use Rattle.base.proofs.Booleans.{cond-cases, and-left}
+use Rattle.base.proofs.Refusals.{allNumbers, never-told}
 use Rattle.layout.specs.declared.Spot.{Spot}
 use Rattle.layout.specs.Limits.{mostDisks}
 use Rattle.medium.specs.Medium.{Observations}
@@ -23,14 +23,14 @@ use Rattle.volume.specs.declared.AddressAnswer.the-variants as address
 use Rattle.volume.specs.declared.HolderAnswer.{HolderAnswer}
 use Rattle.volume.specs.declared.HolderAnswer.the-variants as holder
 use Rattle.volume.specs.Answers.{number, callsTold, blockCopied, partCopied, addressNumber, holderNumber, blockTold}
-use Rattle.volume.specs.Calls.{Outcome, refused, formatTable, formatOutcome, restartTable, growTable, writeTable, writeOutcome, readTable, readOutcome, flushedTable, flushedEffect, flushedOutcome, doing, writeEffect, readEffect, copyTable, checkpointTable, advanceTable, addressTable, addressReply, holderTable, holderReply}
+use Rattle.volume.specs.Calls.{Outcome, refused, formatTable, formatOutcome, restartTable, doublingRows, growTableOf, growTable, growBeyondDoublingTable, writeTable, writeOutcome, readTable, readOutcome, flushedTable, flushedEffect, flushedOutcome, doing, writeEffect, readEffect, copyTable, checkpointTable, advanceTable, addressTable, addressReply, holderTable, holderReply}
 use Rattle.volume.specs.Laws.{Refuses}
 use Rattle.volume.specs.Records.{numbersOf}
 use Rattle.volume.specs.States.{nonePending, pendingWith, newState, withPending, zeros}
 use Rattle.volume.proofs.Judged.{judged-cases}
 use Rattle.volume.proofs.RecordCode.{eight-listed}
 use Rattle.volume.proofs.Theorems.{volume-laws}
-use Rattle.promise.specs.Calls.{Call, grow, copy, checkpoint, advance, write, read, restart, flushed}
+use Rattle.promise.specs.Calls.{Call, grow, growBeyondDoubling, copy, checkpoint, advance, write, read, restart, flushed}
 use Rattle.promise.specs.Lists.{callOutcome}
 use Rattle.scene_load.specs.declared.Scene.{Scene}
 use Rattle.scene_load.specs.Loads.{placeTold, loadTable, loadOf, loadNumber}
@@ -39,7 +39,7 @@ use Rattle.shelves.specs.declared.ViewAnswer.{ViewAnswer}
 use Rattle.shelves.specs.declared.ViewAnswer.the-variants as view
 use Rattle.shelves.specs.Views.{shelvesTable, viewTable, viewAnswer, viewNumber}
 use Rattle.shelves.proofs.Refusing.{view-told}
-use Rattle.capi.specs.Exported.{Left, wrongLength, lengthsFit, stateFits, untouched, handedBack, lookedUp, lookUpLeft, callLeft, formatLeft, restartLeft, growLeft, copyLeft, checkpointLeft, advanceLeft, writeLeft, readLeft, flushedLeft, addressLeft, holderLeft, viewLeft, loadLeft}
+use Rattle.capi.specs.Exported.{Left, wrongLength, lengthsFit, stateFits, untouched, handedBack, lookedUp, lookUpLeft, callLeft, formatLeft, restartLeft, growLeft, growBeyondDoublingLeft, copyLeft, checkpointLeft, advanceLeft, writeLeft, readLeft, flushedLeft, addressLeft, holderLeft, viewLeft, loadLeft}
 use Rattle.capi.specs.Figures.{partNumber, didTold, noFigures, callsFigures, advanceFigures, addressFigures, holderFigures, viewFigures}
 use Rattle.capi.specs.Laws.{RefusedLeft}
 use Rattle.capi.specs.Words.{stateWords, pendingWord, wordsOf, stateFrom, areState}
@@ -47,22 +47,9 @@ use Rattle.capi.proofs.WordLaws.{state-arrays, words-back, state-words}
 
 -- ---- numbers
 
--- are all numbers of a table below that of a wrong length
-abbrev allBelow : (table : List (ℕ × Bool)) → Bool
-allBelow [] = true
-allBelow (check ∷ table) = ltb (check .0) wrongLength && allBelow table
-
-refusal-below : (table : List (ℕ × Bool)) → allBelow table ≡ true → refusal table < wrongLength
-unfolding refusal
-refusal-below [] h = omega arith
-refusal-below (check ∷ table) h =
-    cond-cases (λ k. k < wrongLength) (check .1)
-    (λ _. ltb-true (check .0) wrongLength (and-left (ltb (check .0) wrongLength) (allBelow table) h))
-    (λ _. refusal-below table (and-right (ltb (check .0) wrongLength) (allBelow table) h))
-
 -- the number of a call is its table's
-other-number : (table : List (ℕ × Bool)) (k : ℕ) → k ≡ refusal table → allBelow table ≡ true → k ≢ wrongLength
-other-number table k e h w = let below = refusal-below table h in omega (arith, e, w, below)
+other-number : (table : List (ℕ × Bool)) (k : ℕ) → k ≡ refusal table → allNumbers (λ j. not (eqb j wrongLength)) table ≡ true → k ≢ wrongLength
+other-number table k e h w = never-told wrongLength table (omega arith) h (sym e ∙ w)
 
 pub format-number : (z s n : ℕ) (o : Observations) → number (formatOutcome z s n o .reply .answer) ≢ wrongLength
 unfolding formatTable
@@ -86,8 +73,10 @@ unfolding loadTable
 load-number v scenes = other-number (loadTable v scenes (length scenes)) _ (load-laws .load-refuses v scenes .number-told) refl
 
 pub call-number : (c : Call) (v : Volume) (o : Observations) → number (callOutcome c v o .reply .answer) ≢ wrongLength
-unfolding callOutcome growTable copyTable checkpointTable advanceTable writeTable readTable restartTable flushedTable
-call-number (grow count) v o = other-number (growTable v count (o .byteCount)) _ (volume-laws .grow-refuses v count o .number-told) refl
+unfolding callOutcome growTableOf doublingRows copyTable checkpointTable advanceTable writeTable readTable restartTable flushedTable
+call-number (grow count) v o = other-number (growTable v count (o .byteCount)) _ (volume-laws .grow-refuses true v count o .number-told) refl
+call-number (growBeyondDoubling count) v o =
+    other-number (growBeyondDoublingTable v count (o .byteCount)) _ (volume-laws .grow-refuses false v count o .number-told) refl
 call-number (copy x) v o = other-number (copyTable v x (o .byteCount)) _ (volume-laws .copy-refuses v x o .number-told) refl
 call-number checkpoint v o = other-number (checkpointTable v (o .byteCount)) _ (volume-laws .checkpoint-refuses v o .number-told) refl
 call-number advance v o = other-number (advanceTable v (o .byteCount)) _ (volume-laws .advance-refuses v o .number-told) refl
@@ -179,7 +168,14 @@ module _ (words : List ℕ) where
       → stateFits words 1 figures ≡ true → growLeft words count figures o .number ≢ 0 → RefusedLeft words 1 [] (growLeft words count figures o)
   unfolding callOutcome
   grow-refused count figures o =
-      call-refused 1 callsFigures calls-zero (grow count) figures [] o (volume-laws .grow-refuses (stateFrom words) count o)
+      call-refused 1 callsFigures calls-zero (grow count) figures [] o (volume-laws .grow-refuses true (stateFrom words) count o)
+
+  pub grow-beyond-doubling-refused : (count : ℕ) (figures : List ℕ) (o : Observations)
+      → stateFits words 1 figures ≡ true → growBeyondDoublingLeft words count figures o .number ≢ 0
+      → RefusedLeft words 1 [] (growBeyondDoublingLeft words count figures o)
+  unfolding callOutcome
+  grow-beyond-doubling-refused count figures o =
+      call-refused 1 callsFigures calls-zero (growBeyondDoubling count) figures [] o (volume-laws .grow-refuses false (stateFrom words) count o)
 
   pub copy-refused : (x : ℕ) (figures : List ℕ) (o : Observations)
       → stateFits words 1 figures ≡ true → copyLeft words x figures o .number ≢ 0 → RefusedLeft words 1 [] (copyLeft words x figures o)

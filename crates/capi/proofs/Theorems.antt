@@ -1,6 +1,6 @@
 -- The laws of words and of the exported functions: `capi-laws` proves all of `CapiLaws` in `specs/Laws.antt`.
 use Rattle.capi.specs.Laws.{CapiLaws}
-use Rattle.capi.proofs.RefusedLaws.{format-number, call-number, address-number, holder-number, view-number, load-number, grow-refused, copy-refused, checkpoint-refused, advance-refused, format-refused, restart-refused, address-refused, holder-refused, view-refused, load-refused, write-refused, read-refused, flushed-refused, write-keeps, flushed-keeps, read-keeps}
+use Rattle.capi.proofs.RefusedLaws.{format-number, call-number, address-number, holder-number, view-number, load-number, grow-refused, grow-beyond-doubling-refused, copy-refused, checkpoint-refused, advance-refused, format-refused, restart-refused, address-refused, holder-refused, view-refused, load-refused, write-refused, read-refused, flushed-refused, write-keeps, flushed-keeps, read-keeps}
 use Rattle.capi.proofs.ViewLaws.{view-told}
 use Rattle.capi.proofs.WordLaws.{words-count, state-back, state-arrays, words-back}
 
@@ -18,6 +18,7 @@ capi-laws =
       view-number = view-number;
       load-number = load-number;
       grow-refused = grow-refused;
+      grow-beyond-doubling-refused = grow-beyond-doubling-refused;
       copy-refused = copy-refused;
       checkpoint-refused = checkpoint-refused;
       advance-refused = advance-refused;

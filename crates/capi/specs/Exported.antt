@@ -13,7 +13,7 @@ use Rattle.volume.specs.Answers.{number, addressNumber, holderNumber}
 use Rattle.volume.specs.Calls.{Outcome, formatOutcome, restartOutcome, flushedOutcome, addressReply, holderReply}
 use Rattle.volume.specs.Sound.{sound}
 use Rattle.volume.specs.States.{zeros}
-use Rattle.promise.specs.Calls.{Call, grow, copy, checkpoint, advance, write, read}
+use Rattle.promise.specs.Calls.{Call, grow, growBeyondDoubling, copy, checkpoint, advance, write, read}
 use Rattle.promise.specs.Lists.{callOutcome}
 use Rattle.scene_load.specs.declared.Scene.{Scene}
 use Rattle.scene_load.specs.Loads.{loadOf, loadNumber}
@@ -74,6 +74,9 @@ callLeft figureCount figuresOf c words figures piece o =
 
 abbrev pub growLeft : (words : List ℕ) (count : ℕ) (figures : List ℕ) (o : Observations) → Left
 growLeft words count figures o = callLeft 1 callsFigures (grow count) words figures [] o
+
+abbrev pub growBeyondDoublingLeft : (words : List ℕ) (count : ℕ) (figures : List ℕ) (o : Observations) → Left
+growBeyondDoublingLeft words count figures o = callLeft 1 callsFigures (growBeyondDoubling count) words figures [] o
 
 abbrev pub copyLeft : (words : List ℕ) (x : ℕ) (figures : List ℕ) (o : Observations) → Left
 copyLeft words x figures o = callLeft 1 callsFigures (copy x) words figures [] o

@@ -17,7 +17,7 @@ use Rattle.promise.specs.Lists.{callOutcome}
 use Rattle.scene_load.specs.declared.Scene.{Scene}
 use Rattle.scene_load.specs.Loads.{placeTold, loadOf, loadNumber}
 use Rattle.shelves.specs.Views.{viewAnswer, viewNumber, viewOf}
-use Rattle.capi.specs.Exported.{Left, wrongLength, lengthsFit, stateFits, formatLeft, restartLeft, growLeft, copyLeft, checkpointLeft, advanceLeft, writeLeft, readLeft, flushedLeft, addressLeft, holderLeft, viewLeft, loadLeft}
+use Rattle.capi.specs.Exported.{Left, wrongLength, lengthsFit, stateFits, formatLeft, restartLeft, growLeft, growBeyondDoublingLeft, copyLeft, checkpointLeft, advanceLeft, writeLeft, readLeft, flushedLeft, addressLeft, holderLeft, viewLeft, loadLeft}
 use Rattle.capi.specs.Words.{stateWords, wordsOf, stateFrom, mostPending}
 
 -- the lengths that the types of the code give the arrays of a state
@@ -56,6 +56,9 @@ pub record CapiLaws : Type 0 where
   -- a refused call leaves the words and the piece as they were, has zeros as figures and stores nothing
   pub grow-refused : (words : List ℕ) (count : ℕ) (figures : List ℕ) (o : Observations)
       → stateFits words 1 figures ≡ true → growLeft words count figures o .number ≢ 0 → RefusedLeft words 1 [] (growLeft words count figures o)
+  pub grow-beyond-doubling-refused : (words : List ℕ) (count : ℕ) (figures : List ℕ) (o : Observations)
+      → stateFits words 1 figures ≡ true → growBeyondDoublingLeft words count figures o .number ≢ 0
+      → RefusedLeft words 1 [] (growBeyondDoublingLeft words count figures o)
   pub copy-refused : (words : List ℕ) (x : ℕ) (figures : List ℕ) (o : Observations)
       → stateFits words 1 figures ≡ true → copyLeft words x figures o .number ≢ 0 → RefusedLeft words 1 [] (copyLeft words x figures o)
   pub checkpoint-refused : (words figures : List ℕ) (o : Observations)

@@ -1,8 +1,8 @@
-// Grow, copy, checkpoint and advance.
+// Both grows, copy, checkpoint and advance.
 ghost use mathlib.Core.Path.{_≡_};
 ghost use Rattle.medium.specs.Medium.{observe, apply};
 ghost use Rattle.volume.specs.States.{geometry};
-ghost use Rattle.capi.specs.Exported.{growLeft, copyLeft, checkpointLeft, advanceLeft};
+ghost use Rattle.capi.specs.Exported.{growLeft, growBeyondDoublingLeft, copyLeft, checkpointLeft, advanceLeft};
 ghost use Rattle.capi.specs.Words.{stateFrom};
 use super::ADVANCE_FIGURES;
 use super::CALLS_FIGURES;
@@ -16,7 +16,7 @@ use super::words::state_fits;
 use super::words::state_of;
 use layout::Block;
 
-// Starts a growth to so many disks.
+// Starts a growth to so many disks, at most twice as many as there are.
 #[no_mangle]
 pub extern "C" fn streterva_grow(
     state: &mut [usize],
@@ -34,6 +34,27 @@ pub extern "C" fn streterva_grow(
     }
     let v = state_of(state);
     let reply = v.grow(medium, count);
+    hand_back(reply, state, figures)
+}
+
+// Starts a growth to so many disks.
+#[no_mangle]
+pub extern "C" fn streterva_grow_beyond_doubling(
+    state: &mut [usize],
+    medium: &mut [u8],
+    count: usize,
+    figures: &mut [usize],
+) -> usize
+    ensures { λ r. ⌜ r ≡ growBeyondDoublingLeft (now (state .entry)) count (now (figures .entry)) (observe (now (medium .entry))) .number ⌝ }
+    ensures { λ _. ⌜ now (state .exit) ≡ growBeyondDoublingLeft (now (state .entry)) count (now (figures .entry)) (observe (now (medium .entry))) .words ⌝ }
+    ensures { λ _. ⌜ now (figures .exit) ≡ growBeyondDoublingLeft (now (state .entry)) count (now (figures .entry)) (observe (now (medium .entry))) .figures ⌝ }
+    ensures { λ _. ⌜ now (medium .exit) ≡ apply (geometry (stateFrom (now (state .entry)))) (growBeyondDoublingLeft (now (state .entry)) count (now (figures .entry)) (observe (now (medium .entry))) .store) (now (medium .entry)) ⌝ }
+{
+    if !state_fits(state, figures.len(), CALLS_FIGURES) {
+        return WRONG_LENGTH;
+    }
+    let v = state_of(state);
+    let reply = v.grow_beyond_doubling(medium, count);
     hand_back(reply, state, figures)
 }
 

@@ -15,7 +15,7 @@ use Rattle.medium.specs.Laws.{Holds, OtherThanRecord, Stored}
 use Rattle.medium.specs.Medium.{bytesNeeded, Observations, Store, noStore, recordStore, blockStore}
 use Rattle.volume.specs.declared.Pending.{Pending}
 use Rattle.volume.specs.declared.Volume.{Volume}
-use Rattle.volume.specs.Calls.{growTable, formatTable}
+use Rattle.volume.specs.Calls.{growTableOf, formatTable}
 use Rattle.volume.specs.Records.{numbersOf, recordOf}
 use Rattle.volume.specs.Sound.{sound}
 use Rattle.volume.specs.States.{geometry, historyOf, disks, tallyOf, newState, withPending, withGrowth, grown, recordedOnly, withCopy, checkpointed}
@@ -161,14 +161,14 @@ module _ (v : Volume) (before after : Observations) (p : PlainVolume) (c : Consi
   agree : Agree (geometry v) before (tallyOf v) p
   agree = record { same-open = c .same-open; held = c .held }
 
-  pub consistent-grown : (count : ℕ) → refusal (growTable v count (before .byteCount)) ≡ 0
+  pub consistent-grown : (limited : Bool) (count : ℕ) → refusal (growTableOf limited v count (before .byteCount)) ≡ 0
       → Stored (geometry v) (recordStore (recordOf (grown v count))) before after → Consistent (grown v count) after p
   unfolding grown withGrowth geometry grownTally diskCount
-  consistent-grown count e stored =
-      let f = grow-accepted v count (before .byteCount) e in
+  consistent-grown limited count e stored =
+      let f = grow-accepted limited v count (before .byteCount) e in
       record-stored (grown v count) before after p (geometry v) (grownTally count (tallyOf v))
-      (volume-laws .grown-sound v count (before .byteCount) e) refl (tally-grown v count (f .is-sound) (f .one-more)) (f .room)
-      (agree-grown (geometry v) before (tallyOf v) p (resting-of v (f .is-sound) (f .not-growing)) count agree) stored
+      (volume-laws .grown-sound limited v count (before .byteCount) e) refl (tally-grown v count (f .may .is-sound) (f .may .one-more)) (f .room)
+      (agree-grown (geometry v) before (tallyOf v) p (resting-of v (f .may .is-sound) (f .may .not-growing)) count agree) stored
 
   -- a store that is not to the record
   other-stored : (store : Store) → OtherThanRecord store → (new : PlainVolume) → new .blocks ≡ p .blocks

@@ -18,7 +18,7 @@ use Rattle.volume.specs.Calls.{Outcome, refused, doing, reporting, readTable, r
 use Rattle.volume.specs.States.{geometry, nonePending, pendingWith, withPending, withGrowth, recordedOnly, zeros}
 use Rattle.volume.proofs.Judged.{judged-cases, accepted-when}
 use Rattle.volume.proofs.StoresFit.{FitsDisks, grow-fits, write-fits, Sized, sized, copy-fits, checkpoint-fits, advance-fits}
-use Rattle.promise.specs.Calls.{Call, grow, copy, checkpoint, advance, write, read, restart, flushed, settles, CutLeft, sameRecord, recordOld, recordNew, ended}
+use Rattle.promise.specs.Calls.{Call, grow, growBeyondDoubling, copy, checkpoint, advance, write, read, restart, flushed, settles, CutLeft, sameRecord, recordOld, recordNew, ended}
 use Rattle.promise.specs.Lists.{callOutcome, Event, runs, cut, Drives, System, up, down, drivesOf, memoryOf, mediumOf, cutLeft, later, outcome, drivesAfter, storesAt, after, Allowed, fed, heard}
 use Rattle.promise.specs.Model.{noBlock, leaving, stepOf, unset, withSave, stepped, accepting, CachedModel, nothingPending, withStep, following, withCall, leftModel, afterCut, modelOr, modelAfter}
 use Rattle.promise.proofs.Steps.{Down, up-down, up-pending, Judgement, is-refused, has-effect, restart-found, restart-up, call-judged}
@@ -48,7 +48,8 @@ nothing-fits v o out e = rw e (tt, tt)
 
 pub call-fits : (c : Call) (v : Volume) (o : Observations) → Sized (geometry v) o → FitsDisks v o (callOutcome c v o)
 unfolding callOutcome
-call-fits (grow count) v o s = grow-fits v count o
+call-fits (grow count) v o s = grow-fits true v count o
+call-fits (growBeyondDoubling count) v o s = grow-fits false v count o
 call-fits (copy x) v o s = copy-fits v x o s
 call-fits checkpoint v o s = checkpoint-fits v o
 call-fits advance v o s = advance-fits v o s
@@ -61,6 +62,7 @@ call-fits flushed v o s = nothing-fits v o (flushedOutcome v) (flushed-stores v)
 pub settling-stores : (c : Call) (v : Volume) (o : Observations) → settles c ≡ true → callOutcome c v o .store ≡ noStore
 unfolding callOutcome settles
 settling-stores (grow count) v o s = absurd (true≢false (sym s))
+settling-stores (growBeyondDoubling count) v o s = absurd (true≢false (sym s))
 settling-stores (copy x) v o s = absurd (true≢false (sym s))
 settling-stores checkpoint v o s = absurd (true≢false (sym s))
 settling-stores advance v o s = absurd (true≢false (sym s))
@@ -192,6 +194,7 @@ pub settling-accepted : (sure : Bool) (g : Geometry) (v : Volume) (d : Drives) (
     → settles c ≡ true → accepted (callOutcome c v (observe (seen d)) .reply .answer) ≡ true
 unfolding callOutcome settles accepted number reporting flushedEffect doing
 settling-accepted sure g v d k told i (grow count) s = absurd (true≢false (sym s))
+settling-accepted sure g v d k told i (growBeyondDoubling count) s = absurd (true≢false (sym s))
 settling-accepted sure g v d k told i (copy x) s = absurd (true≢false (sym s))
 settling-accepted sure g v d k told i checkpoint s = absurd (true≢false (sym s))
 settling-accepted sure g v d k told i advance s = absurd (true≢false (sym s))
@@ -234,6 +237,7 @@ module _ (g : Geometry) (k : CachedModel) (told : Option ℕ) where
       → Next sure (up v d) (runs c)
   unfolding Allowed settles after
   runs-keeps sure v d i (grow count) l = other-keeps sure v d i (grow count) refl
+  runs-keeps sure v d i (growBeyondDoubling count) l = other-keeps sure v d i (growBeyondDoubling count) refl
   runs-keeps sure v d i (copy x) l = other-keeps sure v d i (copy x) refl
   runs-keeps sure v d i checkpoint l = other-keeps sure v d i checkpoint refl
   runs-keeps sure v d i advance l = other-keeps sure v d i advance refl

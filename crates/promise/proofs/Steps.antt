@@ -19,14 +19,14 @@ use Rattle.medium.specs.Medium.{recordBytes, bytesNeeded, Observations, Store, 
 use Rattle.volume.specs.declared.Pending.{Pending}
 use Rattle.volume.specs.declared.Volume.{Volume}
 use Rattle.volume.specs.Answers.{number, accepted, reported}
-use Rattle.volume.specs.Calls.{Outcome, refused, doing, reporting, telling, judged, tooShort, isNone, restartTable, restartEffect, restartOutcome, growTable, growEffect, growOutcome, writeTable, writeEffect, writeOutcome, readTable, readEffect, readOutcome, copyTable, copyStore, copyEffect, copyOutcome, checkpointTable, checkpointStore, checkpointEffect, checkpointOutcome, advanceTable, advancing, advanceEffect, advanceOutcome}
+use Rattle.volume.specs.Calls.{Outcome, refused, doing, reporting, telling, judged, tooShort, isNone, restartTable, restartEffect, restartOutcome, growTableOf, growEffect, growOutcomeOf, writeTable, writeEffect, writeOutcome, readTable, readEffect, readOutcome, copyTable, copyStore, copyEffect, copyOutcome, checkpointTable, checkpointStore, checkpointEffect, checkpointOutcome, advanceTable, advancing, advanceEffect, advanceOutcome}
 use Rattle.volume.specs.Records.{recordOf, stateRead, isSoundRecord}
 use Rattle.volume.specs.States.{geometry, disks, historyOf, tallyOf, pendingWith, zeros, withGrowth, withPending, grown, recordedOnly, withCopy, checkpointed}
 use Rattle.volume.proofs.Accepted.{grow-accepted, write-accepted, copy-accepted, checkpoint-accepted, advance-accepted}
 use Rattle.volume.proofs.ByteBounds.{record-room}
 use Rattle.volume.proofs.Judged.{judged-cases, accepted-when}
 use Rattle.volume.proofs.Theorems.{volume-laws}
-use Rattle.promise.specs.Calls.{Call, grow, copy, checkpoint, advance, write, read, restart, flushed, settles}
+use Rattle.promise.specs.Calls.{Call, grow, growBeyondDoubling, copy, checkpoint, advance, write, read, restart, flushed, settles}
 use Rattle.promise.specs.Lists.{callOutcome, later}
 use Rattle.promise.specs.Model.{grownTally, copiedTally, recordedTally, restartedTally, checkpointFinishes, Step, leaving, saving, recording, advanceStep, stepOf, PlainVolume, withSave, withAdded, unset, Model, stepped, accepting, isSaved}
 use Rattle.promise.proofs.Tallies.{copy-unrecorded, spots-apart}
@@ -211,29 +211,30 @@ module _ (g : Geometry) (v : Volume) (o : Observations) (p : PlainVolume) (told 
   up-there : (before : Observations) → Consistent v before p → Up g v before model told
   up-there before there = record { consistent = there; same-tally = refl; same-geometry = same; calls-told = right }
 
-  -- grow
-  grow-whole : (count : ℕ) → refusal (growTable v count (o .byteCount)) ≡ 0 → (before after : Observations) → before .byteCount ≡ o .byteCount
+  -- both grows
+  grow-whole : (limited : Bool) (count : ℕ) → refusal (growTableOf limited v count (o .byteCount)) ≡ 0 → (before after : Observations) → before .byteCount ≡ o .byteCount
       → Consistent v before p → Stored (geometry v) (recordStore (recordOf (grown v count))) before after
       → Up g (grown v count) after (record { plain = p; tally = grownTally count (tallyOf v) }) (some (callsLeftOf (tallyOf (grown v count))))
   unfolding grown withGrowth geometry
-  grow-whole count e before after long there stored =
-      let f = grow-accepted v count (o .byteCount) e in
+  grow-whole limited count e before after long there stored =
+      let f = grow-accepted limited v count (o .byteCount) e in
       record {
-        consistent = consistent-grown v before after p there count (rw long e) stored;
-        same-tally = sym (tally-grown v count (f .is-sound) (f .one-more));
+        consistent = consistent-grown v before after p there limited count (rw long e) stored;
+        same-tally = sym (tally-grown v count (f .may .is-sound) (f .may .one-more));
         same-geometry = same;
         calls-told = λ _. refl;
       }
 
-  grow-judged : (count : ℕ) → Judgement g v o model told (stepOf (grow count) (tallyOf v)) (growOutcome v count o)
-  unfolding growOutcome growEffect reporting accepted number reported later stepOf recording stepped withSave withPending pendingWith
-  grow-judged count =
-      judgement (growTable v count (o .byteCount)) [] _
+  grow-judged : (limited : Bool) (count : ℕ)
+      → Judgement g v o model told (recording (grownTally count (tallyOf v)) false) (growOutcomeOf limited v count o)
+  unfolding growOutcomeOf growEffect reporting accepted number reported later recording stepped withSave withPending pendingWith
+  grow-judged limited count =
+      judgement (growTableOf limited v count (o .byteCount)) [] _
       (λ e.
-      let f = grow-accepted v count (o .byteCount) e in
+      let f = grow-accepted limited v count (o .byteCount) e in
       record {
         is-accepted = refl;
-        whole = λ before after long there stored. up-pending (grow-whole count e before after long there stored) _;
+        whole = λ before after long there stored. up-pending (grow-whole limited count e before after long there stored) _;
         by-store = record { record-down = f .record-down; blocks-down = f .blocks-down; now-pending = refl; a-record = refl; no-save = refl };
         lies = unfold Lies in tt;
       })
@@ -403,7 +404,8 @@ module _ (g : Geometry) (v : Volume) (o : Observations) (p : PlainVolume) (told 
 
   each-judged : (d : Call) → settles d ≡ false → Judgement g v o model told (stepOf d (tallyOf v)) (callOutcome d v o)
   unfolding callOutcome settles
-  each-judged (grow count) s = grow-judged count
+  each-judged (grow count) s = unfold stepOf in grow-judged true count
+  each-judged (growBeyondDoubling count) s = unfold stepOf in grow-judged false count
   each-judged (copy x) s = copy-judged x
   each-judged checkpoint s = checkpoint-judged
   each-judged advance s = advance-judged

@@ -1,7 +1,7 @@
 -- What an accepted call knows: the facts that hold where a call's table refuses nothing.
-use Prim.Native.Nat.{ℕ, _≤_, _<_}
-use mathlib.Core.Path.{_≡_, refl}
-use mathlib.Core.Bool.{Bool, true, false, not, _&&_}
+use Prim.Native.Nat.{ℕ, _*_, _≤_, _<_}
+use mathlib.Core.Path.{_≡_, refl, sym, _∙_}
+use mathlib.Core.Bool.{Bool, true, false, cond, not, _&&_}
 use mathlib.Core.List.{List, [], _∷_, _++_}
 use mathlib.Core.Logic.{_≢_}
 use mathlib.Core.Option.{Option, none, some}
@@ -10,7 +10,7 @@ use lib.Dec.{eqb, leb, ltb}
 use borrow.Author.Tests.{leb-false, ltb-false, eqb-true, eqb-false}
 use Rattle.base.specs.Refusals.{refusal}
 use Rattle.base.proofs.Booleans.{clash}
-use Rattle.base.proofs.Refusals.{passed, held}
+use Rattle.base.proofs.Refusals.{passed, held, passed-first, both-passed}
 use Rattle.layout.specs.declared.Spot.{Spot}
 use Rattle.layout.specs.History.{Within}
 use Rattle.layout.specs.Limits.{mostDisks, mostGrowths}
@@ -18,7 +18,8 @@ use Rattle.layout.specs.Tally.{openBlocks, liveBlockOf, waiting, movesNow, next
 use Rattle.medium.specs.declared.Geometry.{Geometry}
 use Rattle.medium.specs.Medium.{recordBytes, bytesNeeded, Observations}
 use Rattle.volume.specs.declared.Volume.{Volume}
-use Rattle.volume.specs.Calls.{tooShort, formatTable, restartTable, sectorTable, growTable, writeTable, readTable, copyTable, nothingToRecord, checkpointTable, advanceTable, growthTable, addressTable, holderTable, isNone}
+use Rattle.volume.specs.Calls.{tooShort, recordRows, formatTable, restartTable, sectorTable, doublingRows, growTableOf, writeTable, readTable, copyTable, nothingToRecord, checkpointTable, advanceTable, growthTable, addressTable, holderTable, isNone}
+use Rattle.volume.specs.Laws.{MayGrow}
 use Rattle.volume.specs.Records.{stateRead, isSoundRecord}
 use Rattle.volume.specs.Sound.{sizeHolds, rowsHold, disksHold, sound}
 use Rattle.volume.specs.States.{geometry, historyOf, disks, tallyOf}
@@ -68,37 +69,67 @@ sector-accepted o e =
     let a = passed 2 (ltb (o .byteCount) recordBytes) _ (omega arith) e in
     (ltb-false (o .byteCount) recordBytes (a .0), held 13 (isSoundRecord (o .sector)) [] (omega arith) (a .1) .0)
 
-pub record GrowFacts (v : Volume) (count len : ℕ) : Type 0 where
-  pub is-sound : sound v ≡ true
-  pub not-growing : v .growing ≡ 0
-  pub one-more : v .growths < mostGrowths
-  pub more-disks : disks v < count
-  pub disks-most : count ≤ mostDisks
-  pub room : bytesNeeded (geometry v) count ≤ len
-  pub record-down : v .pending .records ≡ false
-  pub blocks-down : v .pending .blocks ≡ false
+-- W7's row, and the rows after it
+pub doubling-row : (limited : Bool) (v : Volume) (count : ℕ) (rows : List (ℕ × Bool))
+    → refusal (doublingRows limited v count ++ rows) ≡ refusal ((20, limited && ltb (2 * disks v) count) ∷ rows)
+unfolding doublingRows refusal
+doubling-row true v count rows = refl
+doubling-row false v count rows = refl
 
-pub grow-accepted : (v : Volume) (count len : ℕ) → refusal (growTable v count len) ≡ 0 → GrowFacts v count len
-unfolding growTable
-grow-accepted v count len e =
+-- grow's tests before W7's
+abbrev pub countTests : (v : Volume) (count : ℕ) → List (ℕ × Bool)
+countTests v count =
+    (1, not (sound v))
+    ∷ (6, not (eqb (v .growing) 0))
+    ∷ (9, eqb (v .growths) mostGrowths)
+    ∷ (8, leb count (disks v))
+    ∷ (8, ltb mostDisks count)
+    ∷ []
+
+-- and those after it
+abbrev pub lastTests : (v : Volume) (count len : ℕ) → List (ℕ × Bool)
+lastTests v count len = (2, tooShort (geometry v) count len) ∷ recordRows v
+
+pub may-grow : (v : Volume) (count : ℕ) → refusal (countTests v count) ≡ 0 → MayGrow v count
+may-grow v count e =
     let a = held 1 (sound v) _ (omega arith) e in
     let b = held 6 (eqb (v .growing) 0) _ (omega arith) (a .1) in
     let c = passed 9 (eqb (v .growths) mostGrowths) _ (omega arith) (b .1) in
     let d = passed 8 (leb count (disks v)) _ (omega arith) (c .1) in
-    let f = passed 8 (ltb mostDisks count) _ (omega arith) (d .1) in
-    let g = passed 2 (tooShort (geometry v) count len) _ (omega arith) (f .1) in
-    let h = passed 19 (v .pending .records) _ (omega arith) (g .1) in
-    let i = passed 18 (v .pending .blocks) [] (omega arith) (h .1) in
+    let f = passed 8 (ltb mostDisks count) [] (omega arith) (d .1) in
     record {
       is-sound = a .0;
       not-growing = eqb-true (v .growing) 0 (b .0);
       one-more = omega (arith, growths-of-limits v (sound-limits v (a .0)), eqb-false (v .growths) mostGrowths (c .0));
       more-disks = leb-false count (disks v) (d .0);
       disks-most = ltb-false mostDisks count (f .0);
-      room = long-enough (geometry v) count len (g .0);
-      record-down = h .0;
-      blocks-down = i .0;
     }
+
+-- where they pass, W7's decides and then the last ones
+pub grow-decided : (limited : Bool) (v : Volume) (count len : ℕ) → refusal (countTests v count) ≡ 0
+    → refusal (growTableOf limited v count len)
+    ≡ cond (limited && ltb (2 * disks v) count) 20 (cond (tooShort (geometry v) count len) 2 (refusal (recordRows v)))
+unfolding growTableOf refusal
+grow-decided limited v count len e =
+    passed-first (countTests v count) (doublingRows limited v count ++ lastTests v count len) refl e ∙ doubling-row limited v count (lastTests v count len)
+
+pub record GrowFacts (v : Volume) (count len : ℕ) : Type 0 where
+  pub may : MayGrow v count
+  pub room : bytesNeeded (geometry v) count ≤ len
+  pub record-down : v .pending .records ≡ false
+  pub blocks-down : v .pending .blocks ≡ false
+
+-- of both grows
+pub grow-accepted : (limited : Bool) (v : Volume) (count len : ℕ) → refusal (growTableOf limited v count len) ≡ 0 → GrowFacts v count len
+unfolding growTableOf
+grow-accepted limited v count len e =
+    let last = lastTests v count len in
+    let a = both-passed (countTests v count) (doublingRows limited v count ++ last) refl e in
+    let w = passed 20 (limited && ltb (2 * disks v) count) last (omega arith) (sym (doubling-row limited v count last) ∙ a .1) in
+    let g = passed 2 (tooShort (geometry v) count len) _ (omega arith) (w .1) in
+    let h = passed 19 (v .pending .records) _ (omega arith) (g .1) in
+    let i = passed 18 (v .pending .blocks) [] (omega arith) (h .1) in
+    record { may = may-grow v count (a .0); room = long-enough (geometry v) count len (g .0); record-down = h .0; blocks-down = i .0 }
 
 -- ---- read and write
 

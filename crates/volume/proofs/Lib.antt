@@ -5,6 +5,7 @@ pub mod Accepted
 pub mod StatesSound
 pub mod Judged
 pub mod RefusalLaws
+pub mod GrowLaws
 pub mod LookUpLaws
 pub mod CopyLaws
 pub mod PartLaws

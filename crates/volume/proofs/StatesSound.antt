@@ -24,7 +24,7 @@ use Rattle.marks.proofs.MarkSets.{within-self, none-within, set-within, within-
 use Rattle.medium.specs.Medium.{Observations}
 use Rattle.volume.specs.declared.Pending.{Pending}
 use Rattle.volume.specs.declared.Volume.{Volume}
-use Rattle.volume.specs.Calls.{formatTable, restartTable, sectorTable, growTable}
+use Rattle.volume.specs.Calls.{formatTable, restartTable, sectorTable, growTableOf}
 use Rattle.volume.specs.Laws.{RestFacts, GrowthFacts, SoundFacts}
 use Rattle.volume.specs.Records.{stateRead}
 use Rattle.volume.specs.Sound.{rowsHold, disksHold, limitsHold, stageHolds, typesHold, movingOf, sound}
@@ -139,9 +139,10 @@ unfolding grown withGrowth historyOf disks tallyOf
 grown-facts v count len f =
     let t = v .growths in
     let more : List ℕ = set (v .counts) (suc t) count in
-    let g = sound-facts v (f .is-sound) in
-    let up : getD (v .counts) t 0 < count = omega (arith, f .more-disks, history-disks t (v .counts)) in
-    let l = more-limits (v .rows) t (v .counts) count (g .limits) (g .counts-length) (f .one-more) up (f .disks-most) in
+    let m = f .may in
+    let g = sound-facts v (m .is-sound) in
+    let up : getD (v .counts) t 0 < count = omega (arith, m .more-disks, history-disks t (v .counts)) in
+    let l = more-limits (v .rows) t (v .counts) count (g .limits) (g .counts-length) (m .one-more) up (m .disks-most) in
     record {
       counts-length = length-set (v .counts) (suc t) count ∙ g .counts-length;
       recorded-fits = omega arith;
@@ -155,8 +156,10 @@ grown-facts v count len f =
       while-growing = λ e. window-starts v (suc t) more 1 0 l refl (omega arith) (first-window (v .rows) (suc t) more l (omega arith));
     }
 
-pub grown-sound : (v : Volume) (count byteCount : ℕ) → refusal (growTable v count byteCount) ≡ 0 → sound (grown v count) ≡ true
-grown-sound v count byteCount e = facts-sound (grown v count) (grown-facts v count byteCount (grow-accepted v count byteCount e))
+pub grown-sound : (limited : Bool) (v : Volume) (count byteCount : ℕ) → refusal (growTableOf limited v count byteCount) ≡ 0
+    → sound (grown v count) ≡ true
+grown-sound limited v count byteCount e =
+    facts-sound (grown v count) (grown-facts v count byteCount (grow-accepted limited v count byteCount e))
 
 -- ---- copy and checkpoint
 

@@ -17,7 +17,7 @@ use Rattle.medium.specs.declared.Geometry.{Geometry}
 use Rattle.medium.specs.Medium.{bytesNeeded, Observations, observe, Store, recordStore, Inside, StoreFits}
 use Rattle.medium.proofs.Theorems.{medium-laws}
 use Rattle.volume.specs.declared.Volume.{Volume}
-use Rattle.volume.specs.Calls.{Outcome, refused, reporting, telling, judged, doing, formatEffect, growEffect, writeEffect, copyEffect, checkpointEffect, advanceEffect, formatTable, formatOutcome, growTable, growOutcome, writeTable, writeOutcome, copyTable, copyStore, copyOutcome, checkpointTable, checkpointStore, checkpointOutcome, advanceTable, advancing, advanceOutcome}
+use Rattle.volume.specs.Calls.{Outcome, refused, reporting, telling, judged, doing, formatEffect, growEffect, writeEffect, copyEffect, checkpointEffect, advanceEffect, formatTable, formatOutcome, growTableOf, growOutcomeOf, writeTable, writeOutcome, copyTable, copyStore, copyOutcome, checkpointTable, checkpointStore, checkpointOutcome, advanceTable, advancing, advanceOutcome}
 use Rattle.volume.specs.Records.{recordOf}
 use Rattle.volume.specs.Sound.{sound}
 use Rattle.volume.specs.States.{geometry, historyOf, disks, tallyOf, newState, zeros, grown, checkpointed}
@@ -57,13 +57,13 @@ format-fits z s n o =
 abbrev pub FitsDisks : (v : Volume) (o : Observations) (out : Outcome) → Type 0
 FitsDisks v o out = Fits (geometry v) (disks v) (o .byteCount) (out .store)
 
-pub grow-fits : (v : Volume) (count : ℕ) (o : Observations) → FitsDisks v o (growOutcome v count o)
-unfolding growOutcome growEffect reporting
-grow-fits v count o =
-    judged-fits (geometry v) (disks v) (o .byteCount) (growTable v count (o .byteCount)) v [] _
+pub grow-fits : (limited : Bool) (v : Volume) (count : ℕ) (o : Observations) → FitsDisks v o (growOutcomeOf limited v count o)
+unfolding growOutcomeOf growEffect reporting
+grow-fits limited v count o =
+    judged-fits (geometry v) (disks v) (o .byteCount) (growTableOf limited v count (o .byteCount)) v [] _
     (λ e.
-    let f = grow-accepted v count (o .byteCount) e in
-    let fewer = bytes-more (geometry v) (disks v) count (omega (arith, f .more-disks)) in
+    let f = grow-accepted limited v count (o .byteCount) e in
+    let fewer = bytes-more (geometry v) (disks v) count (omega (arith, f .may .more-disks)) in
     (record-fits (geometry v) (disks v) (grown v count), omega (arith, f .room, fewer)))
 
 pub write-fits : (v : Volume) (x : ℕ) (piece : List ℕ) (o : Observations) → FitsDisks v o (writeOutcome v x piece o)

@@ -1,6 +1,6 @@
--- Document 01, "Calls" and "Looking up spots", and document 02, W4: for each call the table of its refusals, in the order written, and its
+-- Document 01, "Calls" and "Looking up spots", and document 02, W4 and W7: for each call the table of its refusals, in the order written, and its
 -- effect where none holds: what it hands back, stores and shows. Calls see a medium through its observations.
-use Prim.Native.Nat.{ℕ}
+use Prim.Native.Nat.{ℕ, _*_}
 use mathlib.Core.Bool.{Bool, true, false, cond, not, _&&_}
 use mathlib.Core.List.{List, [], _∷_, _++_}
 use mathlib.Core.Option.{Option, none, some}
@@ -125,23 +125,41 @@ unfoldable pub flushedOutcome : (v : Volume) → Outcome
 flushedOutcome v = judged (flushedTable v) (λ k. refused v k []) (flushedEffect v)
 
 -- ---- "Grow to a count: 1; 6, growing already; 9, t = 7; 8, count not above N[t] or above 16; 2. It stores the record with the count
--- added, growing 1, w 0, no marks."
+-- added, growing 1, w 0, no marks." Document 02, W7: "20 when the new count exceeds twice N[t], tested after 8 and before 2"; "the one without
+-- 20" has every other row.
 
-unfoldable pub growTable : (v : Volume) (count byteCount : ℕ) → List (ℕ × Bool)
-growTable v count byteCount =
+-- the row of a grow that is limited to doubling
+unfoldable pub doublingRows : (limited : Bool) (v : Volume) (count : ℕ) → List (ℕ × Bool)
+doublingRows true v count = (20, ltb (2 * disks v) count) ∷ []
+doublingRows false v count = []
+
+unfoldable pub growTableOf : (limited : Bool) (v : Volume) (count byteCount : ℕ) → List (ℕ × Bool)
+growTableOf limited v count byteCount =
     (1, not (sound v))
     ∷ (6, not (eqb (v .growing) 0))
     ∷ (9, eqb (v .growths) mostGrowths)
     ∷ (8, leb count (disks v))
     ∷ (8, ltb mostDisks count)
-    ∷ (2, tooShort (geometry v) count byteCount)
-    ∷ recordRows v
+    ∷ (doublingRows limited v count ++ ((2, tooShort (geometry v) count byteCount) ∷ recordRows v))
 
 unfoldable pub growEffect : (v : Volume) (count : ℕ) → Outcome
 growEffect v count = reporting (grown v count) (recordStore (recordOf (grown v count)))
 
-unfoldable pub growOutcome : (v : Volume) (count : ℕ) (o : Observations) → Outcome
-growOutcome v count o = judged (growTable v count (o .byteCount)) (λ k. refused v k []) (growEffect v count)
+unfoldable pub growOutcomeOf : (limited : Bool) (v : Volume) (count : ℕ) (o : Observations) → Outcome
+growOutcomeOf limited v count o = judged (growTableOf limited v count (o .byteCount)) (λ k. refused v k []) (growEffect v count)
+
+-- W7's grow, and the one without 20
+abbrev pub growTable : (v : Volume) (count byteCount : ℕ) → List (ℕ × Bool)
+growTable v count byteCount = growTableOf true v count byteCount
+
+abbrev pub growBeyondDoublingTable : (v : Volume) (count byteCount : ℕ) → List (ℕ × Bool)
+growBeyondDoublingTable v count byteCount = growTableOf false v count byteCount
+
+abbrev pub growOutcome : (v : Volume) (count : ℕ) (o : Observations) → Outcome
+growOutcome v count o = growOutcomeOf true v count o
+
+abbrev pub growBeyondDoublingOutcome : (v : Volume) (count : ℕ) (o : Observations) → Outcome
+growBeyondDoublingOutcome v count o = growOutcomeOf false v count o
 
 -- ---- "Write block x from a lent piece: 1; 2; 3; 4, piece not Z bytes; 7, x copied but not recorded. It stores the piece at the live spot."
 

@@ -1,5 +1,5 @@
 -- What is proved of states, records and calls: `VolumeLaws`. `proofs/Theorems.antt` has the proof.
-use Prim.Native.Nat.{ℕ, _%_, _≤_, _<_, _^_}
+use Prim.Native.Nat.{ℕ, _*_, _%_, _≤_, _<_, _^_}
 use mathlib.Core.Path.{_≡_}
 use mathlib.Core.Bool.{Bool, true, false}
 use mathlib.Core.List.{List, []}
@@ -13,7 +13,7 @@ use Rattle.layout.specs.declared.Reason.the-variants.{MovedBy}
 use Rattle.layout.specs.declared.Spot.{Spot}
 use Rattle.layout.specs.History.{oldCount, addedCount}
 use Rattle.layout.specs.Laws.{ReasonTrue, LookUps, MovesTrue, LiveMoves}
-use Rattle.layout.specs.Limits.{Limits}
+use Rattle.layout.specs.Limits.{mostDisks, mostGrowths, Limits}
 use Rattle.layout.specs.Reasons.{growthTold}
 use Rattle.layout.specs.Tally.{isRunning, movedBlocks, liveSpotOf, growthsOf, waiting, movesNow, sourceOf, nextBlock}
 use Rattle.layout.specs.Windows.{windows, movingIn}
@@ -26,7 +26,7 @@ use Rattle.volume.specs.declared.Answer.the-variants.{Told}
 use Rattle.volume.specs.declared.Pending.{Pending}
 use Rattle.volume.specs.declared.Volume.{Volume}
 use Rattle.volume.specs.Answers.{number, callsTold, blockCopied, partCopied, addressNumber, spotTold, reasonTold, movesTold, partTold, holderNumber, blockTold}
-use Rattle.volume.specs.Calls.{Outcome, formatTable, formatOutcome, restartTable, restartOutcome, sectorTable, sectorOutcome, growTable, growOutcome, writeTable, writeOutcome, readTable, readOutcome, copyTable, copyOutcome, nothingToRecord, checkpointTable, checkpointOutcome, advanceTable, advanceOutcome, flushedTable, flushedOutcome, addressTable, addressReply, holderTable, holderReply}
+use Rattle.volume.specs.Calls.{Outcome, formatTable, formatOutcome, restartTable, restartOutcome, sectorTable, sectorOutcome, growTableOf, growTable, growBeyondDoublingTable, growOutcomeOf, growOutcome, growBeyondDoublingOutcome, writeTable, writeOutcome, readTable, readOutcome, copyTable, copyOutcome, nothingToRecord, checkpointTable, checkpointOutcome, advanceTable, advanceOutcome, flushedTable, flushedOutcome, addressTable, addressReply, holderTable, holderReply}
 use Rattle.volume.specs.Records.{recordOf, stateRead, isSoundRecord}
 use Rattle.volume.specs.Sound.{sizeStep, leastSize, movingOf, sound}
 use Rattle.volume.specs.States.{geometry, historyOf, disks, tallyOf, newState, zeros, grown, withPending, recordedOnly, withCopy, checkpointed}
@@ -85,6 +85,26 @@ pub record Refuses (table : List (ℕ × Bool)) (v : Volume) (piece : List ℕ) 
   pub no-block : refusal table ≢ 0 → blockCopied (out .reply .answer) ≡ 0
   pub no-part : refusal table ≢ 0 → partCopied (out .reply .answer) ≡ none
 
+-- ---- grow, and the grow without 20 (document 02, W7)
+
+-- the tests before 20 let a growth to this count start
+pub record MayGrow (v : Volume) (count : ℕ) : Type 0 where
+  pub is-sound : sound v ≡ true
+  pub not-growing : v .growing ≡ 0
+  pub one-more : v .growths < mostGrowths
+  pub more-disks : disks v < count
+  pub disks-most : count ≤ mostDisks
+
+-- 20 is told exactly where a growth to this count may start and the count exceeds twice N[t], whatever the medium and pending stores; else the
+-- two are one call. The other one never tells 20
+pub record TwoGrows (v : Volume) (count : ℕ) (o : Observations) : Type 0 where
+  pub refused-beyond : MayGrow v count → 2 * disks v < count → refusal (growTable v count (o .byteCount)) ≡ 20
+  pub beyond-refused : refusal (growTable v count (o .byteCount)) ≡ 20 → MayGrow v count × (2 * disks v < count)
+  pub same-otherwise : refusal (growTable v count (o .byteCount)) ≢ 20 → growOutcome v count o ≡ growBeyondDoublingOutcome v count o
+  pub never-beyond : refusal (growBeyondDoublingTable v count (o .byteCount)) ≢ 20
+
+-- ---- look-ups
+
 -- of a look-up, which stores nothing: the number told is the table's, the state is handed back, a refusal has no figures
 pub record AddressRefuses (v : Volume) (x : ℕ) : Type 0 where
   pub number-told : addressNumber (addressReply v x .answer) ≡ refusal (addressTable v x)
@@ -116,7 +136,8 @@ pub record VolumeLaws : Type 0 where
   pub not-a-record : (bytes : List ℕ) → isSoundRecord bytes ≡ false → (v : Volume) → sound v ≡ true → recordOf v ≢ bytes
   -- the states that accepted calls hand back are sound
   pub format-sound : (z s n byteCount : ℕ) → refusal (formatTable z s n byteCount) ≡ 0 → sound (newState z s n) ≡ true
-  pub grown-sound : (v : Volume) (count byteCount : ℕ) → refusal (growTable v count byteCount) ≡ 0 → sound (grown v count) ≡ true
+  pub grown-sound : (limited : Bool) (v : Volume) (count byteCount : ℕ) → refusal (growTableOf limited v count byteCount) ≡ 0
+      → sound (grown v count) ≡ true
   pub restart-sound : (o : Observations) → refusal (restartTable o) ≡ 0 → sound (stateRead (o .sector)) ≡ true
   pub sector-sound : (o : Observations) → refusal (sectorTable o) ≡ 0 → sound (stateRead (o .sector)) ≡ true
   pub copied-sound : (v : Volume) (x : ℕ) → sound v ≡ true → v .growing ≢ 0 → movesNow (tallyOf v) x ≡ true → sound (withCopy v x) ≡ true
@@ -126,7 +147,7 @@ pub record VolumeLaws : Type 0 where
   -- what is stored lies in the bytes of the disks; a copy stores bytes of the medium that it sees
   pub format-fits : (z s n : ℕ) (o : Observations)
       → (let g : Geometry = record { size = z; rows = s } in StoreFits g (bytesNeeded g n) (formatOutcome z s n o .store))
-  pub grow-fits : (v : Volume) (count : ℕ) (o : Observations) → InDisks v (growOutcome v count o)
+  pub grow-fits : (limited : Bool) (v : Volume) (count : ℕ) (o : Observations) → InDisks v (growOutcomeOf limited v count o)
   pub write-fits : (v : Volume) (x : ℕ) (piece : List ℕ) (o : Observations) → InDisks v (writeOutcome v x piece o)
   pub copy-fits : (v : Volume) (x : ℕ) (m : List ℕ) → InDisks v (copyOutcome v x (observe m))
   pub checkpoint-fits : (v : Volume) (o : Observations) → InDisks v (checkpointOutcome v o)
@@ -135,7 +156,8 @@ pub record VolumeLaws : Type 0 where
   pub format-refuses : (z s n : ℕ) (o : Observations) → Refuses (formatTable z s n (o .byteCount)) zeros [] (formatOutcome z s n o)
   pub restart-refuses : (o : Observations) → Refuses (restartTable o) zeros [] (restartOutcome o)
   pub sector-refuses : (o : Observations) → Refuses (sectorTable o) zeros [] (sectorOutcome o)
-  pub grow-refuses : (v : Volume) (count : ℕ) (o : Observations) → Refuses (growTable v count (o .byteCount)) v [] (growOutcome v count o)
+  pub grow-refuses : (limited : Bool) (v : Volume) (count : ℕ) (o : Observations)
+      → Refuses (growTableOf limited v count (o .byteCount)) v [] (growOutcomeOf limited v count o)
   pub write-refuses : (v : Volume) (x : ℕ) (piece : List ℕ) (o : Observations)
       → Refuses (writeTable v x (length piece) (o .byteCount)) v piece (writeOutcome v x piece o)
   pub read-refuses : (v : Volume) (x : ℕ) (piece : List ℕ) (o : Observations)
@@ -144,6 +166,8 @@ pub record VolumeLaws : Type 0 where
   pub checkpoint-refuses : (v : Volume) (o : Observations) → Refuses (checkpointTable v (o .byteCount)) v [] (checkpointOutcome v o)
   pub advance-refuses : (v : Volume) (o : Observations) → Refuses (advanceTable v (o .byteCount)) v [] (advanceOutcome v o)
   pub flushed-refuses : (v : Volume) → Refuses (flushedTable v) v [] (flushedOutcome v)
+  -- the two grows
+  pub grows : (v : Volume) (count : ℕ) (o : Observations) → TwoGrows v count o
   pub address-refuses : (v : Volume) (x : ℕ) → AddressRefuses v x
   pub holder-refuses : (v : Volume) (p : Spot) → HolderRefuses v p
   -- a block that is copied lives at its old spot: one that copy accepts, and the one that advance copies

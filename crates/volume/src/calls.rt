@@ -1,10 +1,14 @@
 // The calls that work on a medium.
+ghost use Prim.Native.Nat.{_*_};
 ghost use mathlib.Core.Path.{_≡_};
+ghost use mathlib.Core.Bool.{true, _&&_};
+ghost use lib.Dec.{ltb};
 ghost use Rattle.base.specs.Refusals.{refusal};
 ghost use Rattle.layout.specs.Tally.{liveSpotOf};
 ghost use Rattle.medium.specs.Medium.{observe, apply};
-ghost use Rattle.volume.specs.Calls.{foundAt, formatTable, formatOutcome, restartOutcome, sectorOutcome, growTable, growOutcome, writeTable, writeOutcome, readTable, readOutcome};
-ghost use Rattle.volume.specs.States.{geometry, tallyOf};
+ghost use Rattle.volume.specs.Calls.{foundAt, formatTable, formatOutcome, restartOutcome, sectorOutcome, growTableOf, growOutcomeOf, growOutcome, growBeyondDoublingOutcome, writeTable, writeOutcome, readTable, readOutcome};
+ghost use Rattle.volume.specs.Sound.{sound};
+ghost use Rattle.volume.specs.States.{geometry, disks, tallyOf};
 use super::Answer;
 use super::Reply;
 use super::SpotFound;
@@ -128,8 +132,19 @@ impl Volume {
         reply
     }
 
-    pub(crate) fn grow_refusal(self, count: usize, len: usize) -> usize
-        ensures { λ r. ⌜ r ≡ refusal (growTable self count len) ⌝ }
+    // Document 02, W7: does the count exceed twice N[t], where a growth is limited to doubling?
+    pub(crate) fn is_beyond_doubling(self, limited: bool, count: usize) -> bool
+        requires { ⌜ sound self ≡ true ⌝ }
+        ensures { λ r. ⌜ r ≡ (limited && ltb (2 * disks self) count) ⌝ }
+    {
+        if !limited {
+            return false;
+        }
+        2 * self.disk_count() < count
+    }
+
+    pub(crate) fn grow_refusal(self, limited: bool, count: usize, len: usize) -> usize
+        ensures { λ r. ⌜ r ≡ refusal (growTableOf limited self count len) ⌝ }
     {
         if !self.is_sound() {
             return 1;
@@ -146,18 +161,37 @@ impl Volume {
         if Volume::MOST_DISKS < count {
             return 8;
         }
+        if self.is_beyond_doubling(limited, count) {
+            return 20;
+        }
         if self.is_short(count, len) {
             return 2;
         }
         self.record_refusal()
     }
 
-    // Starts a growth to so many disks.
+    // Starts a growth to so many disks, at most twice as many as there are.
     pub fn grow(self, medium: &mut [u8], count: usize) -> Reply
         ensures { λ r. ⌜ r ≡ growOutcome self count (observe (now (medium .entry))) .reply ⌝ }
         ensures { λ _. ⌜ now (medium .exit) ≡ apply (geometry self) (growOutcome self count (observe (now (medium .entry))) .store) (now (medium .entry)) ⌝ }
     {
-        let k = self.grow_refusal(count, medium.len());
+        self.start_growth(medium, true, count)
+    }
+
+    // Starts a growth to so many disks.
+    pub fn grow_beyond_doubling(self, medium: &mut [u8], count: usize) -> Reply
+        ensures { λ r. ⌜ r ≡ growBeyondDoublingOutcome self count (observe (now (medium .entry))) .reply ⌝ }
+        ensures { λ _. ⌜ now (medium .exit) ≡ apply (geometry self) (growBeyondDoublingOutcome self count (observe (now (medium .entry))) .store) (now (medium .entry)) ⌝ }
+    {
+        self.start_growth(medium, false, count)
+    }
+
+    // Either of the two: limited to doubling or not.
+    pub(crate) fn start_growth(self, medium: &mut [u8], limited: bool, count: usize) -> Reply
+        ensures { λ r. ⌜ r ≡ growOutcomeOf limited self count (observe (now (medium .entry))) .reply ⌝ }
+        ensures { λ _. ⌜ now (medium .exit) ≡ apply (geometry self) (growOutcomeOf limited self count (observe (now (medium .entry))) .store) (now (medium .entry)) ⌝ }
+    {
+        let k = self.grow_refusal(limited, count, medium.len());
         if k != 0 {
             return self.refuse(k);
         }

@@ -17,7 +17,7 @@ use Rattle.layout.specs.History.{oldCount, addedCount}
 use Rattle.layout.specs.Tally.{Tally, Mode, notGrowing, growing, isRunning, callsLeftOf, nextBlock, windowFull, lastWindow}
 use Rattle.layout.specs.Windows.{windows, uncopied, callsLeft}
 use Rattle.volume.specs.Answers.{accepted}
-use Rattle.promise.specs.Calls.{Call, grow, copy, checkpoint, advance, write, read, restart, flushed, settles, isAdvance, CutLeft, sameRecord, recordOld, recordNew, Fed, ended, cutIn}
+use Rattle.promise.specs.Calls.{Call, grow, growBeyondDoubling, copy, checkpoint, advance, write, read, restart, flushed, settles, isAdvance, CutLeft, sameRecord, recordOld, recordNew, Fed, ended, cutIn}
 use Rattle.promise.specs.Lists.{Event, runs, cut, System, isAccepted, after, fed, afterAll, fedAll, an-advance, a-write, a-read, a-flushed, AllFurther, tellings, finishedTold}
 use Rattle.promise.specs.Model.{startTally, grownTally, withBlocks, copiedTally, nextWindowTally, finishedTally, recordedTally, restartedTally, leaving, saving, recording, advanceStep, stepOf, Model, startModel, stepped, accepting, CachedModel, nothingPending, withStep, following, withCall, modelOr, leftModel, afterCut, modelAfter, modelled}
 use Rattle.promise.specs.Promise.{Start, formatted, begin, systemAfter, modelOf}
@@ -69,10 +69,15 @@ unfolding advanceStep leaving recording copiedTally
 inside-advance t i none = inside-recorded t i
 inside-advance t i (some x) = inside-blocks i _ (t .recorded)
 
-inside-step : (c : Call) (t : Tally) → Inside t → Inside (stepOf c t .tally)
-unfolding stepOf leaving saving recording grownTally copiedTally restartedTally
-inside-step (grow n) t i =
+inside-grown : (n : ℕ) (t : Tally) → Inside t → Inside (grownTally n t)
+unfolding grownTally
+inside-grown n t i =
     record { some-row = i .some-row; below = λ on disk. first-window (oldCount (n ∷ t .counts)) (addedCount (n ∷ t .counts)) (t .rows) disk (i .some-row) }
+
+inside-step : (c : Call) (t : Tally) → Inside t → Inside (stepOf c t .tally)
+unfolding stepOf leaving saving recording copiedTally restartedTally
+inside-step (grow n) t i = inside-grown n t i
+inside-step (growBeyondDoubling n) t i = inside-grown n t i
 inside-step (copy x) t i = inside-blocks i _ (t .recorded)
 inside-step checkpoint t i = inside-recorded t i
 inside-step advance t i = inside-advance t i (nextBlock t)

@@ -19,7 +19,7 @@ use Rattle.volume.specs.Calls.{Outcome, reporting, restartOutcome}
 use Rattle.volume.specs.Records.{recordOf, stateOf}
 use Rattle.volume.specs.Sound.{sound}
 use Rattle.volume.specs.States.{geometry, disks, tallyOf, recordedOnly}
-use Rattle.promise.specs.Calls.{Call, grow, copy, checkpoint, advance, write, read, restart, flushed}
+use Rattle.promise.specs.Calls.{Call, grow, growBeyondDoubling, copy, checkpoint, advance, write, read, restart, flushed}
 use Rattle.promise.specs.Lists.{System, drivesOf, mediumOf}
 use Rattle.promise.proofs.Consistent.{consistent-restarted}
 use Rattle.promise.proofs.StateTallies.{tally-restarted}
@@ -134,6 +134,7 @@ restart-same o =
 
 abbrev pub isRestart : (c : Call) → Bool
 isRestart (grow count) = false
+isRestart (growBeyondDoubling count) = false
 isRestart (copy x) = false
 isRestart checkpoint = false
 isRestart advance = false
@@ -144,6 +145,7 @@ isRestart flushed = false
 
 pub is-restart : (c : Call) → Reflects (c ≡ restart) (isRestart c)
 is-restart (grow count) = fails (λ e. false≢true (ap isRestart e))
+is-restart (growBeyondDoubling count) = fails (λ e. false≢true (ap isRestart e))
 is-restart (copy x) = fails (λ e. false≢true (ap isRestart e))
 is-restart checkpoint = fails (λ e. false≢true (ap isRestart e))
 is-restart advance = fails (λ e. false≢true (ap isRestart e))

@@ -19,6 +19,7 @@ use Rattle.worked.specs.Worked.{blockOf, workedStart, firstEvents, copie
 use Rattle.worked.proofs.FasterCalls.{faster, OurRestart}
 use Rattle.worked.proofs.Computed.{Hearing, computed, lawfulResult, Facts, faster-facts, fed-before, fed-after, modelFed, model-fed}
 use Rattle.worked.proofs.Computing.{computing}
+use Rattle.worked.proofs.Running.{left-of, left-told, finishing-of, advancesFed, tellings-fed}
 
 pub is-accepted : accepted (formatted workedStart .reply .answer) ≡ true
 unfolding computing
@@ -138,12 +139,6 @@ finished-model = model-fed callOutcome workedStart finishedEvents finishedFed fi
 last-model : modelOf callOutcome workedStart beforeRead ≡ modelFed workedStart allFed
 last-model = model-fed callOutcome workedStart beforeRead allFed all-fed
 
-calls-left : callsLeftOf (modelOf callOutcome workedStart firstEvents .tally) ≡ 2
-calls-left = ap (λ (k : Model). callsLeftOf (k .tally)) first-model ∙ first-left
-
-grows : isRunning (modelOf callOutcome workedStart firstEvents .tally .mode) ≡ true
-grows = ap (λ (k : Model). isRunning (k .tally .mode)) first-model ∙ first-runs
-
 -- lists that begin the worked one are lawful
 read-follows : workedEvents ≡ beforeRead ++ (runs (read 0 (blockOf 0)) ∷ [])
 unfolding workedEvents
@@ -164,26 +159,6 @@ first-up : IsUp (systemAfter callOutcome workedStart firstEvents)
 unfolding systemAfter afterAll after IsUp firstEvents
 first-up = tt
 
-kept-first : Kept callOutcome workedStart firstEvents
-kept-first = promise workedStart is-accepted firstEvents first-lawful first-early
-
-calls-told : lastReported callOutcome (begin workedStart) firstEvents none ≡ some 2
-calls-told = kept-first .calls-left first-up grows ∙ ap some calls-left
-
--- the accepted advances among what is fed are those that tell
-advancesFed : (fs : List Fed) → ℕ
-advancesFed [] = 0
-advancesFed (ended c b ∷ fs) = cond (isAdvance c && b) (suc (advancesFed fs)) (advancesFed fs)
-advancesFed (cutIn c left ∷ fs) = advancesFed fs
-
-tellings-fed : (s : System) (es : List Event) → length (finishedTold callOutcome s es) ≡ advancesFed (fedAll callOutcome s es)
-unfolding finishedTold fedAll fed tellings advancesFed
-tellings-fed s [] = refl
-tellings-fed s (runs c ∷ es) =
-    by-test (isAdvance c && isAccepted callOutcome c s) (λ t. rw t (ap suc (tellings-fed (after callOutcome s (runs c)) es)))
-    (λ t. rw t (tellings-fed (after callOutcome s (runs c)) es))
-tellings-fed s (cut c left ∷ es) = tellings-fed (after callOutcome s (cut c left)) es
-
 -- ---- further calls
 
 further-fed : fedAll callOutcome (systemAfter callOutcome workedStart firstEvents) furtherEvents ≡ furtherFed
@@ -197,7 +172,7 @@ copied-fed = fed-before callOutcome (systemAfter callOutcome workedStart firstEv
 -- with two calls left
 finishing-two : (further : List Event) → AllFurther callOutcome (systemAfter callOutcome workedStart firstEvents) further
     → Finishing callOutcome workedStart firstEvents further 2
-finishing-two further f = subst (Finishing callOutcome workedStart firstEvents further) calls-left (kept-first .finishes first-up grows further f)
+finishing-two = finishing-of workedStart is-accepted firstEvents first-lawful first-early first-up firstFed first-fed first-runs 2 first-left
 
 all-further : AllFurther callOutcome (systemAfter callOutcome workedStart firstEvents) furtherEvents
 unfolding furtherEvents copiedEvents AllFurther
@@ -242,8 +217,8 @@ worked =
       is-lawful = worked-facts .lawful;
       no-early-cut = no-early-cut;
       open-before = ap (λ (k : Model). k .plain .blocks) first-model ∙ first-open;
-      calls-left = calls-left;
-      calls-told = calls-told;
+      calls-left = left-of workedStart is-accepted firstEvents first-lawful first-early first-up firstFed first-fed first-runs 2 first-left;
+      calls-told = left-told workedStart is-accepted firstEvents first-lawful first-early first-up firstFed first-fed first-runs 2 first-left;
       all-further = all-further;
       further-fed = further-fed;
       finishing = finishing;

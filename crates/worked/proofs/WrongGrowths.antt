@@ -11,12 +11,13 @@ use Rattle.record.specs.Sector.{fieldsHold, marksHold, spacesHold, isRecord, re
 use Rattle.volume.specs.Answers.{isFinished, toldFinished}
 use Rattle.volume.specs.Calls.{restartTable}
 use Rattle.volume.specs.Records.{stateRead, isSoundRecord}
-use Rattle.promise.specs.Calls.{Call, grow, copy, advance, restart, isAdvance}
+use Rattle.promise.specs.Calls.{Call, grow, growBeyondDoubling, copy, advance, restart, isAdvance}
 use Rattle.promise.specs.Model.{Model}
 use Rattle.promise.specs.Promise.{Start}
 use Rattle.promise.specs.WithoutCache.{DirectEvent, ends, flushedAfter, fromFormat, no-call, an-advance, systemWithout, modelWithout}
 use Rattle.worked.specs.Worked.{workedStart}
-use Rattle.worked.specs.WrongPrograms.{Act, program, neverAdvances, endsEarly, endsLate, madeUpCount, keepsCopies, growsAlways}
+use Rattle.worked.specs.BeyondDoubling.{oneDisk}
+use Rattle.worked.specs.WrongPrograms.{Act, program, neverAdvances, endsEarly, endsLate, madeUpCount, growsToTwice, keepsCopies, growsAlways}
 use Rattle.worked.specs.Parts.{NoneTold, Finished, LastTold, CallsLeftTold, AdvanceAccepted, EveryGrowth, EveryFurther, EveryDirectGrowth, EveryDirectFurther, twoDisks, toThree, fourAdvances, LateEnd}
 use Rattle.worked.proofs.Computed.{Tested, tested}
 use Rattle.worked.proofs.Computing.{computing}
@@ -49,6 +50,18 @@ made-up-tested = (λ v o. refl, refl)
 
 pub made-up-count : BreaksCount madeUpCount
 made-up-count = breaks-count madeUpCount workedStart oneGrowth (tested madeUpCount (λ p. growthTest p workedStart (fromFormat oneGrowth) [] otherCount) made-up-tested)
+
+-- a grow without 20 that goes to twice as many disks: it reports 2, and of the growth to three 3 are left
+abbrev toThreeDisks : List DirectEvent
+toThreeDisks = ends (growBeyondDoubling 3) ∷ []
+
+twice-tested : Tested growsToTwice (λ p. growthTest p oneDisk (fromFormat toThreeDisks) [] otherCount)
+unfolding testing growsToTwice
+twice-tested = (λ v o. refl, refl)
+
+pub grows-to-twice : BreaksCount growsToTwice
+grows-to-twice =
+    breaks-count growsToTwice oneDisk toThreeDisks (tested growsToTwice (λ p. growthTest p oneDisk (fromFormat toThreeDisks) [] otherCount) twice-tested)
 
 -- a restart that keeps unrecorded copies: it reports one call less than the tally has left
 abbrev oneCopy : List DirectEvent

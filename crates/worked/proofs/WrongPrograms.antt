@@ -1,11 +1,11 @@
 -- For each part of demand 3 a program that breaks it, or that none does: `parts-broken`, `parts-broken-without-cache`. Programs that demand 3
 -- shuts out, each by the part that it breaks: `shut-out`, `shut-out-without-cache`.
-use Rattle.worked.specs.WrongPrograms.{refusesRead, exchangesBlocks, writesNothing, writesWaiting, writesEarly, recordsEarly, neverAdvances, marksLater, endsEarly, endsLate, madeUpCount, keepsCopies, growsAlways, ShutOut, ShutOutWithoutCache}
+use Rattle.worked.specs.WrongPrograms.{refusesRead, exchangesBlocks, writesNothing, writesWaiting, writesEarly, recordsEarly, neverAdvances, marksLater, endsEarly, endsLate, madeUpCount, growsToTwice, keepsCopies, growsAlways, ShutOut, ShutOutWithoutCache}
 use Rattle.worked.specs.Parts.{PartsBroken, PartsBrokenWithoutCache}
 use Rattle.worked.proofs.Parts.{parts, parts-without-cache}
 use Rattle.worked.proofs.EveryProgram.{still-runs, finished-left, still-runs-direct}
 use Rattle.worked.proofs.WrongReads.{refuses-read, exchanges-blocks, writes-nothing, writes-waiting, marks-later, writes-early, records-early}
-use Rattle.worked.proofs.WrongGrowths.{made-up-count, keeps-copies, never-advances, never-finishes, ends-early, ends-late, grows-always}
+use Rattle.worked.proofs.WrongGrowths.{made-up-count, grows-to-twice, keeps-copies, never-advances, never-finishes, ends-early, ends-late, grows-always}
 
 pub parts-broken : PartsBroken
 parts-broken =
@@ -18,6 +18,7 @@ parts-broken =
       bytes-read-marked = marks-later .0;
       bytes-stand = exchanges-blocks .0;
       calls-left = made-up-count .0;
+      calls-left-beyond = grows-to-twice .0;
       calls-left-restart = keeps-copies .0;
       still-runs = still-runs;
       none-told = ends-early .0;
@@ -36,6 +37,7 @@ parts-broken-without-cache =
       bytes-read-marked = marks-later .1;
       bytes-stand = exchanges-blocks .1;
       calls-left = made-up-count .1;
+      calls-left-beyond = grows-to-twice .1;
       calls-left-restart = keeps-copies .1;
       still-runs = still-runs-direct;
       none-told = ends-early .1;
@@ -54,6 +56,7 @@ shut-out =
       never-advances = λ kept. never-advances (parts neverAdvances kept .advances);
       marks-later = λ kept. marks-later .0 (parts marksLater kept .bytes-read);
       made-up-count = λ kept. made-up-count .0 (parts madeUpCount kept .calls-left);
+      grows-to-twice = λ kept. grows-to-twice .0 (parts growsToTwice kept .calls-left);
       keeps-copies = λ kept. keeps-copies .0 (parts keepsCopies kept .calls-left);
       refuses-read = λ kept. refuses-read .0 (parts refusesRead kept .is-accepted);
       exchanges-blocks = λ kept. exchanges-blocks .0 (parts exchangesBlocks kept .bytes-stand);
@@ -70,6 +73,7 @@ shut-out-without-cache =
       never-advances = λ kept. never-finishes (parts-without-cache neverAdvances kept .finished);
       marks-later = λ kept. marks-later .1 (parts-without-cache marksLater kept .bytes-read);
       made-up-count = λ kept. made-up-count .1 (parts-without-cache madeUpCount kept .calls-left);
+      grows-to-twice = λ kept. grows-to-twice .1 (parts-without-cache growsToTwice kept .calls-left);
       keeps-copies = λ kept. keeps-copies .1 (parts-without-cache keepsCopies kept .calls-left);
       refuses-read = λ kept. refuses-read .1 (parts-without-cache refusesRead kept .is-accepted);
       exchanges-blocks = λ kept. exchanges-blocks .1 (parts-without-cache exchangesBlocks kept .bytes-stand);

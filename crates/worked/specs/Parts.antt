@@ -16,7 +16,7 @@ use Rattle.promise.specs.Lists.{Event, runs, mediumOf, outcome, isAccepted, aft
 use Rattle.promise.specs.Promise.{Start, formatted, begin, systemAfter, modelOf, PromiseOf}
 use Rattle.promise.specs.WithoutCache.{DirectEvent, ends, fromFormat, DirectFurther, systemWithout, modelWithout, advancesTold, PromiseWithoutCacheOf}
 use Rattle.worked.specs.Worked.{blockOf}
-use Rattle.worked.specs.WrongPrograms.{Act, refusesRead, exchangesBlocks, writesNothing, writesWaiting, writesEarly, recordsEarly, neverAdvances, marksLater, madeUpCount, keepsCopies, growsAlways, endsEarly, endsLate}
+use Rattle.worked.specs.WrongPrograms.{Act, refusesRead, exchangesBlocks, writesNothing, writesWaiting, writesEarly, recordsEarly, neverAdvances, marksLater, madeUpCount, growsToTwice, keepsCopies, growsAlways, endsEarly, endsLate}
 
 -- ---- what is said of further calls: of what their advances told, the mode after them, and the n calls that were left before them
 
@@ -140,6 +140,7 @@ pub record PartsBroken : Type 0 where
   pub bytes-read-marked : EveryRead marksLater (BytesRead marksLater) → ⊥
   pub bytes-stand : EveryRead exchangesBlocks (BytesStand exchangesBlocks) → ⊥
   pub calls-left : EveryGrowth madeUpCount (CallsLeftTold madeUpCount) → ⊥
+  pub calls-left-beyond : EveryGrowth growsToTwice (CallsLeftTold growsToTwice) → ⊥
   pub calls-left-restart : EveryGrowth keepsCopies (CallsLeftTold keepsCopies) → ⊥
   -- no program breaks this one: an accepted advance takes one call off what the tally has left, and no other further call does
   pub still-runs : (calls : (c : Call) → Act) → EveryFurther calls StillRuns
@@ -157,6 +158,7 @@ pub record PartsBrokenWithoutCache : Type 0 where
   pub bytes-read-marked : EveryDirectRead marksLater (BytesRead marksLater) → ⊥
   pub bytes-stand : EveryDirectRead exchangesBlocks (BytesStand exchangesBlocks) → ⊥
   pub calls-left : EveryDirectGrowth madeUpCount (λ a es. CallsLeftTold madeUpCount a (fromFormat es)) → ⊥
+  pub calls-left-beyond : EveryDirectGrowth growsToTwice (λ a es. CallsLeftTold growsToTwice a (fromFormat es)) → ⊥
   pub calls-left-restart : EveryDirectGrowth keepsCopies (λ a es. CallsLeftTold keepsCopies a (fromFormat es)) → ⊥
   pub still-runs : (calls : (c : Call) → Act) → EveryDirectFurther calls StillRuns
   pub none-told : EveryDirectFurther endsEarly NoneTold → ⊥

@@ -1,8 +1,8 @@
 -- Programs that demand 3 shuts out (document 01, "What each contract carries" and "Near errors"; document 02, W4), each of them ours but for a
 -- call or two: `ShutOut`, and for drives that keep no store `ShutOutWithoutCache`. `proofs/WrongReads.antt` and `proofs/WrongGrowths.antt` have
 -- for each a list, computed, at which it breaks a part of the demand.
-use Prim.Native.Nat.{ℕ, _-_}
-use mathlib.Core.Bool.{cond, _&&_, _||_}
+use Prim.Native.Nat.{ℕ, _-_, _*_}
+use mathlib.Core.Bool.{Bool, true, false, cond, not, _&&_, _||_}
 use mathlib.Core.List.{List, [], _++_}
 use lib.Dec.{ltb, eqb}
 use lib.ListN.{length, take}
@@ -12,10 +12,10 @@ use Rattle.volume.specs.declared.Advanced.the-variants.{Recorded, Finished}
 use Rattle.volume.specs.declared.Answer.the-variants.{CallsLeft}
 use Rattle.volume.specs.declared.Volume.{Volume}
 use Rattle.volume.specs.Answers.{accepted}
-use Rattle.volume.specs.Calls.{Outcome, refused, reporting, telling, judged, isNone, growEffect, growOutcome, copyOutcome, checkpointOutcome, advanceTable, advanceEffect, advanceOutcome, readTable, blockRows, writeTable, writeEffect, writeOutcome, readOutcome, restartTable, restartOutcome, flushedOutcome}
+use Rattle.volume.specs.Calls.{Outcome, refused, reporting, telling, judged, isNone, growEffect, growOutcomeOf, copyOutcome, checkpointOutcome, advanceTable, advanceEffect, advanceOutcome, readTable, blockRows, writeTable, writeEffect, writeOutcome, readOutcome, restartTable, restartOutcome, flushedOutcome}
 use Rattle.volume.specs.Records.{recordOf, stateRead}
-use Rattle.volume.specs.States.{tallyOf, zeros, inStage}
-use Rattle.promise.specs.Calls.{Call, grow, copy, checkpoint, advance, write, read, restart, flushed}
+use Rattle.volume.specs.States.{disks, tallyOf, zeros, inStage}
+use Rattle.promise.specs.Calls.{Call, grow, growBeyondDoubling, copy, checkpoint, advance, write, read, restart, flushed}
 use Rattle.promise.specs.Promise.{PromiseOf}
 use Rattle.promise.specs.WithoutCache.{PromiseWithoutCacheOf}
 
@@ -24,8 +24,9 @@ abbrev pub Act : Type 0
 Act = (v : Volume) (o : Observations) → Outcome
 
 -- our calls, with these as given
-unfoldable pub program : (grows : (count : ℕ) → Act) (advances : Act) (writes reads : (x : ℕ) (piece : List ℕ) → Act) (restarts : Act) (c : Call) → Act
-program grows advances writes reads restarts (grow count) v o = grows count v o
+unfoldable pub program : (grows : (limited : Bool) (count : ℕ) → Act) (advances : Act) (writes reads : (x : ℕ) (piece : List ℕ) → Act) (restarts : Act) (c : Call) → Act
+program grows advances writes reads restarts (grow count) v o = grows true count v o
+program grows advances writes reads restarts (growBeyondDoubling count) v o = grows false count v o
 program grows advances writes reads restarts (copy x) v o = copyOutcome v x o
 program grows advances writes reads restarts checkpoint v o = checkpointOutcome v o
 program grows advances writes reads restarts advance v o = advances v o
@@ -34,8 +35,9 @@ program grows advances writes reads restarts (read x piece) v o = reads x piece 
 program grows advances writes reads restarts restart v o = restarts v o
 program grows advances writes reads restarts flushed v o = flushedOutcome v
 
-abbrev ourGrow : (count : ℕ) → Act
-ourGrow count v o = growOutcome v count o
+-- W7's grow, and the one without 20
+abbrev ourGrow : (limited : Bool) (count : ℕ) → Act
+ourGrow limited count v o = growOutcomeOf limited v count o
 
 abbrev ourWrite : (x : ℕ) (piece : List ℕ) → Act
 ourWrite x piece v o = writeOutcome v x piece o
@@ -125,23 +127,26 @@ endsLate =
 
 -- a grow that refuses nothing, to 0 disks from 0 disks too
 unfoldable pub growsAlways : (c : Call) → Act
-growsAlways = program (λ count v o. growEffect v count) advanceOutcome ourWrite ourRead ourRestart
+growsAlways = program (λ limited count v o. growEffect v count) advanceOutcome ourWrite ourRead ourRestart
 
 -- "a made-up count of calls left"
 unfoldable pub madeUpCount : (c : Call) → Act
 madeUpCount =
     program
-    (λ count v o.
+    (λ limited count v o.
+    let ours = growOutcomeOf limited v count o in
     record {
-      reply =
-          record {
-            state = growOutcome v count o .reply .state;
-            answer = cond (accepted (growOutcome v count o .reply .answer)) (CallsLeft 7) (growOutcome v count o .reply .answer);
-          };
-      store = growOutcome v count o .store;
+      reply = record { state = ours .reply .state; answer = cond (accepted (ours .reply .answer)) (CallsLeft 7) (ours .reply .answer) };
+      store = ours .store;
       piece = [];
     })
     advanceOutcome ourWrite ourRead ourRestart
+
+-- a grow without 20 that goes to twice N[t] at most, where more was asked
+unfoldable pub growsToTwice : (c : Call) → Act
+growsToTwice =
+    program (λ limited count v o. growOutcomeOf limited v (cond (ltb (2 * disks v) count && not limited) (2 * disks v) count) o) advanceOutcome ourWrite ourRead
+    ourRestart
 
 -- a restart that keeps the unrecorded copies that memory still has
 unfoldable pub keepsCopies : (c : Call) → Act
@@ -159,6 +164,7 @@ pub record ShutOut : Type 0 where
   pub never-advances : PromiseOf neverAdvances → ⊥
   pub marks-later : PromiseOf marksLater → ⊥
   pub made-up-count : PromiseOf madeUpCount → ⊥
+  pub grows-to-twice : PromiseOf growsToTwice → ⊥
   pub keeps-copies : PromiseOf keepsCopies → ⊥
   pub refuses-read : PromiseOf refusesRead → ⊥
   pub exchanges-blocks : PromiseOf exchangesBlocks → ⊥
@@ -173,6 +179,7 @@ pub record ShutOutWithoutCache : Type 0 where
   pub never-advances : PromiseWithoutCacheOf neverAdvances → ⊥
   pub marks-later : PromiseWithoutCacheOf marksLater → ⊥
   pub made-up-count : PromiseWithoutCacheOf madeUpCount → ⊥
+  pub grows-to-twice : PromiseWithoutCacheOf growsToTwice → ⊥
   pub keeps-copies : PromiseWithoutCacheOf keepsCopies → ⊥
   pub refuses-read : PromiseWithoutCacheOf refusesRead → ⊥
   pub exchanges-blocks : PromiseWithoutCacheOf exchangesBlocks → ⊥

@@ -6,9 +6,10 @@ use borrow.Author.Needs.{needs}
 use borrow.Author.Tests.{le-ltb, lt-ltb, le-leb, lt-leb, eq-eqb, ne-eqb, not-true, not-false}
 use Rattle.base.specs.Refusals.{refusal}
 use Rattle.layout.specs.Limits.{mostGrowths}
-use Rattle.volume.specs.Calls.{growTable}
+use Rattle.volume.specs.Calls.{growTableOf}
 use Rattle.volume.specs.Sound.{sound}
 use Rattle.volume.specs.States.{disks}
+use Rattle.volume.proofs.Accepted.{countTests, grow-decided}
 use Rattle.volume.proofs.Volume.grow_refusal.Statement.{statement}
 use Rattle.volume.proofs.Volume.grow_refusal.Tie as tie
 
@@ -30,24 +31,24 @@ rises : (c : tie.Else4)
 rises c = lt-leb _ _ (rw (c .before .disk-count .ensures) at (c .if4 .left))
 
 returns : tie.Need-returns
-unfolding refusal growTable
+unfolding refusal growTableOf
 returns c =
     let e : sound (c .before .before .args .self) ≡ false = sym (c .before .is-sound .ensures) ∙ not-true _ (c .if1 .taken) in
     simp e
 
 returns-2 : tie.Need-returns-2
-unfolding refusal growTable
+unfolding refusal growTableOf
 returns-2 c = simp (passes (c .before .before), ne-eqb _ _ (c .if2 .taken))
 
 returns-3 : tie.Need-returns-3
-unfolding refusal growTable
+unfolding refusal growTableOf
 returns-3 c = simp (passes (c .before .before .before .before), at-rest (c .before .before), eq-eqb _ _ (c .if3 .taken))
 
 disk-count-requires : tie.Need-disk-count-requires
 disk-count-requires c κs = search needs
 
 returns-4 : tie.Need-returns-4
-unfolding refusal growTable
+unfolding refusal growTableOf
 returns-4 c =
     simp (
       passes (c .before .before .before .before .before .before),
@@ -57,7 +58,7 @@ returns-4 c =
     )
 
 returns-5 : tie.Need-returns-5
-unfolding refusal growTable
+unfolding refusal growTableOf
 returns-5 c =
     simp (
       passes (c .before .before .before .before .before .before .before),
@@ -67,36 +68,44 @@ returns-5 c =
       lt-ltb _ _ (c .if5 .taken),
     )
 
-is-short-requires : tie.Need-is-short-requires
-is-short-requires c κs = (passes (c .before .before .before .before .before .before .before), c .if5 .left)
+-- the tests before W7's pass
+tests-passed : (c : tie.Else5) → let a = c .before .before .before .before .before .before .before .before .before .args in refusal (countTests (a .self) (a .count)) ≡ 0
+unfolding refusal
+tests-passed c =
+    simp (
+      passes (c .before .before .before .before .before .before .before),
+      at-rest (c .before .before .before .before .before),
+      room-left (c .before .before .before),
+      rises (c .before),
+      le-ltb _ _ (c .if5 .left),
+    )
+
+is-beyond-doubling-requires : tie.Need-is-beyond-doubling-requires
+is-beyond-doubling-requires c κs = passes (c .before .before .before .before .before .before .before)
 
 returns-6 : tie.Need-returns-6
-unfolding refusal growTable
 returns-6 c =
-    simp (
-      passes (c .before .before .before .before .before .before .before .before .before),
-      at-rest (c .before .before .before .before .before .before .before),
-      room-left (c .before .before .before .before .before),
-      rises (c .before .before .before),
-      le-ltb _ _ (c .before .before .if5 .left),
-      sym (c .before .is-short .ensures) ∙ c .if6 .taken,
-    )
+    let e = sym (c .before .is-beyond-doubling .ensures) ∙ c .if6 .taken in
+    rw (grow-decided _ _ _ _ (tests-passed (c .before .before)), e)
+
+is-short-requires : tie.Need-is-short-requires
+is-short-requires c κs =
+    (passes (c .before .before .before .before .before .before .before .before .before), c .before .before .if5 .left)
+
+returns-7 : tie.Need-returns-7
+returns-7 c =
+    let e = sym (c .before .before .before .is-beyond-doubling .ensures) ∙ c .before .before .if6 .left in
+    let f = sym (c .before .is-short .ensures) ∙ c .if7 .taken in
+    rw (grow-decided _ _ _ _ (tests-passed (c .before .before .before .before)), e, f)
 
 record-refusal-requires : tie.Need-record-refusal-requires
 record-refusal-requires c κs = search needs
 
-returns-7 : tie.Need-returns-7
-unfolding refusal growTable
-returns-7 c =
-    c .record-refusal .ensures
-    ∙ simp (
-      passes (c .before .before .before .before .before .before .before .before .before .before),
-      at-rest (c .before .before .before .before .before .before .before .before),
-      room-left (c .before .before .before .before .before .before),
-      rises (c .before .before .before .before),
-      le-ltb _ _ (c .before .before .before .if5 .left),
-      sym (c .before .before .is-short .ensures) ∙ c .before .if6 .left,
-    )
+returns-8 : tie.Need-returns-8
+returns-8 c =
+    let e = sym (c .before .before .before .before .is-beyond-doubling .ensures) ∙ c .before .before .before .if6 .left in
+    let f = sym (c .before .before .is-short .ensures) ∙ c .before .if7 .left in
+    rw (grow-decided _ _ _ _ (tests-passed (c .before .before .before .before .before)), e, f, c .record-refusal .ensures)
 
 pub grow-refusal-spec : {M : Type 1} → statement M
 grow-refusal-spec =
@@ -109,7 +118,9 @@ grow-refusal-spec =
     disk-count-requires
     returns-4
     returns-5
-    is-short-requires
+    is-beyond-doubling-requires
     returns-6
+    is-short-requires
+    returns-7
     record-refusal-requires
-    returns-7)
+    returns-8)

@@ -1,0 +1,101 @@
+-- Document 02, W7: grow, and the grow without 20.
+use Prim.Native.Nat.{ℕ, _*_, _<_}
+use mathlib.Core.Path.{_≡_, refl, sym, _∙_}
+use mathlib.Core.Bool.{Bool, true, false}
+use mathlib.Core.List.{List, [], _∷_, _++_}
+use mathlib.Core.Logic.{_≢_}
+use native.Mathlib.Omega.{arith}
+use lib.Dec.{eqb, leb, ltb}
+use borrow.Author.Tests.{eqb-true, eqb-false, eq-eqb, ne-eqb, ltb-true, lt-ltb, le-ltb, lt-leb}
+use Rattle.base.specs.Refusals.{refusal}
+use Rattle.base.proofs.Booleans.{by-test}
+use Rattle.base.proofs.Refusals.{never-told, refused-first, passed-first}
+use Rattle.layout.specs.Limits.{mostDisks, mostGrowths}
+use Rattle.medium.specs.Medium.{Observations}
+use Rattle.volume.specs.declared.Volume.{Volume}
+use Rattle.volume.specs.Calls.{Outcome, refused, judged, growEffect, doublingRows, growTableOf, growTable, growBeyondDoublingTable, growOutcomeOf, growOutcome, growBeyondDoublingOutcome}
+use Rattle.volume.specs.Laws.{MayGrow, TwoGrows}
+use Rattle.volume.specs.States.{disks}
+use Rattle.volume.proofs.Accepted.{countTests, lastTests, may-grow}
+
+-- tables that tell the same number judge alike
+judged-alike : (a b : List (ℕ × Bool)) (refusing : ℕ → Outcome) (accepted : Outcome) → refusal a ≡ refusal b
+    → judged a refusing accepted ≡ judged b refusing accepted
+judged-alike a b refusing accepted e = rw e
+
+tests-pass : (v : Volume) (count : ℕ) → MayGrow v count → refusal (countTests v count) ≡ 0
+unfolding refusal
+tests-pass v count m =
+    simp (
+      m .is-sound,
+      eq-eqb (v .growing) 0 (m .not-growing),
+      ne-eqb (v .growths) mostGrowths (λ e. omega (arith, e, m .one-more)),
+      lt-leb count (disks v) (m .more-disks),
+      le-ltb mostDisks count (m .disks-most),
+    )
+
+module _ (v : Volume) (count byteCount : ℕ) where
+  abbrev tests : List (ℕ × Bool)
+  tests = countTests v count
+
+  abbrev exceeds : Bool
+  exceeds = ltb (2 * disks v) count
+
+  abbrev last : List (ℕ × Bool)
+  last = lastTests v count byteCount
+
+  abbrev beyond : List (ℕ × Bool)
+  beyond = (20, exceeds) ∷ last
+
+  grow-tests : growTable v count byteCount ≡ tests ++ beyond
+  unfolding growTableOf doublingRows
+  grow-tests = refl
+
+  other-tests : growBeyondDoublingTable v count byteCount ≡ tests ++ last
+  unfolding growTableOf doublingRows
+  other-tests = refl
+
+  refused-beyond : MayGrow v count → 2 * disks v < count → refusal (growTable v count byteCount) ≡ 20
+  unfolding refusal
+  refused-beyond m h = rw grow-tests (passed-first tests beyond refl (tests-pass v count m) ∙ rw (lt-ltb (2 * disks v) count h))
+
+  -- where the tests before it pass and the count does not exceed twice N[t], the last tests decide
+  decided : exceeds ≡ false → refusal beyond ≡ refusal last
+  unfolding refusal
+  decided e = rw e
+
+  beyond-refused : refusal (growTable v count byteCount) ≡ 20 → MayGrow v count × (2 * disks v < count)
+  beyond-refused e =
+      let t : refusal (tests ++ beyond) ≡ 20 = rw grow-tests at e in
+      by-test (eqb (refusal tests) 0)
+      (λ z.
+      let q = eqb-true (refusal tests) 0 z in
+      by-test exceeds (λ x. (may-grow v count q, ltb-true (2 * disks v) count x))
+      (λ x. absurd (never-told 20 last (omega arith) refl (sym (passed-first tests beyond refl q ∙ decided x) ∙ t))))
+      (λ z. absurd (never-told 20 tests (omega arith) refl (sym (refused-first tests beyond (eqb-false (refusal tests) 0 z)) ∙ t)))
+
+  same-refusal : refusal (growTable v count byteCount) ≢ 20 → refusal (growTable v count byteCount) ≡ refusal (growBeyondDoublingTable v count byteCount)
+  same-refusal h =
+      rw (grow-tests, other-tests)
+      (by-test (eqb (refusal tests) 0)
+      (λ z.
+      let q = eqb-true (refusal tests) 0 z in
+      passed-first tests beyond refl q
+      ∙ by-test exceeds (λ x. absurd (h (refused-beyond (may-grow v count q) (ltb-true (2 * disks v) count x)))) decided
+      ∙ sym (passed-first tests last refl q))
+      (λ z. let q = eqb-false (refusal tests) 0 z in refused-first tests beyond q ∙ sym (refused-first tests last q)))
+
+  never-beyond : refusal (growBeyondDoublingTable v count byteCount) ≢ 20
+  never-beyond = never-told 20 (growBeyondDoublingTable v count byteCount) (omega arith) (rw other-tests refl)
+
+pub two-grows : (v : Volume) (count : ℕ) (o : Observations) → TwoGrows v count o
+unfolding growOutcomeOf
+two-grows v count o =
+    record {
+      refused-beyond = refused-beyond v count (o .byteCount);
+      beyond-refused = beyond-refused v count (o .byteCount);
+      same-otherwise = λ h.
+          judged-alike (growTable v count (o .byteCount)) (growBeyondDoublingTable v count (o .byteCount)) (λ k. refused v k []) (growEffect v count)
+          (same-refusal v count (o .byteCount) h);
+      never-beyond = never-beyond v count (o .byteCount);
+    }

@@ -1,0 +1,235 @@
+-- The worked list with a growth beyond doubling, by computing.
+use Prim.Native.Nat.{ℕ}
+use mathlib.Core.Bool.{true, false}
+use mathlib.Core.List.{List, [], _∷_, _++_}
+use mathlib.Core.Logic.{inl}
+use mathlib.Core.Option.{none, some}
+use mathlib.Core.Path.{_≡_, refl, sym, ap, _∙_}
+use native.Mathlib.Omega.{arith}
+use lib.ListN.{length, take, drop, length-replicate}
+use Rattle.layout.specs.Tally.{isRunning, callsLeftOf}
+use Rattle.volume.specs.Answers.{number, accepted}
+use Rattle.promise.specs.Calls.{Call, grow, growBeyondDoubling, advance, write, read, restart, flushed, isAdvance, recordNew, Fed, ended, cutIn}
+use Rattle.promise.specs.Lists.{Event, IsUp, runs, outcome, callOutcome, after, NoEarlyCut, Lawful, AllFurther, an-advance, a-flushed, afterAll, fedAll, finishedTold}
+use Rattle.promise.specs.Model.{Model}
+use Rattle.promise.specs.Promise.{Start, Finishing, formatted, begin, systemAfter, modelOf}
+use Rattle.promise.proofs.Theorem.{lawful-before, promise}
+use Rattle.worked.specs.Worked.{blockOf}
+use Rattle.worked.specs.BeyondDoubling.{oneDisk, savedEvents, runningEvents, finishingEvents, restedEvents, grownEvents, beyondEvents, BeyondDoublingFacts}
+use Rattle.worked.proofs.FasterCalls.{faster}
+use Rattle.worked.proofs.Computed.{Hearing, Result, heardAll, computed, lawfulResult, Facts, faster-facts, heard-both, fed-before, fed-after, modelFed, model-fed}
+use Rattle.worked.proofs.Computing.{computing}
+use Rattle.worked.proofs.Running.{grows, left-of, left-told, finishing-of, advancesFed, tellings-fed}
+use Rattle.worked.proofs.Worked.{our-restart}
+
+is-accepted : accepted (formatted oneDisk .reply .answer) ≡ true
+unfolding computing
+is-accepted = refl
+
+-- ---- what plain volume and tally are fed, and the number that the last call told
+
+abbrev hearNumber : Hearing ℕ
+hearNumber c m out before = number (out .reply .answer)
+
+abbrev savedFed : List Fed
+savedFed = ended flushed true ∷ ended (write 0 (blockOf 1)) true ∷ ended (write 1 (blockOf 2)) true ∷ ended flushed true ∷ []
+
+abbrev runningFed : List Fed
+runningFed = savedFed ++ (ended (grow 3) false ∷ cutIn (some (growBeyondDoubling 3)) recordNew ∷ ended restart true ∷ [])
+
+abbrev threeFed : List Fed
+threeFed = ended advance true ∷ ended advance true ∷ ended flushed true ∷ ended advance true ∷ []
+
+abbrev restedFed : List Fed
+restedFed = (runningFed ++ threeFed) ++ (ended flushed true ∷ ended restart true ∷ [])
+
+abbrev grownFed : List Fed
+grownFed = restedFed ++ (ended (grow 7) false ∷ ended (grow 6) true ∷ [])
+
+abbrev beyondFed : List Fed
+beyondFed = grownFed ++ (ended (read 1 (blockOf 0)) true ∷ [])
+
+beyond-computed : computed (faster callOutcome) hearNumber (begin oneDisk) beyondEvents 0 ≡ lawfulResult beyondFed 0
+unfolding computing
+beyond-computed = refl
+
+beyond-facts : Facts callOutcome hearNumber (begin oneDisk) beyondEvents 0 beyondFed 0
+beyond-facts = faster-facts callOutcome hearNumber (begin oneDisk) beyondEvents 0 beyondFed 0 our-restart beyond-computed
+
+-- of a call after a list
+number-told : (a : Start) (es : List Event) (c : Call) (fs : List Fed) (k : ℕ)
+    → computed (faster callOutcome) hearNumber (begin a) (es ++ (runs c ∷ [])) 0 ≡ lawfulResult fs k
+    → number (outcome callOutcome c (systemAfter callOutcome a es) .reply .answer) ≡ k
+unfolding systemAfter heardAll
+number-told a es c fs k e =
+    sym (heard-both callOutcome hearNumber (begin a) es (runs c ∷ []) 0)
+    ∙ faster-facts callOutcome hearNumber (begin a) (es ++ (runs c ∷ [])) 0 fs k our-restart e .all-heard
+
+refused-computed : computed (faster callOutcome) hearNumber (begin oneDisk) (savedEvents ++ (runs (grow 3) ∷ [])) 0
+    ≡ lawfulResult (savedFed ++ (ended (grow 3) false ∷ [])) 20
+unfolding computing
+refused-computed = refl
+
+again-computed : computed (faster callOutcome) hearNumber (begin oneDisk) (restedEvents ++ (runs (grow 7) ∷ [])) 0
+    ≡ lawfulResult (restedFed ++ (ended (grow 7) false ∷ [])) 20
+unfolding computing
+again-computed = refl
+
+-- and of the first events
+grown-fed : fedAll callOutcome (begin oneDisk) grownEvents ≡ grownFed
+unfolding beyondEvents grownEvents restedEvents runningEvents savedEvents finishingEvents
+grown-fed = fed-before callOutcome (begin oneDisk) grownEvents (runs (read 1 (blockOf 0)) ∷ []) ∙ ap (take 15) (beyond-facts .all-fed)
+
+rested-fed : fedAll callOutcome (begin oneDisk) restedEvents ≡ restedFed
+unfolding grownEvents restedEvents runningEvents savedEvents finishingEvents
+rested-fed = fed-before callOutcome (begin oneDisk) restedEvents (runs (grow 7) ∷ runs (grow 6) ∷ []) ∙ ap (take 13) grown-fed
+
+three-fed : fedAll callOutcome (begin oneDisk) (runningEvents ++ finishingEvents) ≡ runningFed ++ threeFed
+unfolding restedEvents runningEvents savedEvents finishingEvents
+three-fed = fed-before callOutcome (begin oneDisk) (runningEvents ++ finishingEvents) (runs flushed ∷ runs restart ∷ []) ∙ ap (take 11) rested-fed
+
+running-fed : fedAll callOutcome (begin oneDisk) runningEvents ≡ runningFed
+unfolding runningEvents savedEvents
+running-fed = fed-before callOutcome (begin oneDisk) runningEvents finishingEvents ∙ ap (take 7) three-fed
+
+-- ---- plain volume and tally
+
+running-on : isRunning (modelFed oneDisk runningFed .tally .mode) ≡ true
+unfolding computing
+running-on = refl
+
+running-open : modelFed oneDisk runningFed .plain .blocks ≡ 2
+unfolding computing
+running-open = refl
+
+running-left : callsLeftOf (modelFed oneDisk runningFed .tally) ≡ 3
+unfolding computing
+running-left = refl
+
+rested-off : isRunning (modelFed oneDisk restedFed .tally .mode) ≡ false
+unfolding computing
+rested-off = refl
+
+rested-open : modelFed oneDisk restedFed .plain .blocks ≡ 6
+unfolding computing
+rested-open = refl
+
+rested-unset : modelFed oneDisk restedFed .plain .bytes 2 ≡ none
+unfolding computing
+rested-unset = refl
+
+grown-on : isRunning (modelFed oneDisk grownFed .tally .mode) ≡ true
+unfolding computing
+grown-on = refl
+
+grown-open : modelFed oneDisk grownFed .plain .blocks ≡ 6
+unfolding computing
+grown-open = refl
+
+grown-left : callsLeftOf (modelFed oneDisk grownFed .tally) ≡ 4
+unfolding computing
+grown-left = refl
+
+grown-set : modelFed oneDisk grownFed .plain .bytes 1 ≡ some (blockOf 2)
+unfolding computing
+grown-set = refl
+
+running-model : modelOf callOutcome oneDisk runningEvents ≡ modelFed oneDisk runningFed
+running-model = model-fed callOutcome oneDisk runningEvents runningFed running-fed
+
+rested-model : modelOf callOutcome oneDisk restedEvents ≡ modelFed oneDisk restedFed
+rested-model = model-fed callOutcome oneDisk restedEvents restedFed rested-fed
+
+grown-model : modelOf callOutcome oneDisk grownEvents ≡ modelFed oneDisk grownFed
+grown-model = model-fed callOutcome oneDisk grownEvents grownFed grown-fed
+
+-- ---- what the promise says of it
+
+no-early-cut : NoEarlyCut beyondEvents
+unfolding NoEarlyCut beyondEvents grownEvents restedEvents runningEvents savedEvents
+no-early-cut = inl refl
+
+grown-early : NoEarlyCut grownEvents
+unfolding NoEarlyCut grownEvents restedEvents runningEvents savedEvents
+grown-early = inl refl
+
+running-early : NoEarlyCut runningEvents
+unfolding NoEarlyCut runningEvents savedEvents
+running-early = inl refl
+
+grown-lawful : Lawful callOutcome (begin oneDisk) grownEvents
+unfolding beyondEvents
+grown-lawful = lawful-before callOutcome (begin oneDisk) grownEvents (runs (read 1 (blockOf 0)) ∷ []) (beyond-facts .lawful)
+
+running-lawful : Lawful callOutcome (begin oneDisk) runningEvents
+unfolding grownEvents restedEvents
+running-lawful =
+    lawful-before callOutcome (begin oneDisk) runningEvents finishingEvents
+    (lawful-before callOutcome (begin oneDisk) (runningEvents ++ finishingEvents) (runs flushed ∷ runs restart ∷ [])
+    (lawful-before callOutcome (begin oneDisk) ((runningEvents ++ finishingEvents) ++ (runs flushed ∷ runs restart ∷ [])) (runs (grow 7) ∷ runs (grow 6) ∷ []) grown-lawful))
+
+running-up : IsUp (systemAfter callOutcome oneDisk runningEvents)
+unfolding systemAfter afterAll after IsUp runningEvents savedEvents
+running-up = tt
+
+grown-up : IsUp (systemAfter callOutcome oneDisk grownEvents)
+unfolding systemAfter afterAll after IsUp grownEvents restedEvents runningEvents savedEvents finishingEvents
+grown-up = tt
+
+three-further : AllFurther callOutcome (systemAfter callOutcome oneDisk runningEvents) finishingEvents
+unfolding finishingEvents AllFurther
+three-further = (an-advance, (an-advance, (a-flushed, (an-advance, tt))))
+
+finishing : Finishing callOutcome oneDisk runningEvents finishingEvents 3
+finishing =
+    finishing-of oneDisk is-accepted runningEvents running-lawful running-early running-up runningFed running-fed running-on 3 running-left finishingEvents
+    three-further
+
+three-told : length (finishedTold callOutcome (systemAfter callOutcome oneDisk runningEvents) finishingEvents) ≡ 3
+unfolding systemAfter isAdvance advancesFed runningEvents savedEvents
+three-told =
+    tellings-fed (systemAfter callOutcome oneDisk runningEvents) finishingEvents
+    ∙ ap advancesFed (fed-after callOutcome (begin oneDisk) runningEvents finishingEvents ∙ ap (drop 7) three-fed)
+
+block-set : modelOf callOutcome oneDisk grownEvents .plain .bytes 1 ≡ some (blockOf 2)
+block-set = ap (λ (k : Model). k .plain .bytes 1) grown-model ∙ grown-set
+
+open-grown : modelOf callOutcome oneDisk grownEvents .plain .blocks ≡ 6
+open-grown = ap (λ (k : Model). k .plain .blocks) grown-model ∙ grown-open
+
+read-follows : beyondEvents ≡ grownEvents ++ (runs (read 1 (blockOf 0)) ∷ [])
+unfolding beyondEvents
+read-follows = refl
+
+read-back : outcome callOutcome (read 1 (blockOf 0)) (systemAfter callOutcome oneDisk grownEvents) .piece ≡ blockOf 2
+unfolding oneDisk
+read-back =
+    promise oneDisk is-accepted beyondEvents (beyond-facts .lawful) no-early-cut
+    .reads grownEvents [] 1 (blockOf 0) read-follows (rw open-grown (omega arith)) (length-replicate {A = ℕ} 512 0) .bytes-read (blockOf 2) block-set
+
+pub beyond-doubling : BeyondDoublingFacts
+beyond-doubling =
+    record {
+      is-accepted = is-accepted;
+      is-lawful = beyond-facts .lawful;
+      no-early-cut = no-early-cut;
+      refused-beyond = number-told oneDisk savedEvents (grow 3) _ 20 refused-computed;
+      runs-on = ap (λ (k : Model). isRunning (k .tally .mode)) running-model ∙ running-on;
+      open-running = ap (λ (k : Model). k .plain .blocks) running-model ∙ running-open;
+      calls-left = ap (λ (k : Model). callsLeftOf (k .tally)) running-model ∙ running-left;
+      calls-told =
+          left-told oneDisk is-accepted runningEvents running-lawful running-early running-up runningFed running-fed running-on 3 running-left;
+      all-further = three-further;
+      finishing = finishing;
+      told = finishing .last-told three-told;
+      finished = ap (λ (k : Model). isRunning (k .tally .mode)) rested-model ∙ rested-off;
+      open-finished = ap (λ (k : Model). k .plain .blocks) rested-model ∙ rested-open;
+      added-unset = ap (λ (k : Model). k .plain .bytes 2) rested-model ∙ rested-unset;
+      refused-again = number-told oneDisk restedEvents (grow 7) _ 20 again-computed;
+      runs-again = ap (λ (k : Model). isRunning (k .tally .mode)) grown-model ∙ grown-on;
+      calls-left-again = ap (λ (k : Model). callsLeftOf (k .tally)) grown-model ∙ grown-left;
+      calls-told-again =
+          left-told oneDisk is-accepted grownEvents grown-lawful grown-early grown-up grownFed grown-fed grown-on 4 grown-left;
+      block-set = block-set;
+      read-back = read-back;
+    }
