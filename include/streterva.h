@@ -1,9 +1,9 @@
 /*
  * Streterva: a RAID-0 volume (striping without parity) that takes more disks while it is in use.
  *
- * Link with libcapi.a (x86-64). "Document 01" is the specification, and "document 02" that of load, flushed, view and
- * the number of moves; numbers and words here are their own: a block is an address in the volume, a row is a position
- * on one disk, a spot is a disk and a row.
+ * Link with libcapi.a (x86-64). "Document 01" is the specification, and "document 02" that of load, flushed, view, the
+ * number of moves and the limit to doubling; numbers and words here are their own: a block is an address in the volume,
+ * a row is a position on one disk, a spot is a disk and a row.
  *
  * Answers. Every function returns 0 when it accepts the call, or else the number of the refusal (enum
  * streterva_refusal). Tests are made in the order given at each function, and the first that fails gives the number. A
@@ -35,7 +35,7 @@
  *   call         reads of the medium           writes of the medium
  *   format       nothing                       the record
  *   restart      the record                    nothing
- *   grow         nothing                       the record
+ *   grow         nothing                       the record; grow_beyond_doubling is the same
  *   copy         the block's old spot          its new spot, on an added disk
  *   checkpoint   nothing                       the record
  *   advance      a spot of an old disk         a spot of an added disk, or (it reads nothing then) the record
@@ -64,6 +64,12 @@
  * record the block's copy. Then the live spot is the new one, and later writes to the block go there; the old spot
  * keeps its bytes while the growth runs, and after that an added block may be written to it. So call view again after a
  * checkpoint, after an advance that did not copy, after restart and after format.
+ *
+ * Growths. Power supplies allow only as many new drives as old in one growth, so streterva_grow refuses a count above
+ * twice N[t] with 20. Where a rack's supply takes more new drives than old, streterva_grow_beyond_doubling begins the
+ * growth: it is grow without that test, and "grow" in this comment means either. A volume that has such a step in its
+ * history, finished or under way, is restarted and completed by the same calls as any other. The next streterva_grow on
+ * it takes up to twice its newest count.
  *
  * Pending stores. Drives with a write cache may keep stores and put them down in any order, so a store is pending until
  * the caller tells by streterva_flushed that all earlier stores are down. On such drives:
@@ -122,7 +128,7 @@ extern "C" {
 /* Words of a state. */
 #define STRETERVA_STATE_WORDS 16
 
-/* Numbers of figures. The first is for restart, grow, copy and checkpoint: figure 0 is the advance calls left. */
+/* Numbers of figures. The first is for restart, both grows, copy and checkpoint: figure 0 is the advance calls left. */
 #define STRETERVA_LEFT_FIGURES 1
 #define STRETERVA_ADVANCE_FIGURES 4
 #define STRETERVA_VIEW_FIGURES 2
@@ -188,6 +194,7 @@ enum streterva_refusal {
     STRETERVA_SCENE_REFUSED = 17,      /* a scene reaches past the open blocks or stands after the first 65,536 */
     STRETERVA_FLUSH_BLOCKS = 18,       /* a record store is due, block stores are pending: flush, flushed, again */
     STRETERVA_FLUSH_RECORD = 19,       /* a record store is pending: flush, flushed, again */
+    STRETERVA_BEYOND_DOUBLING = 20,    /* the growth would more than double the disks */
     STRETERVA_WRONG_LENGTH = 100       /* wrong length of state or figures, or last word above 3: nothing touched */
 };
 
@@ -276,12 +283,23 @@ uint64_t streterva_restart(uint64_t *state, size_t state_words, const uint8_t *m
 
 /*
  * Grow: begins a growth to `count` disks. Stores the record. The added blocks open when the growth is finished.
- * Refuses: 1; 6; 9; 8, count not above the present one or above 16; 2, too short for `count` disks; 19; 18.
+ * Refuses: 1; 6; 9; 8, count not above the present one or above 16; 20, count above twice the present one; 2, too short
+ * for `count` disks; 19; 18.
  * Figures (1): advance calls left.
  * Refused, it leaves the state as it was.
  */
 uint64_t streterva_grow(uint64_t *state, size_t state_words, uint8_t *medium, size_t medium_bytes, uint64_t count,
                         uint64_t *figures, size_t figures_words);
+
+/*
+ * Grow beyond doubling: grow without 20, for a rack whose power supply takes more new drives than old in one growth;
+ * see "Growths". With a count up to twice the present one it does what grow does.
+ * Refuses: 1; 6; 9; 8, count not above the present one or above 16; 2, too short for `count` disks; 19; 18.
+ * Figures (1): advance calls left.
+ * Refused, it leaves the state as it was.
+ */
+uint64_t streterva_grow_beyond_doubling(uint64_t *state, size_t state_words, uint8_t *medium, size_t medium_bytes,
+                                        uint64_t count, uint64_t *figures, size_t figures_words);
 
 /*
  * Copy: stores a moving block of window w at its new spot too and sets its copied mark. The block is read at its old

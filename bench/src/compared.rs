@@ -41,6 +41,11 @@ pub fn calls(media: &Media, s: u64) -> Vec<Box<dyn Row>> {
     rows.extend(recordings(model, &media.sparse, words));
     for (call, case, kind) in [
         ("grow", BEGUN, record::Call::Grow),
+        (
+            "grow_beyond_doubling",
+            BEGUN,
+            record::Call::GrowBeyondDoubling,
+        ),
         ("format", FORMATTED, record::Call::Format),
     ] {
         let label = Label {

@@ -62,6 +62,13 @@ pub fn all() -> Vec<Counted> {
         recorded("advance that records", GROWING, record::Call::Advance, 0.98),
         recorded("restart", GROWING, record::Call::Restart, 0.91),
         recorded("grow", BEGUN, record::Call::Grow, 0.95),
+        recorded(
+            "grow_beyond_doubling",
+            BEGUN,
+            record::Call::GrowBeyondDoubling,
+            0.95,
+        )
+        .no_more_than("grow"),
         recorded("format", FORMATTED, record::Call::Format, 0.94),
     ]);
     rows

@@ -1,10 +1,12 @@
-//! Calls that store or read the record: checkpoint, the advance that records, restart, grow, format.
+//! Calls that store or read the record: checkpoint, the advance that records, restart, both grows, format.
 
 use crate::media::Shared;
 use crate::row::{timed, Label, Row, Side, SLICE};
 use crate::volume::{self, Words, COPIED, PENDING, RECORDED, WINDOW};
 use reference::fast;
-use reference::store::Advanced;
+use reference::refusal::Refusal;
+use reference::state::State;
+use reference::store::{Advanced, Next};
 use std::hint::black_box;
 use streterva::raw;
 
@@ -18,11 +20,12 @@ pub enum Call {
     Advance,
     Restart,
     Grow,
+    GrowBeyondDoubling,
     Format,
 }
 
 /// Times a call that stores or reads the record. The words of the state that the call changes are set again before each one,
-/// which takes about one ns; for grow all words are.
+/// which takes about one ns; for the grows all words are.
 pub struct Recording {
     label: Label,
     call: Call,
@@ -58,7 +61,10 @@ impl Recording {
             Call::Checkpoint => checkpoint_library(words, windows, medium),
             Call::Advance => advance_library(words, windows, medium),
             Call::Restart => restart_library(windows.len(), medium),
-            Call::Grow => grow_library(words, windows.len(), medium),
+            Call::Grow => grow_library(raw::grow, words, windows.len(), medium),
+            Call::GrowBeyondDoubling => {
+                grow_library(raw::grow_beyond_doubling, words, windows.len(), medium)
+            }
             Call::Format => format_library(words, windows.len(), medium),
         }
     }
@@ -69,7 +75,10 @@ impl Recording {
             Call::Checkpoint => checkpoint_reference(words, windows, medium),
             Call::Advance => advance_reference(words, windows, medium),
             Call::Restart => restart_reference(windows.len(), medium),
-            Call::Grow => grow_reference(words, windows.len(), medium),
+            Call::Grow => grow_reference(fast::grow, words, windows.len(), medium),
+            Call::GrowBeyondDoubling => {
+                grow_reference(fast::grow_beyond_doubling, words, windows.len(), medium)
+            }
             Call::Format => format_reference(words, windows.len(), medium),
         }
     }
@@ -190,26 +199,36 @@ fn restart_reference(calls: usize, medium: &[u8]) -> u64 {
     refused
 }
 
-/// Begins the growth of `words` again and again.
-fn grow_library(words: &Words, calls: usize, medium: &mut [u8]) -> u64 {
+/// Begins the growth of `words` again and again, by either grow.
+fn grow_library(
+    grow: impl Fn(&mut [u64], &mut [u8], u64, &mut [u64]) -> u64,
+    words: &Words,
+    calls: usize,
+    medium: &mut [u8],
+) -> u64 {
     let t = words[2] as usize;
     let before = volume::grown(words[0], words[1], &words[3..3 + t]);
     let mut figures = [0; raw::LEFT_FIGURES];
     let mut refused = 0;
     for _ in 0..calls {
         let mut state = before;
-        refused |= raw::grow(&mut state, medium, words[3 + t], &mut figures);
+        refused |= grow(&mut state, medium, words[3 + t], &mut figures);
     }
     refused
 }
 
-fn grow_reference(words: &Words, calls: usize, medium: &mut [u8]) -> u64 {
+fn grow_reference(
+    grow: impl Fn(State, &mut [u8], u64) -> Result<Next, Refusal>,
+    words: &Words,
+    calls: usize,
+    medium: &mut [u8],
+) -> u64 {
     let t = words[2] as usize;
     let before = volume::grown(words[0], words[1], &words[3..3 + t]);
     let before = volume::state(&before);
     let mut refused = 0;
     for _ in 0..calls {
-        let answer = fast::grow(black_box(before), medium, words[3 + t]);
+        let answer = grow(black_box(before), medium, words[3 + t]);
         black_box(&answer);
         refused |= answer.is_err() as u64;
     }

@@ -265,10 +265,19 @@ static void look_up(void)
     tell_moves();
 }
 
-/* Begins the growth. With pictures written and not flushed it is refused with 18. Returns the advance calls left. */
+/*
+ * Begins the growth. To more than twice the disks it is refused with 20, and with pictures written and not flushed with
+ * 18. Returns the advance calls left.
+ */
 static uint64_t grow(void)
 {
     uint64_t left[STRETERVA_LEFT_FIGURES];
+    expect("grow to more than twice the disks",
+           streterva_grow(state.words, STRETERVA_STATE_WORDS, medium, medium_bytes, 2 * OLD_DISKS + 1, left,
+                          STRETERVA_LEFT_FIGURES),
+           STRETERVA_BEYOND_DOUBLING);
+    printf("grow to %d disks: refused with %d, more new drives than old\n", 2 * OLD_DISKS + 1,
+           STRETERVA_BEYOND_DOUBLING);
     expect("grow before a flush",
            streterva_grow(state.words, STRETERVA_STATE_WORDS, medium, medium_bytes, NEW_DISKS, left,
                           STRETERVA_LEFT_FIGURES),

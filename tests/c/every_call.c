@@ -14,7 +14,8 @@
 #include <unistd.h>
 
 enum { SIZE = 4096, ROWS = 5, OLD_DISKS = 3, NEW_DISKS = 5, SPARE = 2, PAGES = 1 + NEW_DISKS * ROWS + SPARE };
-enum { MOVING = 6 }; /* blocks that the growth moves */
+enum { MOVING = 6 };     /* blocks that the growth moves */
+enum { MOVING_FAR = 4 }; /* blocks that the growth from one disk moves */
 
 static streterva_state state;
 static uint8_t *pages;  /* the record's page, then a page for each spot, then spare ones */
@@ -78,19 +79,30 @@ static void open_live(uint64_t block, int allowed)
     protect(live_page(block), 1, allowed);
 }
 
+static uint64_t disk_count(void)
+{
+    return state.counts[state.growths];
+}
+
+static uint64_t open_blocks(void)
+{
+    return state.counts[state.growths - state.growing] * ROWS;
+}
+
 /* A copy: so many pages to be read, and the added disks to be written. */
 static void open_copy(size_t page, size_t count)
 {
+    const size_t old_pages = (size_t)open_blocks(), all_pages = (size_t)disk_count() * ROWS;
     close_all();
     protect(page, count, PROT_READ);
-    protect(page_of(OLD_DISKS, 0), (NEW_DISKS - OLD_DISKS) * ROWS, PROT_READ | PROT_WRITE);
+    protect(page_of(0, 0) + old_pages, all_pages - old_pages, PROT_READ | PROT_WRITE);
 }
 
 /* ---- the calls */
 
-static uint64_t format(size_t bytes, uint64_t size)
+static uint64_t format(size_t bytes, uint64_t size, uint64_t disks)
 {
-    return streterva_format(state.words, STRETERVA_STATE_WORDS, medium, bytes, size, ROWS, OLD_DISKS);
+    return streterva_format(state.words, STRETERVA_STATE_WORDS, medium, bytes, size, ROWS, disks);
 }
 
 static uint64_t restart(size_t bytes)
@@ -101,6 +113,12 @@ static uint64_t restart(size_t bytes)
 static uint64_t grow(size_t bytes, uint64_t count)
 {
     return streterva_grow(state.words, STRETERVA_STATE_WORDS, medium, bytes, count, figures, STRETERVA_LEFT_FIGURES);
+}
+
+static uint64_t grow_beyond_doubling(size_t bytes, uint64_t count)
+{
+    return streterva_grow_beyond_doubling(state.words, STRETERVA_STATE_WORDS, medium, bytes, count, figures,
+                                          STRETERVA_LEFT_FIGURES);
 }
 
 static uint64_t copy(size_t bytes, uint64_t block)
@@ -163,6 +181,11 @@ static void wrong_lengths(void)
     expect("format", streterva_format(words, n - 1, medium, medium_bytes, SIZE, ROWS, OLD_DISKS), wrong);
     expect("restart", streterva_restart(words, n, medium, medium_bytes, figures, 0), wrong);
     expect("grow", streterva_grow(words, n + 1, medium, medium_bytes, NEW_DISKS, figures, 1), wrong);
+    expect("grow", streterva_grow(words, n, medium, medium_bytes, 2 * OLD_DISKS + 1, figures, 0), wrong);
+    expect("grow_beyond_doubling",
+           streterva_grow_beyond_doubling(words, n - 1, medium, medium_bytes, NEW_DISKS, figures, 1), wrong);
+    expect("grow_beyond_doubling",
+           streterva_grow_beyond_doubling(words, n, medium, medium_bytes, NEW_DISKS, figures, 2), wrong);
     expect("copy", streterva_copy(words, n, medium, medium_bytes, 0, figures, 2), wrong);
     expect("checkpoint", streterva_checkpoint(words, 0, medium, medium_bytes, figures, 1), wrong);
     expect("advance", streterva_advance(words, n, medium, medium_bytes, figures, 1), wrong);
@@ -194,6 +217,8 @@ static void null_pointers(void)
     expect("restart", streterva_restart(none, n, NULL, 0, figures, 1), STRETERVA_MEDIUM_TOO_SHORT);
     expect("format", streterva_format(none, n, NULL, 0, SIZE, ROWS, OLD_DISKS), STRETERVA_MEDIUM_TOO_SHORT);
     expect("grow", streterva_grow(words, n, NULL, 0, NEW_DISKS, figures, 1), STRETERVA_MEDIUM_TOO_SHORT);
+    expect("grow_beyond_doubling", streterva_grow_beyond_doubling(words, n, NULL, 0, NEW_DISKS, figures, 1),
+           STRETERVA_MEDIUM_TOO_SHORT);
     expect("advance", streterva_advance(words, n, NULL, 0, figures, 4), STRETERVA_MEDIUM_TOO_SHORT);
     expect("read", streterva_read(words, n, NULL, 0, 0, NULL, 0), STRETERVA_MEDIUM_TOO_SHORT);
     expect("read", streterva_read(words, n, medium, medium_bytes, 0, NULL, 0), STRETERVA_PIECE_SIZE);
@@ -216,16 +241,56 @@ static void refused_address(uint64_t block, uint64_t wanted)
     expect("the figure after them", figures[STRETERVA_ADDRESS_FIGURES], UINT64_C(0x7777777777777777));
 }
 
-/* Refused on a medium of which no byte may be touched; the state stays, and the figures are 0. */
+/*
+ * Grow and the one without 20, refused with these numbers on a medium of which no byte may be touched; the state stays,
+ * and the figure is 0.
+ */
+static void refused_grows(size_t bytes, uint64_t count, uint64_t wanted, uint64_t wanted_without)
+{
+    const streterva_state kept = state;
+    close_all();
+    figures[0] = 7;
+    expect("grow", grow(bytes, count), wanted);
+    expect("the figure of grow", figures[0], 0);
+    figures[0] = 7;
+    expect("grow_beyond_doubling", grow_beyond_doubling(bytes, count), wanted_without);
+    expect("the figure of grow_beyond_doubling", figures[0], 0);
+    expect("the state", (uint64_t)memcmp(&kept, &state, sizeof kept), 0);
+}
+
+/* Each refusal of both grows but 6; most also with a count above twice the disks, which only grow refuses. */
+static void refusals_of_grows(void)
+{
+    const streterva_state kept = state;
+    const size_t need = (size_t)streterva_medium_bytes(SIZE, ROWS, NEW_DISKS);
+    const uint64_t far = 2 * OLD_DISKS + 1, beyond = STRETERVA_BEYOND_DOUBLING, too_short = STRETERVA_MEDIUM_TOO_SHORT;
+    state.counts[7] = 1;
+    refused_grows(medium_bytes, far, STRETERVA_NOT_SOUND, STRETERVA_NOT_SOUND);
+    state.growths = STRETERVA_MOST_GROWTHS;
+    for (uint64_t i = 0; i <= STRETERVA_MOST_GROWTHS; i++)
+        state.counts[i] = i + 1;
+    refused_grows(medium_bytes, 17, STRETERVA_NO_MORE_GROWTHS, STRETERVA_NO_MORE_GROWTHS);
+    state = kept;
+    refused_grows(medium_bytes, OLD_DISKS, STRETERVA_OUTSIDE_LIMITS, STRETERVA_OUTSIDE_LIMITS);
+    refused_grows(medium_bytes, 17, STRETERVA_OUTSIDE_LIMITS, STRETERVA_OUTSIDE_LIMITS);
+    for (state.pending = 0; state.pending <= 3; state.pending++) {
+        refused_grows(medium_bytes, far, beyond, too_short);
+        refused_grows(medium_bytes, far - 1, too_short, too_short);
+        refused_grows(need - 1, NEW_DISKS, too_short, too_short);
+    }
+    state.pending = STRETERVA_BLOCKS_PENDING;
+    refused_grows(need, NEW_DISKS, STRETERVA_FLUSH_BLOCKS, STRETERVA_FLUSH_BLOCKS);
+    state.pending |= STRETERVA_RECORD_PENDING;
+    refused_grows(need, NEW_DISKS, STRETERVA_FLUSH_RECORD, STRETERVA_FLUSH_RECORD);
+    state = kept;
+}
+
+/* Refused on a medium of which no byte may be touched; the state stays. */
 static void refusals_at_rest(void)
 {
     const streterva_state kept = state;
     const size_t need = (size_t)streterva_medium_bytes(SIZE, ROWS, OLD_DISKS);
     close_all();
-    memset(figures, 0x77, sizeof figures);
-    expect("grow", grow(medium_bytes, OLD_DISKS), STRETERVA_OUTSIDE_LIMITS);
-    expect("the figure of grow", figures[0], 0);
-    expect("grow", grow(need, NEW_DISKS), STRETERVA_MEDIUM_TOO_SHORT);
     expect("copy", copy(medium_bytes, 0), STRETERVA_NOT_GROWING);
     expect("checkpoint", checkpoint(medium_bytes), STRETERVA_NOT_GROWING);
     expect("advance", advance(medium_bytes), STRETERVA_NOT_GROWING);
@@ -244,7 +309,7 @@ static void zeros(void)
 {
     const streterva_state kept = state, zero = {.words = {0}};
     close_all();
-    expect("format", format(medium_bytes, SIZE + 1), STRETERVA_OUTSIDE_LIMITS);
+    expect("format", format(medium_bytes, SIZE + 1, OLD_DISKS), STRETERVA_OUTSIDE_LIMITS);
     expect("the state", (uint64_t)memcmp(&zero, &state, sizeof zero), 0);
     expect("soundness", streterva_soundness(state.words, STRETERVA_STATE_WORDS), STRETERVA_NOT_SOUND);
     expect("flushed", streterva_flushed(state.words, STRETERVA_STATE_WORDS), STRETERVA_NOT_SOUND);
@@ -279,16 +344,6 @@ static void check(uint64_t block, uint8_t byte)
 }
 
 /* ---- views, of the medium cut into two shelves */
-
-static uint64_t disk_count(void)
-{
-    return state.counts[state.growths];
-}
-
-static uint64_t open_blocks(void)
-{
-    return state.counts[state.growths - state.growing] * ROWS;
-}
 
 static size_t first_shelf(uint64_t first_disks)
 {
@@ -410,18 +465,18 @@ static void moves(uint64_t wanted)
     expect("the blocks moved", sum, wanted);
 }
 
-/* Advance calls, so many, to the one that finishes; only that one records what they copy. */
-static void advances(uint64_t left)
+/* Advance calls, so many, to the one that finishes; only that one records, and the moves go from `moved` to `all`. */
+static void advances(uint64_t left, uint64_t moved, uint64_t all)
 {
     while (left > 0) {
         flushed();
-        open_copy(page_of(0, 0), OLD_DISKS * ROWS);
+        open_copy(page_of(0, 0), (size_t)open_blocks());
         if (left == 1)
             open_record(PROT_READ | PROT_WRITE);
         expect("advance", advance(medium_bytes), 0);
         expect("calls left", figures[STRETERVA_ADVANCE_LEFT], --left);
         expect("finished", figures[STRETERVA_ADVANCE_DID] == STRETERVA_FINISHED, left == 0);
-        moves(left == 0 ? MOVING : 1);
+        moves(left == 0 ? all : moved);
         views();
     }
     flushed();
@@ -436,7 +491,7 @@ static void growth(void)
     uint64_t left = figures[0];
     moves(0);
     flushed();
-    close_all();
+    refused_grows(medium_bytes, 2 * NEW_DISKS + 1, STRETERVA_GROWING, STRETERVA_GROWING);
     expect("copy", copy(medium_bytes, 1), STRETERVA_NOT_MOVING);
     expect("checkpoint", checkpoint(medium_bytes), STRETERVA_NOTHING_TO_RECORD);
     open_copy(live_page(0), 1);
@@ -455,7 +510,7 @@ static void growth(void)
     views();
     close_all();
     expect("advance", advance(medium_bytes), STRETERVA_FLUSH_RECORD);
-    advances(left);
+    advances(left, 1, MOVING);
 }
 
 /* Every spot has one block, whose address it is, and all of them are the load of one scene. */
@@ -470,6 +525,61 @@ static void look_ups(void)
     expect("load", load(0, NEW_DISKS * ROWS), 0);
     for (uint64_t disk = 0; disk < STRETERVA_MOST_DISKS; disk++)
         expect("a disk's blocks", figures[STRETERVA_LOAD_SERVED + disk], disk < NEW_DISKS ? ROWS : 0);
+}
+
+/* A new volume of one disk, its blocks saved. */
+static void one_disk(void)
+{
+    open_record(PROT_READ | PROT_WRITE);
+    expect("format", format(medium_bytes, SIZE, 1), 0);
+    flushed();
+    for (uint64_t block = 0; block < ROWS; block++)
+        save(block, (uint8_t)(block + 1));
+}
+
+/* From 1 disk to 5: refused by grow, begun without 20, restarted and completed. Then the 5 disks count for grow. */
+static void growth_beyond_doubling(void)
+{
+    one_disk();
+    const streterva_state kept = state;
+    close_all();
+    expect("grow", grow(medium_bytes, NEW_DISKS), STRETERVA_BEYOND_DOUBLING);
+    expect("the state", (uint64_t)memcmp(&kept, &state, sizeof kept), 0);
+    state.pending = STRETERVA_RECORD_PENDING;
+    refused_grows(medium_bytes, NEW_DISKS, STRETERVA_BEYOND_DOUBLING, STRETERVA_FLUSH_RECORD);
+    state.pending = STRETERVA_BLOCKS_PENDING;
+    refused_grows(medium_bytes, NEW_DISKS, STRETERVA_BEYOND_DOUBLING, STRETERVA_FLUSH_BLOCKS);
+    state = kept;
+    open_record(PROT_READ | PROT_WRITE);
+    expect("grow_beyond_doubling", grow_beyond_doubling(medium_bytes, NEW_DISKS), 0);
+    expect("calls left", figures[0], MOVING_FAR + 1);
+    expect("a record store is pending", state.pending, STRETERVA_RECORD_PENDING);
+    flushed();
+    open_record(PROT_READ);
+    expect("restart", restart(medium_bytes), 0);
+    expect("calls left", figures[0], MOVING_FAR + 1);
+    advances(MOVING_FAR + 1, 0, MOVING_FAR);
+    open_record(PROT_READ);
+    expect("restart", restart(medium_bytes), 0);
+    expect("disks", disk_count(), NEW_DISKS);
+    for (uint64_t block = 0; block < ROWS; block++)
+        check(block, (uint8_t)(block + 1));
+    look_ups();
+    refused_grows(medium_bytes, 2 * NEW_DISKS + 1, STRETERVA_BEYOND_DOUBLING, STRETERVA_MEDIUM_TOO_SHORT);
+    refused_grows(medium_bytes, 2 * NEW_DISKS, STRETERVA_MEDIUM_TOO_SHORT, STRETERVA_MEDIUM_TOO_SHORT);
+}
+
+/* To exactly twice the disks: both grows do the same. */
+static void growth_to_twice(void)
+{
+    one_disk();
+    const streterva_state kept = state;
+    open_record(PROT_READ | PROT_WRITE);
+    expect("grow", grow(medium_bytes, 2), 0);
+    const streterva_state grown = state;
+    state = kept;
+    expect("grow_beyond_doubling", grow_beyond_doubling(medium_bytes, 2), 0);
+    expect("the state", (uint64_t)memcmp(&grown, &state, sizeof grown), 0);
 }
 
 /* The bytes of a medium, also where they would not fit into 64 bits. */
@@ -489,28 +599,33 @@ static void medium_sizes(void)
     expect("bytes", streterva_medium_bytes(512, UINT64_C(1) << 55, 1), most);
 }
 
-int main(void)
+static void map_pages(void)
 {
     if (sysconf(_SC_PAGESIZE) != SIZE) {
         printf("pages are not %d bytes\n", SIZE);
-        return 1;
+        exit(1);
     }
     pages = mmap(NULL, (size_t)PAGES * SIZE, PROT_NONE, MAP_PRIVATE | MAP_ANONYMOUS, -1, 0);
     if (pages == MAP_FAILED) {
         perror("mmap");
-        return 1;
+        exit(1);
     }
     medium = pages + SIZE - STRETERVA_RECORD_BYTES;
+}
 
+int main(void)
+{
+    map_pages();
     medium_sizes();
     open_record(PROT_READ | PROT_WRITE);
-    expect("format", format(medium_bytes, SIZE), 0);
+    expect("format", format(medium_bytes, SIZE, OLD_DISKS), 0);
     close_all();
     expect("write", write_block(medium_bytes, 0, SIZE), STRETERVA_FLUSH_RECORD);
     views();
     flushed();
     wrong_lengths();
     null_pointers();
+    refusals_of_grows();
     refusals_at_rest();
     zeros();
     for (uint64_t block = 0; block < OLD_DISKS * ROWS; block++)
@@ -524,6 +639,8 @@ int main(void)
     views();
     moves(MOVING);
     look_ups();
+    growth_beyond_doubling();
+    growth_to_twice();
     printf("calls and values compared: %u\n", calls);
     return 0;
 }

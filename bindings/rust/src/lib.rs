@@ -1,9 +1,9 @@
 //! Bindings to Streterva: a RAID-0 volume (striping without parity) that takes more disks while it is in use.
 //!
 //! The library behind it, `libcapi.a`, is proved against its specification, "document 01", and "document 02" for
-//! [`State::load`], [`State::flushed`], [`State::view`] and [`Address::moves`]; the words and the numbers of refusals
-//! here are those documents'. A *block* is an address in the volume, a *row* is a position on one disk, a *spot* is a
-//! disk and a row.
+//! [`State::load`], [`State::flushed`], [`State::view`], [`Address::moves`] and [`Refusal::BeyondDoubling`]; the words
+//! and the numbers of refusals here are those documents'. A *block* is an address in the volume, a *row* is a position
+//! on one disk, a *spot* is a disk and a row.
 //!
 //! The caller keeps two things: the medium, a slice of bytes with the record and all disks, and the [`State`], plain
 //! data. Both are lent to each call, to view the medium as two shelves. A call that is refused changes neither and
@@ -50,6 +50,14 @@
 //! # Ok(())
 //! # }
 //! ```
+//!
+//! # Growths
+//!
+//! Power supplies allow only as many new drives as old in one growth, so [`State::grow`] refuses a count above twice
+//! the present one with [`Refusal::BeyondDoubling`]. Where a rack's supply takes more new drives than old,
+//! [`State::grow_beyond_doubling`] begins the growth: it is grow without that test, and "grow" below means either. A
+//! volume that has such a step in its history, finished or under way, is restarted and completed by the same calls as
+//! any other. The next [`State::grow`] on it takes up to twice its newest count.
 //!
 //! # Pending stores
 //!

@@ -31,7 +31,7 @@ pub const BLOCKS_PENDING: u64 = 2;
 /// The most that the last word of a state may be.
 pub const MOST_PENDING: u64 = RECORD_PENDING | BLOCKS_PENDING;
 
-/// Figures of [`restart`], [`grow`], [`copy`] and [`checkpoint`]: the advance calls left.
+/// Figures of [`restart`], [`grow`], [`grow_beyond_doubling`], [`copy`] and [`checkpoint`]: the advance calls left.
 pub const LEFT_FIGURES: usize = 1;
 
 /// Figures of [`advance`]: calls left; 1 copied, 2 recorded, 3 finished; the block copied; its part, 1 head, 2 body, 3 tail.
@@ -88,6 +88,16 @@ extern "C" {
     ) -> u64;
 
     fn streterva_grow(
+        state: *mut u64,
+        state_words: usize,
+        medium: *mut u8,
+        medium_bytes: usize,
+        count: u64,
+        figures: *mut u64,
+        figures_words: usize,
+    ) -> u64;
+
+    fn streterva_grow_beyond_doubling(
         state: *mut u64,
         state_words: usize,
         medium: *mut u8,
@@ -219,11 +229,33 @@ pub fn restart(state: &mut [u64], medium: &[u8], figures: &mut [u64]) -> u64 {
     }
 }
 
-/// Begins a growth to `count` disks and stores the record. Refuses 1; 6; 9; 8; 2; 19; 18.
+/// Begins a growth to `count` disks and stores the record. Refuses 1; 6; 9; 8; 20; 2; 19; 18.
 pub fn grow(state: &mut [u64], medium: &mut [u8], count: u64, figures: &mut [u64]) -> u64 {
     // SAFETY: each pointer goes with the length of its slice, borrowed for the call; the three written slices do not overlap.
     unsafe {
         streterva_grow(
+            state.as_mut_ptr(),
+            state.len(),
+            medium.as_mut_ptr(),
+            medium.len(),
+            count,
+            figures.as_mut_ptr(),
+            figures.len(),
+        )
+    }
+}
+
+/// The grow without 20. Refuses 1; 6; 9; 8; 2; 19; 18.
+pub fn grow_beyond_doubling(
+    state: &mut [u64],
+    medium: &mut [u8],
+    count: u64,
+    figures: &mut [u64],
+) -> u64 {
+    // SAFETY: each pointer goes with the length of its slice, borrowed for the call; the three written slices do not
+    // overlap.
+    unsafe {
+        streterva_grow_beyond_doubling(
             state.as_mut_ptr(),
             state.len(),
             medium.as_mut_ptr(),

@@ -41,11 +41,14 @@ pub enum Refusal {
     /// 19: a record store is pending. Accepted after the drives are flushed and
     /// [`State::flushed`](crate::State::flushed).
     FlushRecord = 19,
+    /// 20: the growth would more than double the disks. [`State::grow`](crate::State::grow) has this refusal and
+    /// [`State::grow_beyond_doubling`](crate::State::grow_beyond_doubling) has not.
+    BeyondDoubling = 20,
 }
 
 impl Refusal {
     /// Every refusal, by rising number.
-    pub const ALL: [Refusal; 17] = [
+    pub const ALL: [Refusal; 18] = [
         Refusal::NotSound,
         Refusal::MediumTooShort,
         Refusal::BlockNotOpen,
@@ -63,6 +66,7 @@ impl Refusal {
         Refusal::NoBlockThere,
         Refusal::FlushBlocks,
         Refusal::FlushRecord,
+        Refusal::BeyondDoubling,
     ];
 
     /// The number of document 01 or 02.
@@ -100,6 +104,7 @@ impl fmt::Display for Refusal {
             Refusal::NoBlockThere => "no open block lives at the spot",
             Refusal::FlushBlocks => "block stores are pending, and a record store is due",
             Refusal::FlushRecord => "a record store is pending",
+            Refusal::BeyondDoubling => "the growth would more than double the disks",
         })
     }
 }

@@ -159,10 +159,24 @@ impl State {
     ///
     /// # Errors
     ///
-    /// 1; 6; 9; 8, `count` not above the present one or above 16; 2, too short for `count` disks; 19; 18.
+    /// 1; 6; 9; 8, `count` not above the present one or above 16; 20, `count` above twice the present one; 2, too short
+    /// for `count` disks; 19; 18.
     pub fn grow(&mut self, medium: &mut [u8], count: u64) -> Result<u64, Refusal> {
         let mut left = [0; raw::LEFT_FIGURES];
         accepted(raw::grow(&mut self.words, medium, count, &mut left))?;
+        Ok(left[0])
+    }
+
+    /// [`State::grow`] without 20, for a rack whose power supply takes more new drives than old in one growth. With a
+    /// count up to twice the present one it does what grow does.
+    ///
+    /// # Errors
+    ///
+    /// 1; 6; 9; 8, `count` not above the present one or above 16; 2, too short for `count` disks; 19; 18.
+    pub fn grow_beyond_doubling(&mut self, medium: &mut [u8], count: u64) -> Result<u64, Refusal> {
+        let mut left = [0; raw::LEFT_FIGURES];
+        let number = raw::grow_beyond_doubling(&mut self.words, medium, count, &mut left);
+        accepted(number)?;
         Ok(left[0])
     }
 

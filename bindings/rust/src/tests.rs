@@ -1,6 +1,7 @@
 //! Each call accepted and refused, on document 01's cases, with a flushed after each store or each run of block stores;
 //! load on volumes of the same kind; holder at the spots of added blocks.
 
+mod doubling;
 mod moves;
 mod pending;
 mod view;
@@ -46,6 +47,13 @@ fn three_to_five() -> (Vec<u8>, State) {
 /// Begins a growth and leaves nothing pending.
 fn grow(volume: &mut State, medium: &mut [u8], count: u64) -> u64 {
     let left = volume.grow(medium, count).unwrap();
+    volume.flushed().unwrap();
+    left
+}
+
+/// The same for a growth that may more than double the disks.
+fn grow_beyond_doubling(volume: &mut State, medium: &mut [u8], count: u64) -> u64 {
+    let left = volume.grow_beyond_doubling(medium, count).unwrap();
     volume.flushed().unwrap();
     left
 }
@@ -205,7 +213,7 @@ fn layout_cases() {
     for (rows, first, last, block, spot) in [(3, 1, 4, 1, (2, 1)), (6, 4, 6, 9, (4, 2))] {
         let mut medium = self::medium(512, rows, last);
         let mut volume = formatted(&mut medium, rows, first);
-        grow(&mut volume, &mut medium, last);
+        grow_beyond_doubling(&mut volume, &mut medium, last);
         finish(&mut volume, &mut medium);
         assert_eq!(at(&volume, block), spot);
         assert_eq!(
@@ -275,7 +283,10 @@ fn grow_refuses_and_leaves_the_state() {
     for count in [0, 3, 17, u64::MAX] {
         assert_eq!(volume.grow(&mut medium, count), Err(Refusal::OutsideLimits));
     }
-    assert_eq!(volume.grow(&mut medium, 7), Err(Refusal::MediumTooShort));
+    assert_eq!(volume.grow(&mut medium, 7), Err(Refusal::BeyondDoubling));
+    let short = State::medium_bytes(512, 5, 6) - 1;
+    let refused = volume.grow(&mut medium[..short], 6);
+    assert_eq!(refused, Err(Refusal::MediumTooShort));
     assert_eq!((&medium, volume), (&before.0, before.1));
 
     volume.grow(&mut medium, 5).unwrap();
@@ -562,6 +573,28 @@ fn load_refuses() {
     }
 }
 
+/// Every call refuses the state with 1 and leaves it as it was.
+fn is_refused(mut damaged: State, medium: &mut [u8]) {
+    let kept = damaged;
+    let mut piece = [0; 512];
+    let refused = Err(Refusal::NotSound);
+    assert_eq!(damaged.grow(medium, 6), refused);
+    assert_eq!(damaged.grow_beyond_doubling(medium, 6), refused);
+    assert_eq!(damaged.copy(medium, Block(0)), refused);
+    assert_eq!(damaged.checkpoint(medium), refused);
+    assert_eq!(damaged.advance(medium).err(), refused.err());
+    let written = damaged.write(medium, Block(0), &piece);
+    assert_eq!(written.err(), refused.err());
+    let read = damaged.read(medium, Block(0), &mut piece);
+    assert_eq!(read.err(), refused.err());
+    let shown = damaged.view(medium, &[], 5, Block(0));
+    assert_eq!(shown.err(), refused.err());
+    assert_eq!(damaged.flushed().err(), refused.err());
+    assert_eq!(damaged.address(Block(0)).err(), refused.err());
+    assert_eq!(damaged.holder(0, Row(0)).err(), refused.err());
+    assert_eq!(damaged, kept);
+}
+
 #[test]
 fn a_damaged_state_is_refused() {
     let (mut medium, volume) = three_to_five();
@@ -578,25 +611,9 @@ fn a_damaged_state_is_refused() {
         (13, 1),
         (14, 1 << 63),
     ] {
-        let mut damaged = with_word(&volume, word, value);
-        let kept = damaged;
-        let mut piece = [0; 512];
+        let damaged = with_word(&volume, word, value);
         assert!(!damaged.is_sound(), "word {word} is {value}");
-        let refused = Err(Refusal::NotSound);
-        assert_eq!(damaged.grow(&mut medium, 6), refused);
-        assert_eq!(damaged.copy(&mut medium, Block(0)), refused);
-        assert_eq!(damaged.checkpoint(&mut medium), refused);
-        assert_eq!(damaged.advance(&mut medium).err(), refused.err());
-        let written = damaged.write(&mut medium, Block(0), &piece);
-        assert_eq!(written.err(), refused.err());
-        let read = damaged.read(&medium, Block(0), &mut piece);
-        assert_eq!(read.err(), refused.err());
-        let shown = damaged.view(&medium, &[], 5, Block(0));
-        assert_eq!(shown.err(), refused.err());
-        assert_eq!(damaged.flushed().err(), refused.err());
-        assert_eq!(damaged.address(Block(0)).err(), refused.err());
-        assert_eq!(damaged.holder(0, Row(0)).err(), refused.err());
-        assert_eq!(damaged, kept);
+        is_refused(damaged, &mut medium);
     }
     assert_eq!(medium, before);
     assert!(with_word(&volume, 14, 1).is_sound());
@@ -619,6 +636,7 @@ fn wrong_lengths_touch_nothing() {
             raw::format(state, &mut [], 0, 0, 0),
             raw::restart(state, &medium, &mut figures[..1]),
             raw::grow(state, &mut medium, 5, &mut figures[..1]),
+            raw::grow_beyond_doubling(state, &mut medium, 5, &mut figures[..1]),
             raw::copy(state, &mut medium, 0, &mut figures[..1]),
             raw::checkpoint(state, &mut medium, &mut figures[..1]),
             raw::advance(state, &mut medium, &mut figures[..4]),
@@ -630,7 +648,7 @@ fn wrong_lengths_touch_nothing() {
             raw::holder(state, 0, 0, &mut figures[..1]),
             raw::soundness(state),
         ];
-        assert_eq!(answers, [raw::WRONG_LENGTH; 14]);
+        assert_eq!(answers, [raw::WRONG_LENGTH; 15]);
         assert!(state.iter().all(|word| *word == 3));
         assert_eq!(figures, [8; 6]);
     }
@@ -651,7 +669,11 @@ fn wrong_lengths_of_figures_touch_nothing() {
         if words != raw::LEFT_FIGURES {
             answers.push(raw::restart(&mut state, &medium, figures));
             answers.push(raw::restart(&mut state, &[], figures));
-            answers.push(raw::grow(&mut state, &mut medium, 5, figures));
+            for count in [5, 7] {
+                answers.push(raw::grow(&mut state, &mut medium, count, figures));
+                let other = raw::grow_beyond_doubling(&mut state, &mut medium, count, figures);
+                answers.push(other);
+            }
             answers.push(raw::copy(&mut state, &mut medium, 0, figures));
             answers.push(raw::checkpoint(&mut state, &mut medium, figures));
         }
@@ -713,6 +735,12 @@ fn refusals_have_zeros() {
     assert_eq!(raw::grow(&mut state, &mut medium, 3, &mut left), 8);
     assert_eq!((state, left), (volume.words(), [0]));
     left = [6];
+    assert_eq!(raw::grow(&mut state, &mut medium, 7, &mut left), 20);
+    assert_eq!((state, left), (volume.words(), [0]));
+    left = [6];
+    let refused = raw::grow_beyond_doubling(&mut state, &mut medium, 7, &mut left);
+    assert_eq!((refused, state, left), (2, volume.words(), [0]));
+    left = [6];
     assert_eq!(raw::copy(&mut state, &mut medium, 0, &mut left), 5);
     assert_eq!(left, [0]);
     left = [6];
@@ -749,14 +777,14 @@ fn refusals_of_load_have_zeros() {
 
 #[test]
 fn refusals_have_their_numbers() {
-    let numbers = (1..=15).chain([18, 19]);
+    let numbers = (1..=15).chain([18, 19, 20]);
     assert_eq!(numbers.clone().count(), Refusal::ALL.len());
     for (number, refusal) in numbers.zip(Refusal::ALL) {
         assert_eq!(refusal.number(), number);
         assert_eq!(Refusal::from_number(number), Some(refusal));
         assert!(!refusal.to_string().is_empty());
     }
-    for number in [0, 16, 17, raw::WRONG_LENGTH, u64::MAX] {
+    for number in [0, 16, 17, 21, raw::WRONG_LENGTH, u64::MAX] {
         assert_eq!(Refusal::from_number(number), None);
     }
     let refused = LoadRefusal::Scene { place: 3 };

@@ -47,26 +47,20 @@ module _ (v : Volume) (count byteCount : ℕ) where
   abbrev beyond : List (ℕ × Bool)
   beyond = (20, exceeds) ∷ last
 
-  grow-tests : growTable v count byteCount ≡ tests ++ beyond
-  unfolding growTableOf doublingRows
-  grow-tests = refl
-
-  other-tests : growBeyondDoublingTable v count byteCount ≡ tests ++ last
-  unfolding growTableOf doublingRows
-  other-tests = refl
-
-  refused-beyond : MayGrow v count → 2 * disks v < count → refusal (growTable v count byteCount) ≡ 20
-  unfolding refusal
-  refused-beyond m h = rw grow-tests (passed-first tests beyond refl (tests-pass v count m) ∙ rw (lt-ltb (2 * disks v) count h))
-
-  -- where the tests before it pass and the count does not exceed twice N[t], the last tests decide
+  -- where the count does not exceed twice N[t], the last tests decide
   decided : exceeds ≡ false → refusal beyond ≡ refusal last
   unfolding refusal
   decided e = rw e
 
+  refused-beyond : MayGrow v count → 2 * disks v < count → refusal (growTable v count byteCount) ≡ 20
+  unfolding growTableOf doublingRows
+  refused-beyond m h =
+      let e : refusal beyond ≡ 20 = unfold refusal in rw (lt-ltb (2 * disks v) count h) in
+      passed-first tests beyond refl (tests-pass v count m) ∙ e
+
   beyond-refused : refusal (growTable v count byteCount) ≡ 20 → MayGrow v count × (2 * disks v < count)
-  beyond-refused e =
-      let t : refusal (tests ++ beyond) ≡ 20 = rw grow-tests at e in
+  unfolding growTableOf doublingRows
+  beyond-refused t =
       by-test (eqb (refusal tests) 0)
       (λ z.
       let q = eqb-true (refusal tests) 0 z in
@@ -75,18 +69,19 @@ module _ (v : Volume) (count byteCount : ℕ) where
       (λ z. absurd (never-told 20 tests (omega arith) refl (sym (refused-first tests beyond (eqb-false (refusal tests) 0 z)) ∙ t)))
 
   same-refusal : refusal (growTable v count byteCount) ≢ 20 → refusal (growTable v count byteCount) ≡ refusal (growBeyondDoublingTable v count byteCount)
+  unfolding growTableOf doublingRows
   same-refusal h =
-      rw (grow-tests, other-tests)
-      (by-test (eqb (refusal tests) 0)
+      by-test (eqb (refusal tests) 0)
       (λ z.
       let q = eqb-true (refusal tests) 0 z in
       passed-first tests beyond refl q
       ∙ by-test exceeds (λ x. absurd (h (refused-beyond (may-grow v count q) (ltb-true (2 * disks v) count x)))) decided
       ∙ sym (passed-first tests last refl q))
-      (λ z. let q = eqb-false (refusal tests) 0 z in refused-first tests beyond q ∙ sym (refused-first tests last q)))
+      (λ z. let q = eqb-false (refusal tests) 0 z in refused-first tests beyond q ∙ sym (refused-first tests last q))
 
   never-beyond : refusal (growBeyondDoublingTable v count byteCount) ≢ 20
-  never-beyond = never-told 20 (growBeyondDoublingTable v count byteCount) (omega arith) (rw other-tests refl)
+  unfolding growTableOf doublingRows
+  never-beyond = never-told 20 (growBeyondDoublingTable v count byteCount) (omega arith) refl
 
 pub two-grows : (v : Volume) (count : ℕ) (o : Observations) → TwoGrows v count o
 unfolding growOutcomeOf

@@ -57,14 +57,18 @@ format-fits z s n o =
 abbrev pub FitsDisks : (v : Volume) (o : Observations) (out : Outcome) → Type 0
 FitsDisks v o out = Fits (geometry v) (disks v) (o .byteCount) (out .store)
 
+growth-fits : (v : Volume) (count : ℕ) → StoreFits (geometry v) (bytesNeeded (geometry v) (disks v)) (growEffect v count .store)
+unfolding growEffect reporting
+growth-fits v count = record-fits (geometry v) (disks v) (grown v count)
+
 pub grow-fits : (limited : Bool) (v : Volume) (count : ℕ) (o : Observations) → FitsDisks v o (growOutcomeOf limited v count o)
-unfolding growOutcomeOf growEffect reporting
+unfolding growOutcomeOf
 grow-fits limited v count o =
-    judged-fits (geometry v) (disks v) (o .byteCount) (growTableOf limited v count (o .byteCount)) v [] _
+    judged-fits (geometry v) (disks v) (o .byteCount) (growTableOf limited v count (o .byteCount)) v [] (growEffect v count)
     (λ e.
     let f = grow-accepted limited v count (o .byteCount) e in
     let fewer = bytes-more (geometry v) (disks v) count (omega (arith, f .may .more-disks)) in
-    (record-fits (geometry v) (disks v) (grown v count), omega (arith, f .room, fewer)))
+    (growth-fits v count, omega (arith, f .room, fewer)))
 
 pub write-fits : (v : Volume) (x : ℕ) (piece : List ℕ) (o : Observations) → FitsDisks v o (writeOutcome v x piece o)
 unfolding writeOutcome writeEffect doing StoreFits geometry

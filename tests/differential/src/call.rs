@@ -15,6 +15,7 @@ pub enum Call {
     Format { z: u64, s: u64, disks: u64 },
     Restart,
     Grow { count: u64 },
+    GrowBeyondDoubling { count: u64 },
     Copy { block: u64 },
     Checkpoint,
     Advance,
@@ -28,10 +29,11 @@ pub enum Call {
 }
 
 /// The names of the calls, in the order of `Call::kind`.
-pub const KINDS: [&str; 13] = [
+pub const KINDS: [&str; 14] = [
     "format",
     "restart",
     "grow",
+    "grow_beyond_doubling",
     "copy",
     "checkpoint",
     "advance",
@@ -64,22 +66,23 @@ impl Call {
             Call::Format { .. } => 0,
             Call::Restart => 1,
             Call::Grow { .. } => 2,
-            Call::Copy { .. } => 3,
-            Call::Checkpoint => 4,
-            Call::Advance => 5,
-            Call::Write { .. } => 6,
-            Call::Read { .. } => 7,
-            Call::Address { .. } => 8,
-            Call::Holder { .. } => 9,
-            Call::Soundness => 10,
-            Call::Flushed => 11,
-            Call::View { .. } => 12,
+            Call::GrowBeyondDoubling { .. } => 3,
+            Call::Copy { .. } => 4,
+            Call::Checkpoint => 5,
+            Call::Advance => 6,
+            Call::Write { .. } => 7,
+            Call::Read { .. } => 8,
+            Call::Address { .. } => 9,
+            Call::Holder { .. } => 10,
+            Call::Soundness => 11,
+            Call::Flushed => 12,
+            Call::View { .. } => 13,
         }
     }
 
     /// How many figures the call answers with.
     pub fn figures(&self) -> usize {
-        [0, 1, 1, 1, 1, 4, 0, 0, 6, 1, 0, 0, 2][self.kind()]
+        [0, 1, 1, 1, 1, 1, 4, 0, 0, 6, 1, 0, 0, 2][self.kind()]
     }
 
     /// Bytes of the piece.
@@ -105,7 +108,7 @@ impl Call {
 
     /// Whether an accepted call reports the advance calls left.
     pub fn reports(&self) -> bool {
-        matches!(self.kind(), 1..=5)
+        matches!(self.kind(), 1..=6)
     }
 }
 
@@ -124,6 +127,9 @@ pub fn by_library(call: &Call, lent: Lent) -> u64 {
         Call::Format { z, s, disks } => library::format(state, medium, z, s, disks),
         Call::Restart => library::restart(state, medium, figures),
         Call::Grow { count } => library::grow(state, medium, count, figures),
+        Call::GrowBeyondDoubling { count } => {
+            library::grow_beyond_doubling(state, medium, count, figures)
+        }
         Call::Copy { block } => library::copy(state, medium, block, figures),
         Call::Checkpoint => library::checkpoint(state, medium, figures),
         Call::Advance => library::advance(state, medium, figures),
@@ -195,6 +201,7 @@ fn made(call: &Call, mut state: State, lent: Lent) -> Result<(), Refusal> {
     let medium = lent.medium;
     let next = match *call {
         Call::Grow { count } => store::grow(state, medium, count)?,
+        Call::GrowBeyondDoubling { count } => store::grow_beyond_doubling(state, medium, count)?,
         Call::Copy { block } => store::copy(state, medium, Block(block))?,
         Call::Checkpoint => store::checkpoint(state, medium)?,
         Call::Advance => {

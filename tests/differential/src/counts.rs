@@ -3,9 +3,10 @@
 use crate::call::{Call, KINDS, NO_STATE};
 
 /// The refusals that each call has, in the order of `KINDS`; 100 comes with all.
-const NUMBERS: [&[usize]; 13] = [
+const NUMBERS: [&[usize]; 14] = [
     &[8, 2],
     &[2, 13],
+    &[1, 6, 9, 8, 20, 2, 19, 18],
     &[1, 6, 9, 8, 2, 19, 18],
     &[1, 2, 5, 3, 10, 11, 19],
     &[1, 2, 5, 12, 19, 18],
@@ -21,9 +22,8 @@ const NUMBERS: [&[usize]; 13] = [
 
 /// How the names of cuts begin.
 const CUT: &str = "cut: ";
-/// Places for the numbers of answers, and where `NO_STATE` is counted.
-const ANSWERS: usize = 21;
-const NO_STATE_AT: usize = ANSWERS - 1;
+/// Places for the numbers of answers, of which `NO_STATE` is the greatest.
+const ANSWERS: usize = NO_STATE as usize + 1;
 
 /// Declares the events with their names.
 macro_rules! events {
@@ -43,6 +43,8 @@ events! {
     NewInFormat: "cut: format, new record",
     OldInGrow: "cut: grow, old record",
     NewInGrow: "cut: grow, new record",
+    OldInOtherGrow: "cut: grow_beyond_doubling, old record",
+    NewInOtherGrow: "cut: grow_beyond_doubling, new record",
     OldInCheckpoint: "cut: checkpoint, old record",
     NewInCheckpoint: "cut: checkpoint, new record",
     OldInAdvance: "cut: advance, old record",
@@ -83,6 +85,21 @@ events! {
     MarkCounted: "address: growth under way counted, copy recorded",
     CopyNotCounted: "address: growth under way not counted, copy not recorded",
     SevenGrowths: "seventh growth finished",
+    GrowTwice: "grow to exactly twice the disks",
+    BeyondWithUnsound: "grow to more than twice the disks refused with 1",
+    BeyondWithGrowing: "grow to more than twice the disks refused with 6",
+    BeyondWithLast: "grow to more than twice the disks refused with 9",
+    BeyondWithOutside: "grow to more than twice the disks refused with 8",
+    BeyondAlone: "grow refused with 20, accepted without it",
+    BeyondBeforeShort: "grow refused with 20, with 2 without it",
+    BeyondBeforeRecord: "grow refused with 20, with 19 without it",
+    BeyondBeforeBlocks: "grow refused with 20, with 18 without it",
+    OtherGrowWithin: "grow_beyond_doubling up to twice the disks",
+    OtherGrowBeyond: "grow_beyond_doubling to more than twice the disks",
+    BeyondRestarted: "restart while a growth beyond doubling runs",
+    BeyondFinished: "growth beyond doubling finished",
+    RestartAfterBeyond: "restart after a growth beyond doubling",
+    GrowAfterBeyond: "grow after a growth beyond doubling",
     FullRuns: "growth run to its end by the calls left",
     FlushedInRun: "flushed between the advances of such a run",
     RefusedInRun: "refused call between the advances of such a run",
@@ -157,11 +174,7 @@ impl Counts {
 
     /// Counts a library call and what its answer tells.
     pub fn call(&mut self, call: &Call, number: u64, figures: &[u64]) {
-        let at = match number {
-            NO_STATE => NO_STATE_AT,
-            _ => number as usize,
-        };
-        self.calls[call.kind()][at] += 1;
+        self.calls[call.kind()][number as usize] += 1;
         match (call, number) {
             // Counted with the state, in `views`; the moves of address in `lookups`.
             (Call::View { .. }, _) => {}
@@ -203,9 +216,9 @@ impl Counts {
     pub fn missing(&self) -> Vec<String> {
         let mut missing = Vec::new();
         for (kind, name) in KINDS.iter().enumerate() {
-            let numbers = [0, NO_STATE_AT].iter().chain(NUMBERS[kind]);
+            let numbers = [0, NO_STATE as usize].iter().chain(NUMBERS[kind]);
             for &number in numbers.filter(|&&number| self.calls[kind][number] == 0) {
-                missing.push(format!("{name} answering {}", shown(number)));
+                missing.push(format!("{name} answering {number}"));
             }
         }
         for (name, count) in EVENTS.iter().zip(&self.events) {
@@ -231,7 +244,7 @@ impl Counts {
         for (name, row) in KINDS.iter().zip(&self.calls) {
             let mut told = format!("{name} {} accepted", row[0]);
             for number in (1..row.len()).filter(|&number| row[number] > 0) {
-                told += &format!(", {} refused with {}", row[number], shown(number));
+                told += &format!(", {} refused with {number}", row[number]);
             }
             kinds.push(told);
         }
@@ -255,12 +268,5 @@ impl Counts {
         named
             .filter(|(name, _)| name.starts_with(CUT) == cuts)
             .collect()
-    }
-}
-
-fn shown(number: usize) -> u64 {
-    match number {
-        NO_STATE_AT => NO_STATE,
-        _ => number as u64,
     }
 }

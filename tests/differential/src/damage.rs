@@ -71,6 +71,8 @@ fn call_of(random: &mut Random, kind: usize, state: &State) -> Call {
         false => random.odd_number(open),
     };
     let bytes = state.z as usize - random.percent(5) as usize;
+    // From the count there is, or from twice that.
+    let count = state.disks() * random.range(1, 2) + random.below(3);
     match kind {
         0 => Call::Format {
             z: random.pick(&[512, 1024, 513, u64::MAX]),
@@ -78,25 +80,24 @@ fn call_of(random: &mut Random, kind: usize, state: &State) -> Call {
             disks: random.odd_number(16),
         },
         1 => Call::Restart,
-        2 => Call::Grow {
-            count: state.disks() + random.below(3),
-        },
-        3 => Call::Copy { block },
-        4 => Call::Checkpoint,
-        5 => Call::Advance,
-        6 => {
+        2 => Call::Grow { count },
+        3 => Call::GrowBeyondDoubling { count },
+        4 => Call::Copy { block },
+        5 => Call::Checkpoint,
+        6 => Call::Advance,
+        7 => {
             let seed = random.word();
             let piece = Piece { seed, bytes };
             Call::Write { block, piece }
         }
-        7 => Call::Read { block, bytes },
-        8 => Call::Address { block },
-        9 => Call::Holder {
+        8 => Call::Read { block, bytes },
+        9 => Call::Address { block },
+        10 => Call::Holder {
             disk: random.below(state.disks() + 1),
             row: random.below(state.s + 1),
         },
-        10 => Call::Soundness,
-        11 => Call::Flushed,
+        11 => Call::Soundness,
+        12 => Call::Flushed,
         _ => views::any(random, state, block),
     }
 }

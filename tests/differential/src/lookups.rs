@@ -112,11 +112,21 @@ pub fn big(
             look(&mut pair, &state, Call::Holder { disk, row }, log, counts)?;
             counts.event(Event::BigLookups);
         }
-        let count = state.disks() + 1;
-        for call in [Call::Grow { count }, Call::Advance, Call::Checkpoint] {
-            pair.set_state(&state.to_words());
-            pair.run(&call, 512, Changed::AsReference, counts)?;
-        }
+        refused_calls(&mut pair, &state, counts)?;
+    }
+    Ok(())
+}
+
+/// The calls that need more of a medium than its record, the grows with a count
+/// up to twice the disks and with one above it.
+fn refused_calls(pair: &mut Pair, state: &State, counts: &mut Counts) -> Result<(), Difference> {
+    let mut calls = vec![Call::Advance, Call::Checkpoint];
+    for count in [state.disks() + 1, 2 * state.disks() + 1] {
+        calls.extend([Call::Grow { count }, Call::GrowBeyondDoubling { count }]);
+    }
+    for call in calls {
+        pair.set_state(&state.to_words());
+        pair.run(&call, 512, Changed::AsReference, counts)?;
     }
     Ok(())
 }

@@ -8,6 +8,7 @@ mod cache;
 mod call;
 mod counts;
 mod damage;
+mod doubling;
 mod list;
 mod lookups;
 mod model;

@@ -76,7 +76,8 @@ impl Model {
     pub fn store_of(&self, call: &Call) -> Store {
         let (open, tally) = (self.open(), &self.followed.tally);
         match *call {
-            Call::Format { .. } | Call::Grow { .. } | Call::Checkpoint => Store::Record,
+            Call::Format { .. } | Call::Checkpoint => Store::Record,
+            Call::Grow { .. } | Call::GrowBeyondDoubling { .. } => Store::Record,
             Call::Write { block, .. } if block < open => {
                 Store::Spot(self.bytes_of(tally.live(Block(block))))
             }
@@ -98,7 +99,7 @@ impl Model {
         let followed = &mut self.followed;
         match *call {
             Call::Restart => followed.restart(),
-            Call::Grow { count } => followed.grow(count),
+            Call::Grow { count } | Call::GrowBeyondDoubling { count } => followed.grow(count),
             Call::Copy { block } => followed.copy(Block(block)),
             Call::Checkpoint => followed.checkpoint(),
             Call::Advance => followed.advance(),

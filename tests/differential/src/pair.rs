@@ -2,7 +2,7 @@
 
 use crate::call::{by_library, by_reference, Call, Lent, FIGURES};
 use crate::counts::Counts;
-use crate::{lookups, views};
+use crate::{doubling, lookups, views};
 use reference::state::WORDS;
 use std::ops::Range;
 
@@ -180,6 +180,7 @@ impl Pair {
         counts.call(call, number, &answer.figures);
         counts.comparisons += 5;
         lookups::note(call, &state, &answer, counts);
+        doubling::note(call, &state, bytes, number, counts);
         views::check(call, &state, &self.before, &answer, counts)?;
         let makes_state = matches!(call, Call::Format { .. } | Call::Restart);
         if number != 0 && !makes_state {

@@ -54,6 +54,7 @@ impl Followed {
         self.pending.blocks = true;
     }
 
+    /// An accepted grow, of either kind.
     pub fn grow(&mut self, count: u64) {
         self.keep();
         self.tally.grow(count);

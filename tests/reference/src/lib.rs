@@ -1,4 +1,4 @@
-//! The growing striped volume, written from document 01 and from W4 to W6 of
+//! The growing striped volume, written from document 01 and from W4 to W7 of
 //! document 02 alone.
 //!
 //! Everything but `fast` is plain: definitions are followed word for word and

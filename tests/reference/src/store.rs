@@ -38,7 +38,22 @@ pub fn restart(medium: &[u8]) -> Result<Next, Refusal> {
 }
 
 pub fn grow(state: State, medium: &mut [u8], count: u64) -> Result<Next, Refusal> {
-    sound(&state)?;
+    may_grow(&state, count)?;
+    if count > 2 * state.disks() {
+        return Err(BEYOND_DOUBLING);
+    }
+    begin_growth(state, medium, count)
+}
+
+/// The grow without 20.
+pub fn grow_beyond_doubling(state: State, medium: &mut [u8], count: u64) -> Result<Next, Refusal> {
+    may_grow(&state, count)?;
+    begin_growth(state, medium, count)
+}
+
+/// The checks of both grows before 20.
+fn may_grow(state: &State, count: u64) -> Result<(), Refusal> {
+    sound(state)?;
     if state.growing == 1 {
         return Err(GROWING);
     }
@@ -48,6 +63,11 @@ pub fn grow(state: State, medium: &mut [u8], count: u64) -> Result<Next, Refusal
     if count <= state.disks() || !limits::disks(count) {
         return Err(OUTSIDE_LIMITS);
     }
+    Ok(())
+}
+
+/// The checks after 20, and the growth.
+fn begin_growth(state: State, medium: &mut [u8], count: u64) -> Result<Next, Refusal> {
     holds(medium, &state, count)?;
     no_store_pending(&state)?;
     let mut next = state;

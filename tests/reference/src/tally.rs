@@ -29,6 +29,7 @@ impl Tally {
         }
     }
 
+    /// An accepted grow, of either kind.
     pub fn grow(&mut self, count: u64) {
         self.counts.push(count);
         self.growing = true;

@@ -1,11 +1,11 @@
 //! The fast calls answer as the plain ones do.
 
 use reference::limits::RECORD;
-use reference::refusal::{BLOCKS_PENDING, RECORD_PENDING};
+use reference::refusal::{Refusal, BEYOND_DOUBLING, BLOCKS_PENDING, RECORD_PENDING};
 use reference::sample::{damage, damaged_record, sound_state, Random};
 use reference::spot::{Block, Row};
 use reference::state::State;
-use reference::store::Advanced;
+use reference::store::{Advanced, Next};
 use reference::view::Shelves;
 use reference::{fast, lookup, record, store, view};
 
@@ -189,26 +189,95 @@ fn growths() {
 }
 
 #[test]
-fn formats_and_grows() {
+fn formats() {
     let mut random = Random::new(6);
-    let (mut formatted, mut grown) = (0, 0);
+    let mut formatted = 0;
     for _ in 0..5 * ROUNDS {
-        let state = any_state(&mut random);
         let mut medium = vec![0; 40_000];
         random.fill(&mut medium);
         let mut other = medium.clone();
-        let count = random.odd_number(state.counts[0]);
-        let next = fast::grow(state, &mut medium, count);
-        assert_eq!(next, store::grow(state, &mut other, count));
-        assert_eq!(medium, other);
         let (z, s) = (random.odd_number(512), random.odd_number(4));
-        let first = fast::format(&mut medium, z, s, count);
-        assert_eq!(first, store::format(&mut other, z, s, count));
+        let disks = random.odd_number(2);
+        let first = fast::format(&mut medium, z, s, disks);
+        assert_eq!(first, store::format(&mut other, z, s, disks));
         assert_eq!(medium, other);
-        grown += next.is_ok() as u64;
         formatted += first.is_ok() as u64;
     }
-    assert!(formatted > 20 && grown > 20, "{formatted} and {grown}");
+    assert!(formatted > 20, "{formatted}");
+}
+
+/// A state to grow: most often of few rows, and no growth runs.
+fn state_to_grow(random: &mut Random) -> State {
+    let state = any_state(random);
+    if random.percent(20) {
+        return state;
+    }
+    State {
+        s: state.s.min(6),
+        growing: 0,
+        w: 0,
+        recorded: 0,
+        copied: 0,
+        ..state
+    }
+}
+
+/// A count to grow to, near that of the disks or near twice that.
+fn any_count(random: &mut Random, state: &State) -> u64 {
+    let disks = if state.sound() { state.disks() } else { 4 };
+    let around = random.pick(&[disks, 2 * disks]);
+    let odd = random.odd_number(around);
+    let more = disks + random.range(1, 8);
+    random.pick(&[odd, more, more])
+}
+
+/// A grow of either kind, and how often it gave each number.
+struct Grow {
+    fast: fn(State, &mut [u8], u64) -> Result<Next, Refusal>,
+    plain: fn(State, &mut [u8], u64) -> Result<Next, Refusal>,
+    seen: [u64; 21],
+}
+
+impl Grow {
+    fn compare(&mut self, random: &mut Random) {
+        let state = state_to_grow(random);
+        let count = any_count(random, &state);
+        let mut medium = vec![0; random.pick(&[511, 20_000, 60_000])];
+        random.fill(&mut medium);
+        let mut other = medium.clone();
+        let next = (self.fast)(state, &mut medium, count);
+        assert_eq!(next, (self.plain)(state, &mut other, count));
+        assert_eq!(medium, other);
+        self.seen[next.err().unwrap_or(0) as usize] += 1;
+    }
+
+    fn saw(&self, numbers: &[usize]) -> bool {
+        numbers.iter().all(|&number| self.seen[number] > 50)
+    }
+}
+
+#[test]
+fn grows() {
+    let mut random = Random::new(9);
+    let mut held = Grow {
+        fast: fast::grow,
+        plain: store::grow,
+        seen: [0; 21],
+    };
+    let mut other = Grow {
+        fast: fast::grow_beyond_doubling,
+        plain: store::grow_beyond_doubling,
+        seen: [0; 21],
+    };
+    for _ in 0..5 * ROUNDS {
+        held.compare(&mut random);
+        other.compare(&mut random);
+    }
+    let numbers = [0, 1, 6, 9, 8, 2, 19, 18];
+    let beyond = BEYOND_DOUBLING as usize;
+    assert!(held.saw(&numbers) && held.saw(&[beyond]), "{:?}", held.seen);
+    assert!(other.saw(&numbers), "{:?}", other.seen);
+    assert_eq!(other.seen[beyond], 0);
 }
 
 #[test]

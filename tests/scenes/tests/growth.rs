@@ -56,14 +56,14 @@ fn load(volume: &library::State, open: u64) -> Answer {
     all
 }
 
-/// Takes a growth to its end. The numbers change at checkpoints and at no other
-/// call, and after a power cut that leaves the newest record they are the same.
-/// Returns the checkpoints.
+/// Takes a growth, beyond doubling too, to its end. The numbers change at
+/// checkpoints and at no other call, and after a power cut that leaves the
+/// newest record they are the same. Returns the checkpoints.
 fn run(random: &mut Random, volume: &mut library::State, medium: &mut [u8], count: u64) -> u64 {
     let open = plain(volume).open();
     let mut last = load(volume, open);
     volume.flushed().unwrap();
-    volume.grow(medium, count).unwrap();
+    volume.grow_beyond_doubling(medium, count).unwrap();
     assert_eq!(load(volume, open), last);
     let mut checkpoints = 0;
     while volume.is_growing() {

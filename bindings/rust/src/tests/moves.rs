@@ -131,14 +131,14 @@ fn all_moves(volume: &State) -> u64 {
     blocks.map(|block| moves(volume, block)).sum()
 }
 
-/// Takes a volume through these counts. All along the moves of its blocks add up to the copies that were recorded, and
-/// after each growth to all that were made.
+/// Takes a volume through these counts, beyond doubling too. All along the moves of its blocks add up to the copies
+/// that were recorded, and after each growth to all that were made.
 fn moves_are_the_copies(rows: u64, counts: &[u64]) {
     let mut medium = medium(512, rows, counts[counts.len() - 1]);
     let mut volume = formatted(&mut medium, rows, counts[0]);
     let (mut copied, mut recorded) = (0, 0);
     for count in &counts[1..] {
-        grow(&mut volume, &mut medium, *count);
+        grow_beyond_doubling(&mut volume, &mut medium, *count);
         while volume.is_growing() {
             match volume.advance(&mut medium).unwrap().step {
                 Step::Copied { .. } => copied += 1,

@@ -23,14 +23,16 @@ enum Call {
     Write(u64, usize),
     Copy(u64),
     Grow(u64),
+    GrowBeyondDoubling(u64),
     Checkpoint,
     Advance,
 }
 
-const CALLS: [Call; 5] = [
+const CALLS: [Call; 6] = [
     Call::Write(14, 512),
     Call::Copy(0),
     Call::Grow(5),
+    Call::GrowBeyondDoubling(7),
     Call::Checkpoint,
     Call::Advance,
 ];
@@ -42,6 +44,9 @@ impl Call {
             Call::Write(block, bytes) => raw::write(words, medium, block, &vec![0x66; bytes]),
             Call::Copy(block) => raw::copy(words, medium, block, left),
             Call::Grow(count) => raw::grow(words, medium, count, left),
+            Call::GrowBeyondDoubling(count) => {
+                raw::grow_beyond_doubling(words, medium, count, left)
+            }
             Call::Checkpoint => raw::checkpoint(words, medium, left),
             Call::Advance => raw::advance(words, medium, figures),
         }
@@ -189,6 +194,8 @@ fn a_pending_record_refuses_every_store() {
         let volume = with_pending(&volume, pending);
         assert_eq!(number(Call::Write(14, 512), &volume, &medium), 19);
         assert_eq!(number(Call::Grow(5), &volume, &medium), 19);
+        let other = Call::GrowBeyondDoubling(5);
+        assert_eq!(number(other, &volume, &medium), 19);
 
         let (medium, volume) = one_copied();
         let volume = with_pending(&volume, pending);
@@ -210,6 +217,8 @@ fn pending_blocks_refuse_a_record_store() {
     let (medium, volume) = three_disks();
     let volume = with_pending(&volume, BLOCKS_PENDING);
     assert_eq!(number(Call::Grow(5), &volume, &medium), 18);
+    let other = Call::GrowBeyondDoubling(5);
+    assert_eq!(number(other, &volume, &medium), 18);
     assert_eq!(number(Call::Write(14, 512), &volume, &medium), 0);
 
     let (medium, volume) = one_copied();
@@ -260,7 +269,10 @@ fn all_other_tests_come_first_at_rest() {
             (Call::Advance, 5),
             (Call::Grow(3), 8),
             (Call::Grow(17), 8),
-            (Call::Grow(7), 2),
+            (Call::Grow(7), 20),
+            (Call::GrowBeyondDoubling(3), 8),
+            (Call::GrowBeyondDoubling(17), 8),
+            (Call::GrowBeyondDoubling(7), 2),
         ],
     );
 }
@@ -279,10 +291,12 @@ fn all_other_tests_come_first_in_a_growth() {
             (Call::Copy(12), 10),
             (Call::Copy(0), 11),
             (Call::Grow(6), 6),
+            (Call::GrowBeyondDoubling(6), 6),
         ],
     );
     let last = grown(&[1, 2, 3, 4, 5, 6, 7, 8]);
-    refused_first(&last, &medium, &[(Call::Grow(9), 9)]);
+    let grows = [Call::Grow(9), Call::GrowBeyondDoubling(9)];
+    refused_first(&last, &medium, &grows.map(|grow| (grow, 9)));
 }
 
 /// Every call that reads a state returns 100 and touches nothing; format and restart do not read one.
@@ -328,6 +342,7 @@ fn touches_nothing(words: Words, medium: &mut [u8]) {
     let mut piece = [9; 512];
     let answers = [
         raw::grow(&mut state, medium, 6, &mut figures[..1]),
+        raw::grow_beyond_doubling(&mut state, medium, 6, &mut figures[..1]),
         raw::copy(&mut state, medium, 3, &mut figures[..1]),
         raw::checkpoint(&mut state, medium, &mut figures[..1]),
         raw::advance(&mut state, medium, &mut figures[..4]),
@@ -340,7 +355,7 @@ fn touches_nothing(words: Words, medium: &mut [u8]) {
         raw::load(&state, &[scene(0, 1)], &mut figures),
         raw::soundness(&state),
     ];
-    assert_eq!(answers, [WRONG_LENGTH; 12]);
+    assert_eq!(answers, [WRONG_LENGTH; 13]);
     assert_eq!((state, figures), (words, [8; raw::LOAD_FIGURES]));
     assert_eq!(piece, [9; 512]);
 }

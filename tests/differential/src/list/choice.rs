@@ -11,9 +11,7 @@ impl List<'_> {
         match self.random.below(13) {
             0 => self.format_call(),
             1 => Call::Restart,
-            2 => Call::Grow {
-                count: self.grown_count(),
-            },
+            2 => self.grow_call(),
             3 => Call::Copy {
                 block: self.block(),
             },
@@ -47,9 +45,7 @@ impl List<'_> {
             },
             (48..=57, true) => Call::Checkpoint,
             (58..=77, true) => self.write_call(),
-            (0..=19, false) => Call::Grow {
-                count: self.grown_count(),
-            },
+            (0..=19, false) => self.grow_call(),
             (20..=59, false) => self.write_call(),
             (99, _) if self.random.percent(80) => Call::Restart,
             _ => match self.any_call() {
@@ -79,6 +75,15 @@ impl List<'_> {
         Call::Format { z, s, disks }
     }
 
+    /// Either grow.
+    pub fn grow_call(&mut self) -> Call {
+        let count = self.grown_count();
+        match self.random.percent(50) {
+            true => Call::Grow { count },
+            false => Call::GrowBeyondDoubling { count },
+        }
+    }
+
     fn grown_count(&mut self) -> u64 {
         let disks = self.model.as_ref().map_or(1, |it| it.disks());
         let any = self.random.odd_number(disks);
@@ -86,7 +91,9 @@ impl List<'_> {
         let some = self.random.range(1, self.settings.widest);
         let more = disks + self.random.pick(&[some, some, self.settings.widest]);
         let fits = more.min(self.settings.room);
-        self.random.pick(&[fits, fits, fits, fits, more, high, any])
+        let twice = 2 * disks + self.random.below(2);
+        self.random
+            .pick(&[fits, fits, fits, fits, more, high, any, twice])
     }
 
     fn write_call(&mut self) -> Call {
@@ -161,7 +168,11 @@ impl List<'_> {
         }
         let any = self.random.below(whole as u64 + 1) as usize;
         let needed = match (&self.model, call) {
-            (Some(model), Call::Grow { count }) if *count <= DISKS => model.bytes(*count),
+            (Some(model), Call::Grow { count } | Call::GrowBeyondDoubling { count })
+                if *count <= DISKS =>
+            {
+                model.bytes(*count)
+            }
             (Some(model), _) => model.bytes(model.disks()),
             _ => RECORD,
         };

@@ -144,6 +144,8 @@ fn cut_event(call: &Call, store: &Store, left: Left) -> Event {
         (Call::Format { .. }, _, _) => Event::NewInFormat,
         (Call::Grow { .. }, _, Left::Old) => Event::OldInGrow,
         (Call::Grow { .. }, _, _) => Event::NewInGrow,
+        (Call::GrowBeyondDoubling { .. }, _, Left::Old) => Event::OldInOtherGrow,
+        (Call::GrowBeyondDoubling { .. }, _, _) => Event::NewInOtherGrow,
         (Call::Checkpoint, _, Left::Old) => Event::OldInCheckpoint,
         (Call::Checkpoint, _, _) => Event::NewInCheckpoint,
         (_, _, Left::Old) => Event::OldInAdvance,

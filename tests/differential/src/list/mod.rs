@@ -8,6 +8,7 @@ mod settings;
 use crate::cache::Cache;
 use crate::call::Call;
 use crate::counts::{Counts, Event};
+use crate::doubling;
 use crate::model::{Model, Store};
 use crate::pair::{same, Answer, Changed, Difference, Pair};
 use crate::report::Step;
@@ -228,6 +229,7 @@ impl List<'_> {
         if grew && !model.growing() && growths == GROWTHS {
             self.counts.event(Event::SevenGrowths);
         }
+        doubling::note_made(call, grew, &model.followed.tally, self.counts);
     }
 
     /// Compares a report with the tally, and reads back a growth just finished.
@@ -308,7 +310,8 @@ impl List<'_> {
             }
             1 => {
                 self.counts.event(Event::RefusedInRun);
-                self.step_whole(Call::Grow { count: 16 }).map(|_| ())
+                let call = self.grow_call();
+                self.step_whole(call).map(|_| ())
             }
             _ => Ok(()),
         }

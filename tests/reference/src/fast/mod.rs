@@ -86,14 +86,28 @@ pub fn format(medium: &mut [u8], z: u64, s: u64, disks: u64) -> Result<State, Re
 }
 
 pub fn grow(state: State, medium: &mut [u8], count: u64) -> Result<Next, Refusal> {
+    grow_by::<true>(state, medium, count)
+}
+
+/// The grow without 20.
+pub fn grow_beyond_doubling(state: State, medium: &mut [u8], count: u64) -> Result<Next, Refusal> {
+    grow_by::<false>(state, medium, count)
+}
+
+/// Both grows; the first is limited to doubling.
+fn grow_by<const LIMITED: bool>(state: State, medium: &mut [u8], count: u64) -> Result<Next, Refusal> {
     if examine(&state)?.is_some() {
         return Err(GROWING);
     }
     if state.t == limits::GROWTHS {
         return Err(NO_GROWTH_LEFT);
     }
-    if count <= state.disks() || !limits::disks(count) {
+    let disks = state.disks();
+    if count <= disks || !limits::disks(count) {
         return Err(OUTSIDE_LIMITS);
+    }
+    if LIMITED && count - disks > disks {
+        return Err(BEYOND_DOUBLING);
     }
     if (medium.len() as u64) < state.bytes(count) {
         return Err(MEDIUM_SHORT);
