@@ -95,7 +95,11 @@ pub fn grow_beyond_doubling(state: State, medium: &mut [u8], count: u64) -> Resu
 }
 
 /// Both grows; the first is limited to doubling.
-fn grow_by<const LIMITED: bool>(state: State, medium: &mut [u8], count: u64) -> Result<Next, Refusal> {
+fn grow_by<const LIMITED: bool>(
+    state: State,
+    medium: &mut [u8],
+    count: u64,
+) -> Result<Next, Refusal> {
     if examine(&state)?.is_some() {
         return Err(GROWING);
     }
