@@ -5,6 +5,7 @@ use super::given::CHECKPOINT;
 use super::given::COPY;
 use super::given::FORMAT;
 use super::given::GROW;
+use super::given::GROW_BEYOND_DOUBLING;
 use super::given::Given;
 use super::given::RESTART;
 use super::given::SECTOR;
@@ -54,6 +55,7 @@ fn reply_of(v: Volume, medium: &mut [u8], given: Given) -> Reply {
         RESTART => Volume::restart(medium),
         SECTOR => Volume::from_sector(medium),
         GROW => v.grow(medium, given.a),
+        GROW_BEYOND_DOUBLING => v.grow_beyond_doubling(medium, given.a),
         COPY => v.copy(medium, Block(given.a)),
         CHECKPOINT => v.checkpoint(medium),
         ADVANCE => v.advance(medium),

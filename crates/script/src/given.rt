@@ -2,7 +2,7 @@
 use super::lines::numbers_of;
 use super::lines::word_number;
 
-// The words, by their places in the list of `call_of`. The first nine are calls that answer with a reply.
+// The words, by their places in the list of `call_of`. The first ten are calls that answer with a reply.
 pub const FORMAT: usize = 0;
 
 pub const RESTART: usize = 1;
@@ -11,56 +11,58 @@ pub const SECTOR: usize = 2;
 
 pub const GROW: usize = 3;
 
-pub const COPY: usize = 4;
+pub const GROW_BEYOND_DOUBLING: usize = 4;
 
-pub const CHECKPOINT: usize = 5;
+pub const COPY: usize = 5;
 
-pub const ADVANCE: usize = 6;
+pub const CHECKPOINT: usize = 6;
 
-pub const FLUSHED: usize = 7;
+pub const ADVANCE: usize = 7;
 
-pub const WRITE: usize = 8;
+pub const FLUSHED: usize = 8;
 
-pub const SAVES: usize = 9;
+pub const WRITE: usize = 9;
 
-pub const READ: usize = 10;
+pub const SAVES: usize = 10;
 
-pub const READS: usize = 11;
+pub const READ: usize = 11;
 
-pub const ADDRESS: usize = 12;
+pub const READS: usize = 12;
 
-pub const HOLDER: usize = 13;
+pub const ADDRESS: usize = 13;
 
-pub const ADDRESSES: usize = 14;
+pub const HOLDER: usize = 14;
 
-pub const CHART: usize = 15;
+pub const ADDRESSES: usize = 15;
 
-pub const CHART_OF_RECORD: usize = 16;
+pub const CHART: usize = 16;
 
-pub const STATE: usize = 17;
+pub const CHART_OF_RECORD: usize = 17;
 
-pub const MEDIUM: usize = 18;
+pub const STATE: usize = 18;
 
-pub const CACHE: usize = 19;
+pub const MEDIUM: usize = 19;
 
-pub const RECORD: usize = 20;
+pub const CACHE: usize = 20;
 
-pub const PUT: usize = 21;
+pub const RECORD: usize = 21;
 
-pub const BYTES: usize = 22;
+pub const PUT: usize = 22;
 
-pub const KEEP: usize = 23;
+pub const BYTES: usize = 23;
 
-pub const BACK: usize = 24;
+pub const KEEP: usize = 24;
 
-pub const VIEW: usize = 25;
+pub const BACK: usize = 25;
 
-pub const MOVES: usize = 26;
+pub const VIEW: usize = 26;
 
-pub const NOTHING: usize = 27;
+pub const MOVES: usize = 27;
+
+pub const NOTHING: usize = 28;
 
 // The word `view`, with the lengths of the shelves.
-pub const VIEW_OF_LENGTHS: usize = 28;
+pub const VIEW_OF_LENGTHS: usize = 29;
 
 // A call with its numbers; NOTHING where no call has the word, or not so many numbers follow it.
 pub struct Given {
@@ -77,6 +79,7 @@ fn wanted(k: usize) -> usize {
         3,
         0,
         0,
+        1,
         1,
         1,
         0,
@@ -102,7 +105,7 @@ fn wanted(k: usize) -> usize {
         2,
         1,
     ];
-    if k < 27 {
+    if k < 28 {
         return counts[k];
     }
     0
@@ -111,8 +114,8 @@ fn wanted(k: usize) -> usize {
 fn call_of(line: &[u8], count: usize) -> usize {
     let k = word_number(
         line,
-        b"format restart sector grow copy checkpoint advance flushed write saves read reads address holder \
-addresses chart chart-of-record state medium cache record put bytes keep back view moves ",
+        b"format restart sector grow grow-beyond-doubling copy checkpoint advance flushed write saves read reads \
+address holder addresses chart chart-of-record state medium cache record put bytes keep back view moves ",
     );
     // Text may follow the number of `bytes`.
     if k == BYTES {

@@ -43,6 +43,8 @@ fn first_growth(rack: Rack) -> Rack {
     tell(
         rack,
         b"\n2. GROWTH 1 BEGINS: FROM 3 DISKS TO 5
+  grow to 7 disks: @G: more than twice as many
+The power supplies allow only as many new drives as old in one growth, here 3.
   grow to 5 disks: @G
   advance: @V
   advance: @V

@@ -1,11 +1,11 @@
 -- Document 02, W7: grow, and the grow without 20.
 use Prim.Native.Nat.{ℕ, _*_, _<_}
 use mathlib.Core.Path.{_≡_, refl, sym, _∙_}
-use mathlib.Core.Bool.{Bool, true, false}
-use mathlib.Core.List.{List, [], _∷_, _++_}
+use mathlib.Core.Bool.{Bool, false}
+use mathlib.Core.List.{List, _∷_}
 use mathlib.Core.Logic.{_≢_}
 use native.Mathlib.Omega.{arith}
-use lib.Dec.{eqb, leb, ltb}
+use lib.Dec.{eqb, ltb}
 use borrow.Author.Tests.{eqb-true, eqb-false, eq-eqb, ne-eqb, ltb-true, lt-ltb, le-ltb, lt-leb}
 use Rattle.base.specs.Refusals.{refusal}
 use Rattle.base.proofs.Booleans.{by-test}
@@ -13,15 +13,17 @@ use Rattle.base.proofs.Refusals.{never-told, refused-first, passed-first}
 use Rattle.layout.specs.Limits.{mostDisks, mostGrowths}
 use Rattle.medium.specs.Medium.{Observations}
 use Rattle.volume.specs.declared.Volume.{Volume}
-use Rattle.volume.specs.Calls.{Outcome, refused, judged, growEffect, doublingRows, growTableOf, growTable, growBeyondDoublingTable, growOutcomeOf, growOutcome, growBeyondDoublingOutcome}
+use Rattle.volume.specs.Calls.{doublingRows, growTableOf, growTable, growBeyondDoublingTable, growOutcomeOf, growOutcome, growBeyondDoublingOutcome}
 use Rattle.volume.specs.Laws.{MayGrow, TwoGrows}
 use Rattle.volume.specs.States.{disks}
 use Rattle.volume.proofs.Accepted.{countTests, lastTests, may-grow}
 
--- tables that tell the same number judge alike
-judged-alike : (a b : List (ℕ × Bool)) (refusing : ℕ → Outcome) (accepted : Outcome) → refusal a ≡ refusal b
-    → judged a refusing accepted ≡ judged b refusing accepted
-judged-alike a b refusing accepted e = rw e
+-- where their tables tell the same number, the two have the same outcome
+same-outcome : (v : Volume) (count : ℕ) (o : Observations)
+    → refusal (growTable v count (o .byteCount)) ≡ refusal (growBeyondDoublingTable v count (o .byteCount))
+    → growOutcome v count o ≡ growBeyondDoublingOutcome v count o
+unfolding growOutcomeOf
+same-outcome v count o e = rw e
 
 tests-pass : (v : Volume) (count : ℕ) → MayGrow v count → refusal (countTests v count) ≡ 0
 unfolding refusal
@@ -84,13 +86,10 @@ module _ (v : Volume) (count byteCount : ℕ) where
   never-beyond = never-told 20 (growBeyondDoublingTable v count byteCount) (omega arith) refl
 
 pub two-grows : (v : Volume) (count : ℕ) (o : Observations) → TwoGrows v count o
-unfolding growOutcomeOf
 two-grows v count o =
     record {
       refused-beyond = refused-beyond v count (o .byteCount);
       beyond-refused = beyond-refused v count (o .byteCount);
-      same-otherwise = λ h.
-          judged-alike (growTable v count (o .byteCount)) (growBeyondDoublingTable v count (o .byteCount)) (λ k. refused v k []) (growEffect v count)
-          (same-refusal v count (o .byteCount) h);
+      same-otherwise = λ h. same-outcome v count o (same-refusal v count (o .byteCount) h);
       never-beyond = never-beyond v count (o .byteCount);
     }

@@ -17,9 +17,9 @@ use Rattle.promise.proofs.Theorem.{lawful-before, promise}
 use Rattle.worked.specs.Worked.{blockOf}
 use Rattle.worked.specs.BeyondDoubling.{oneDisk, savedEvents, runningEvents, finishingEvents, restedEvents, grownEvents, beyondEvents, BeyondDoublingFacts}
 use Rattle.worked.proofs.FasterCalls.{faster}
-use Rattle.worked.proofs.Computed.{Hearing, Result, heardAll, computed, lawfulResult, Facts, faster-facts, heard-both, fed-before, fed-after, modelFed, model-fed}
+use Rattle.worked.proofs.Computed.{Hearing, heardAll, computed, lawfulResult, Facts, faster-facts, heard-both, fed-before, fed-after, modelFed, model-fed}
 use Rattle.worked.proofs.Computing.{computing}
-use Rattle.worked.proofs.Running.{grows, left-of, left-told, finishing-of, advancesFed, tellings-fed}
+use Rattle.worked.proofs.Running.{left-told, finishing-of, advancesFed, tellings-fed}
 use Rattle.worked.proofs.Worked.{our-restart}
 
 is-accepted : accepted (formatted oneDisk .reply .answer) ≡ true

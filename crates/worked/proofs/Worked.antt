@@ -1,19 +1,18 @@
 -- The worked list, by computing.
-use Prim.Native.Nat.{ℕ, suc}
-use mathlib.Core.Bool.{true, false, cond, _&&_}
+use Prim.Native.Nat.{ℕ}
+use mathlib.Core.Bool.{true, false}
 use mathlib.Core.List.{List, [], _∷_, _++_}
 use mathlib.Core.Logic.{inl}
 use mathlib.Core.Option.{none, some}
-use mathlib.Core.Path.{_≡_, refl, ap, _∙_, subst}
+use mathlib.Core.Path.{_≡_, refl, ap, _∙_}
 use native.Mathlib.Omega.{arith}
 use lib.ListN.{length, take, drop, replicate, length-replicate}
-use Rattle.base.proofs.Booleans.{by-test}
 use Rattle.layout.specs.Tally.{isRunning, callsLeftOf}
 use Rattle.volume.specs.Answers.{accepted}
 use Rattle.promise.specs.Calls.{grow, advance, write, read, restart, flushed, isAdvance, sameRecord, recordOld, Fed, ended, cutIn}
-use Rattle.promise.specs.Lists.{Event, System, IsUp, runs, cut, outcome, isAccepted, callOutcome, after, NoEarlyCut, Lawful, AllFurther, an-advance, a-write, a-read, a-flushed, afterAll, fed, fedAll, lastReported, tellings, finishedTold}
+use Rattle.promise.specs.Lists.{Event, IsUp, runs, outcome, callOutcome, after, NoEarlyCut, Lawful, AllFurther, an-advance, a-write, a-read, a-flushed, afterAll, fed, fedAll, finishedTold}
 use Rattle.promise.specs.Model.{Model}
-use Rattle.promise.specs.Promise.{Finishing, Kept, formatted, begin, systemAfter, modelOf}
+use Rattle.promise.specs.Promise.{Finishing, formatted, begin, systemAfter, modelOf}
 use Rattle.promise.proofs.Theorem.{lawful-before, promise}
 use Rattle.worked.specs.Worked.{blockOf, workedStart, firstEvents, copiedEvents, furtherEvents, finishedEvents, takenBack, beforeRead, workedEvents, WorkedFacts}
 use Rattle.worked.proofs.FasterCalls.{faster, OurRestart}
