@@ -7,6 +7,7 @@ use mathlib.Core.Logic.{_≢_}
 use mathlib.Core.Option.{Option, none, some}
 use native.Mathlib.Omega.{arith}
 use lib.Dec.{eqb, leb, ltb}
+use lib.ListN.{take}
 use borrow.Author.Tests.{leb-false, ltb-false, eqb-true, eqb-false}
 use Rattle.base.specs.Refusals.{refusal}
 use Rattle.base.proofs.Booleans.{clash}
@@ -69,29 +70,33 @@ sector-accepted o e =
     let a = passed 2 (ltb (o .byteCount) recordBytes) _ (omega arith) e in
     (ltb-false (o .byteCount) recordBytes (a .0), held 13 (isSoundRecord (o .sector)) [] (omega arith) (a .1) .0)
 
--- W7's row, and the rows after it
-pub doubling-row : (limited : Bool) (v : Volume) (count : ℕ) (rows : List (ℕ × Bool))
-    → refusal (doublingRows limited v count ++ rows) ≡ refusal ((20, limited && ltb (2 * disks v) count) ∷ rows)
-unfolding doublingRows refusal
-doubling-row true v count rows = refl
-doubling-row false v count rows = refl
+-- W7's row, and none in the grow without 20
+limited-row : (v : Volume) (count : ℕ) → doublingRows true v count ≡ (20, ltb (2 * disks v) count) ∷ []
+unfolding doublingRows
+limited-row v count = refl
 
--- grow's tests before W7's
-abbrev pub countTests : (v : Volume) (count : ℕ) → List (ℕ × Bool)
-countTests v count =
-    (1, not (sound v))
-    ∷ (6, not (eqb (v .growing) 0))
-    ∷ (9, eqb (v .growths) mostGrowths)
-    ∷ (8, leb count (disks v))
-    ∷ (8, ltb mostDisks count)
-    ∷ []
+no-row : (v : Volume) (count : ℕ) → doublingRows false v count ≡ []
+unfolding doublingRows
+no-row v count = refl
+
+-- with the rows after it
+doubling-row : (limited : Bool) (v : Volume) (count : ℕ) (rows : List (ℕ × Bool))
+    → refusal (doublingRows limited v count ++ rows) ≡ refusal ((20, limited && ltb (2 * disks v) count) ∷ rows)
+unfolding refusal
+doubling-row true v count rows = rw (limited-row v count)
+doubling-row false v count rows = rw (no-row v count)
+
+-- the tests before W7's, which both grows have
+abbrev pub countTests : (limited : Bool) (v : Volume) (count len : ℕ) → List (ℕ × Bool)
+countTests limited v count len = take 5 (growTableOf limited v count len)
 
 -- and those after it
 abbrev pub lastTests : (v : Volume) (count len : ℕ) → List (ℕ × Bool)
 lastTests v count len = (2, tooShort (geometry v) count len) ∷ recordRows v
 
-pub may-grow : (v : Volume) (count : ℕ) → refusal (countTests v count) ≡ 0 → MayGrow v count
-may-grow v count e =
+pub may-grow : (limited : Bool) (v : Volume) (count len : ℕ) → refusal (countTests limited v count len) ≡ 0 → MayGrow v count
+unfolding growTableOf
+may-grow limited v count len e =
     let a = held 1 (sound v) _ (omega arith) e in
     let b = held 6 (eqb (v .growing) 0) _ (omega arith) (a .1) in
     let c = passed 9 (eqb (v .growths) mostGrowths) _ (omega arith) (b .1) in
@@ -106,12 +111,13 @@ may-grow v count e =
     }
 
 -- where they pass, W7's decides and then the last ones
-pub grow-decided : (limited : Bool) (v : Volume) (count len : ℕ) → refusal (countTests v count) ≡ 0
+pub grow-decided : (limited : Bool) (v : Volume) (count len : ℕ) → refusal (countTests limited v count len) ≡ 0
     → refusal (growTableOf limited v count len)
     ≡ cond (limited && ltb (2 * disks v) count) 20 (cond (tooShort (geometry v) count len) 2 (refusal (recordRows v)))
 unfolding growTableOf refusal
 grow-decided limited v count len e =
-    passed-first (countTests v count) (doublingRows limited v count ++ lastTests v count len) refl e ∙ doubling-row limited v count (lastTests v count len)
+    passed-first (countTests limited v count len) (doublingRows limited v count ++ lastTests v count len) refl e
+    ∙ doubling-row limited v count (lastTests v count len)
 
 pub record GrowFacts (v : Volume) (count len : ℕ) : Type 0 where
   pub may : MayGrow v count
@@ -124,12 +130,12 @@ pub grow-accepted : (limited : Bool) (v : Volume) (count len : ℕ) → refusal 
 unfolding growTableOf
 grow-accepted limited v count len e =
     let last = lastTests v count len in
-    let a = both-passed (countTests v count) (doublingRows limited v count ++ last) refl e in
+    let a = both-passed (countTests limited v count len) (doublingRows limited v count ++ last) refl e in
     let w = passed 20 (limited && ltb (2 * disks v) count) last (omega arith) (sym (doubling-row limited v count last) ∙ a .1) in
     let g = passed 2 (tooShort (geometry v) count len) _ (omega arith) (w .1) in
     let h = passed 19 (v .pending .records) _ (omega arith) (g .1) in
     let i = passed 18 (v .pending .blocks) [] (omega arith) (h .1) in
-    record { may = may-grow v count (a .0); room = long-enough (geometry v) count len (g .0); record-down = h .0; blocks-down = i .0 }
+    record { may = may-grow limited v count len (a .0); room = long-enough (geometry v) count len (g .0); record-down = h .0; blocks-down = i .0 }
 
 -- ---- read and write
 

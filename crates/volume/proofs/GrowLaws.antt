@@ -1,7 +1,7 @@
 -- Document 02, W7: grow, and the grow without 20.
 use Prim.Native.Nat.{ℕ, _*_, _<_}
 use mathlib.Core.Path.{_≡_, refl, sym, _∙_}
-use mathlib.Core.Bool.{Bool, false}
+use mathlib.Core.Bool.{Bool, true, false}
 use mathlib.Core.List.{List, _∷_}
 use mathlib.Core.Logic.{_≢_}
 use native.Mathlib.Omega.{arith}
@@ -25,9 +25,9 @@ same-outcome : (v : Volume) (count : ℕ) (o : Observations)
 unfolding growOutcomeOf
 same-outcome v count o e = rw e
 
-tests-pass : (v : Volume) (count : ℕ) → MayGrow v count → refusal (countTests v count) ≡ 0
-unfolding refusal
-tests-pass v count m =
+tests-pass : (limited : Bool) (v : Volume) (count byteCount : ℕ) → MayGrow v count → refusal (countTests limited v count byteCount) ≡ 0
+unfolding refusal growTableOf
+tests-pass limited v count byteCount m =
     simp (
       m .is-sound,
       eq-eqb (v .growing) 0 (m .not-growing),
@@ -38,7 +38,7 @@ tests-pass v count m =
 
 module _ (v : Volume) (count byteCount : ℕ) where
   abbrev tests : List (ℕ × Bool)
-  tests = countTests v count
+  tests = countTests true v count byteCount
 
   abbrev exceeds : Bool
   exceeds = ltb (2 * disks v) count
@@ -54,19 +54,19 @@ module _ (v : Volume) (count byteCount : ℕ) where
   unfolding refusal
   decided e = rw e
 
-  refused-beyond : MayGrow v count → 2 * disks v < count → refusal (growTable v count byteCount) ≡ 20
+  told-beyond : refusal tests ≡ 0 → 2 * disks v < count → refusal (growTable v count byteCount) ≡ 20
   unfolding growTableOf doublingRows
-  refused-beyond m h =
-      let e : refusal beyond ≡ 20 = unfold refusal in rw (lt-ltb (2 * disks v) count h) in
-      passed-first tests beyond refl (tests-pass v count m) ∙ e
+  told-beyond e h =
+      let t : refusal beyond ≡ 20 = unfold refusal in rw (lt-ltb (2 * disks v) count h) in
+      passed-first tests beyond refl e ∙ t
 
-  beyond-refused : refusal (growTable v count byteCount) ≡ 20 → MayGrow v count × (2 * disks v < count)
+  beyond-told : refusal (growTable v count byteCount) ≡ 20 → (refusal tests ≡ 0) × (2 * disks v < count)
   unfolding growTableOf doublingRows
-  beyond-refused t =
+  beyond-told t =
       by-test (eqb (refusal tests) 0)
       (λ z.
       let q = eqb-true (refusal tests) 0 z in
-      by-test exceeds (λ x. (may-grow v count q, ltb-true (2 * disks v) count x))
+      by-test exceeds (λ x. (q, ltb-true (2 * disks v) count x))
       (λ x. absurd (never-told 20 last (omega arith) refl (sym (passed-first tests beyond refl q ∙ decided x) ∙ t))))
       (λ z. absurd (never-told 20 tests (omega arith) refl (sym (refused-first tests beyond (eqb-false (refusal tests) 0 z)) ∙ t)))
 
@@ -77,7 +77,7 @@ module _ (v : Volume) (count byteCount : ℕ) where
       (λ z.
       let q = eqb-true (refusal tests) 0 z in
       passed-first tests beyond refl q
-      ∙ by-test exceeds (λ x. absurd (h (refused-beyond (may-grow v count q) (ltb-true (2 * disks v) count x)))) decided
+      ∙ by-test exceeds (λ x. absurd (h (told-beyond q (ltb-true (2 * disks v) count x)))) decided
       ∙ sym (passed-first tests last refl q))
       (λ z. let q = eqb-false (refusal tests) 0 z in refused-first tests beyond q ∙ sym (refused-first tests last q))
 
@@ -87,9 +87,10 @@ module _ (v : Volume) (count byteCount : ℕ) where
 
 pub two-grows : (v : Volume) (count : ℕ) (o : Observations) → TwoGrows v count o
 two-grows v count o =
+    let n = o .byteCount in
     record {
-      refused-beyond = refused-beyond v count (o .byteCount);
-      beyond-refused = beyond-refused v count (o .byteCount);
-      same-otherwise = λ h. same-outcome v count o (same-refusal v count (o .byteCount) h);
-      never-beyond = never-beyond v count (o .byteCount);
+      refused-beyond = λ m. told-beyond v count n (tests-pass true v count n m);
+      beyond-refused = λ t. let f = beyond-told v count n t in (may-grow true v count n (f .0), f .1);
+      same-otherwise = λ h. same-outcome v count o (same-refusal v count n h);
+      never-beyond = never-beyond v count n;
     }

@@ -178,7 +178,7 @@ impl Volume {
         self.start_growth(medium, true, count)
     }
 
-    // Starts a growth to so many disks.
+    // Document 02, W7, "the one without 20": starts a growth to so many disks.
     pub fn grow_beyond_doubling(self, medium: &mut [u8], count: usize) -> Reply
         ensures { λ r. ⌜ r ≡ growBeyondDoublingOutcome self count (observe (now (medium .entry))) .reply ⌝ }
         ensures { λ _. ⌜ now (medium .exit) ≡ apply (geometry self) (growBeyondDoublingOutcome self count (observe (now (medium .entry))) .store) (now (medium .entry)) ⌝ }
@@ -186,7 +186,7 @@ impl Volume {
         self.start_growth(medium, false, count)
     }
 
-    // Either of the two: limited to doubling or not.
+    // Either grow, limited to doubling or not.
     pub(crate) fn start_growth(self, medium: &mut [u8], limited: bool, count: usize) -> Reply
         ensures { λ r. ⌜ r ≡ growOutcomeOf limited self count (observe (now (medium .entry))) .reply ⌝ }
         ensures { λ _. ⌜ now (medium .exit) ≡ apply (geometry self) (growOutcomeOf limited self count (observe (now (medium .entry))) .store) (now (medium .entry)) ⌝ }

@@ -1,5 +1,5 @@
-// The growing striped volume: its state by value, and the calls of document 01 and `flushed` as its methods. Each call
-// takes the state and hands the next one back, beside the answer.
+// The growing striped volume: its state by value, and as its methods the calls of document 01 and, of document 02,
+// `flushed` and the grow without 20. Each call takes the state and hands the next one back, beside the answer.
 //
 // The calls, `is_sound`, `disk_count`, `zeros` and the limits are offered to others and take any input. What has a
 // `requires` is not offered to others: it is seen in this crate alone, but for what crates above need: `open_blocks` and

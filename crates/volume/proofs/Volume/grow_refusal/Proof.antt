@@ -69,8 +69,8 @@ returns-5 c =
     )
 
 -- the tests before W7's pass
-tests-passed : (c : tie.Else5) → let a = c .before .before .before .before .before .before .before .before .before .args in refusal (countTests (a .self) (a .count)) ≡ 0
-unfolding refusal
+tests-passed : (c : tie.Else5) → let a = c .before .before .before .before .before .before .before .before .before .args in refusal (countTests (a .limited) (a .self) (a .count) (a .len)) ≡ 0
+unfolding refusal growTableOf
 tests-passed c =
     simp (
       passes (c .before .before .before .before .before .before .before),
