@@ -1,6 +1,6 @@
 -- The worked list with a growth beyond doubling, by computing.
 use Prim.Native.Nat.{ℕ}
-use mathlib.Core.Bool.{true, false}
+use mathlib.Core.Bool.{Bool, true, false}
 use mathlib.Core.List.{List, [], _∷_, _++_}
 use mathlib.Core.Logic.{inl}
 use mathlib.Core.Option.{none, some}
@@ -94,54 +94,53 @@ running-fed = fed-before callOutcome (begin oneDisk) runningEvents finishingEven
 
 -- ---- plain volume and tally
 
-running-on : isRunning (modelFed oneDisk runningFed .tally .mode) ≡ true
-unfolding computing
-running-on = refl
+-- whether a growth runs, how many blocks are open, how many calls are left
+abbrev stage : (k : Model) → Bool × ℕ × ℕ
+stage k = (isRunning (k .tally .mode), k .plain .blocks, callsLeftOf (k .tally))
 
-running-open : modelFed oneDisk runningFed .plain .blocks ≡ 2
+running-stage : stage (modelFed oneDisk runningFed) ≡ (true, 2, 3)
 unfolding computing
-running-open = refl
+running-stage = refl
 
-running-left : callsLeftOf (modelFed oneDisk runningFed .tally) ≡ 3
+rested-stage : stage (modelFed oneDisk restedFed) ≡ (false, 6, 0)
 unfolding computing
-running-left = refl
-
-rested-off : isRunning (modelFed oneDisk restedFed .tally .mode) ≡ false
-unfolding computing
-rested-off = refl
-
-rested-open : modelFed oneDisk restedFed .plain .blocks ≡ 6
-unfolding computing
-rested-open = refl
+rested-stage = refl
 
 rested-unset : modelFed oneDisk restedFed .plain .bytes 2 ≡ none
 unfolding computing
 rested-unset = refl
 
-grown-on : isRunning (modelFed oneDisk grownFed .tally .mode) ≡ true
+grown-stage : stage (modelFed oneDisk grownFed) ≡ (true, 6, 4)
 unfolding computing
-grown-on = refl
-
-grown-open : modelFed oneDisk grownFed .plain .blocks ≡ 6
-unfolding computing
-grown-open = refl
-
-grown-left : callsLeftOf (modelFed oneDisk grownFed .tally) ≡ 4
-unfolding computing
-grown-left = refl
+grown-stage = refl
 
 grown-set : modelFed oneDisk grownFed .plain .bytes 1 ≡ some (blockOf 2)
 unfolding computing
 grown-set = refl
 
-running-model : modelOf callOutcome oneDisk runningEvents ≡ modelFed oneDisk runningFed
-running-model = model-fed callOutcome oneDisk runningEvents runningFed running-fed
+-- and after the events
+stage-after : (es : List Event) (fs : List Fed) (known : Bool × ℕ × ℕ) → fedAll callOutcome (begin oneDisk) es ≡ fs
+    → stage (modelFed oneDisk fs) ≡ known → stage (modelOf callOutcome oneDisk es) ≡ known
+stage-after es fs known e k = ap stage (model-fed callOutcome oneDisk es fs e) ∙ k
 
-rested-model : modelOf callOutcome oneDisk restedEvents ≡ modelFed oneDisk restedFed
-rested-model = model-fed callOutcome oneDisk restedEvents restedFed rested-fed
+running-after : stage (modelOf callOutcome oneDisk runningEvents) ≡ (true, 2, 3)
+running-after = stage-after runningEvents runningFed (true, 2, 3) running-fed running-stage
 
-grown-model : modelOf callOutcome oneDisk grownEvents ≡ modelFed oneDisk grownFed
-grown-model = model-fed callOutcome oneDisk grownEvents grownFed grown-fed
+rested-after : stage (modelOf callOutcome oneDisk restedEvents) ≡ (false, 6, 0)
+rested-after = stage-after restedEvents restedFed (false, 6, 0) rested-fed rested-stage
+
+grown-after : stage (modelOf callOutcome oneDisk grownEvents) ≡ (true, 6, 4)
+grown-after = stage-after grownEvents grownFed (true, 6, 4) grown-fed grown-stage
+
+-- its three parts
+runs-of : {a b : Bool × ℕ × ℕ} → a ≡ b → a .0 ≡ b .0
+runs-of e = ap (λ (t : Bool × ℕ × ℕ). t .0) e
+
+open-of : {a b : Bool × ℕ × ℕ} → a ≡ b → a .1 ≡ b .1
+open-of e = ap (λ (t : Bool × ℕ × ℕ). t .1) e
+
+left-of : {a b : Bool × ℕ × ℕ} → a ≡ b → a .2 ≡ b .2
+left-of e = ap (λ (t : Bool × ℕ × ℕ). t .2) e
 
 -- ---- what the promise says of it
 
@@ -182,8 +181,8 @@ three-further = (an-advance, (an-advance, (a-flushed, (an-advance, tt))))
 
 finishing : Finishing callOutcome oneDisk runningEvents finishingEvents 3
 finishing =
-    finishing-of oneDisk is-accepted runningEvents running-lawful running-early running-up runningFed running-fed running-on 3 running-left finishingEvents
-    three-further
+    finishing-of oneDisk is-accepted runningEvents running-lawful running-early running-up runningFed running-fed (runs-of running-stage) 3
+    (left-of running-stage) finishingEvents three-further
 
 three-told : length (finishedTold callOutcome (systemAfter callOutcome oneDisk runningEvents) finishingEvents) ≡ 3
 unfolding systemAfter isAdvance advancesFed runningEvents savedEvents
@@ -192,10 +191,7 @@ three-told =
     ∙ ap advancesFed (fed-after callOutcome (begin oneDisk) runningEvents finishingEvents ∙ ap (drop 7) three-fed)
 
 block-set : modelOf callOutcome oneDisk grownEvents .plain .bytes 1 ≡ some (blockOf 2)
-block-set = ap (λ (k : Model). k .plain .bytes 1) grown-model ∙ grown-set
-
-open-grown : modelOf callOutcome oneDisk grownEvents .plain .blocks ≡ 6
-open-grown = ap (λ (k : Model). k .plain .blocks) grown-model ∙ grown-open
+block-set = ap (λ (k : Model). k .plain .bytes 1) (model-fed callOutcome oneDisk grownEvents grownFed grown-fed) ∙ grown-set
 
 read-follows : beyondEvents ≡ grownEvents ++ (runs (read 1 (blockOf 0)) ∷ [])
 unfolding beyondEvents
@@ -205,7 +201,7 @@ read-back : outcome callOutcome (read 1 (blockOf 0)) (systemAfter callOutcome on
 unfolding oneDisk
 read-back =
     promise oneDisk is-accepted beyondEvents (beyond-facts .lawful) no-early-cut
-    .reads grownEvents [] 1 (blockOf 0) read-follows (rw open-grown (omega arith)) (length-replicate {A = ℕ} 512 0) .bytes-read (blockOf 2) block-set
+    .reads grownEvents [] 1 (blockOf 0) read-follows (rw (open-of grown-after) (omega arith)) (length-replicate {A = ℕ} 512 0) .bytes-read (blockOf 2) block-set
 
 pub beyond-doubling : BeyondDoublingFacts
 beyond-doubling =
@@ -214,22 +210,23 @@ beyond-doubling =
       is-lawful = beyond-facts .lawful;
       no-early-cut = no-early-cut;
       refused-beyond = number-told oneDisk savedEvents (grow 3) _ 20 refused-computed;
-      runs-on = ap (λ (k : Model). isRunning (k .tally .mode)) running-model ∙ running-on;
-      open-running = ap (λ (k : Model). k .plain .blocks) running-model ∙ running-open;
-      calls-left = ap (λ (k : Model). callsLeftOf (k .tally)) running-model ∙ running-left;
+      runs-on = runs-of running-after;
+      open-running = open-of running-after;
+      calls-left = left-of running-after;
       calls-told =
-          left-told oneDisk is-accepted runningEvents running-lawful running-early running-up runningFed running-fed running-on 3 running-left;
+          left-told oneDisk is-accepted runningEvents running-lawful running-early running-up runningFed running-fed (runs-of running-stage) 3
+          (left-of running-stage);
       all-further = three-further;
       finishing = finishing;
       told = finishing .last-told three-told;
-      finished = ap (λ (k : Model). isRunning (k .tally .mode)) rested-model ∙ rested-off;
-      open-finished = ap (λ (k : Model). k .plain .blocks) rested-model ∙ rested-open;
-      added-unset = ap (λ (k : Model). k .plain .bytes 2) rested-model ∙ rested-unset;
+      finished = runs-of rested-after;
+      open-finished = open-of rested-after;
+      added-unset = ap (λ (k : Model). k .plain .bytes 2) (model-fed callOutcome oneDisk restedEvents restedFed rested-fed) ∙ rested-unset;
       refused-again = number-told oneDisk restedEvents (grow 7) _ 20 again-computed;
-      runs-again = ap (λ (k : Model). isRunning (k .tally .mode)) grown-model ∙ grown-on;
-      calls-left-again = ap (λ (k : Model). callsLeftOf (k .tally)) grown-model ∙ grown-left;
+      runs-again = runs-of grown-after;
+      calls-left-again = left-of grown-after;
       calls-told-again =
-          left-told oneDisk is-accepted grownEvents grown-lawful grown-early grown-up grownFed grown-fed grown-on 4 grown-left;
+          left-told oneDisk is-accepted grownEvents grown-lawful grown-early grown-up grownFed grown-fed (runs-of grown-stage) 4 (left-of grown-stage);
       block-set = block-set;
       read-back = read-back;
     }

@@ -28,14 +28,14 @@ module _ (a : Start) (format : accepted (formatted a .reply .answer) ≡ true) (
   pub grows : isRunning (modelOf callOutcome a es .tally .mode) ≡ true
   grows = ap (λ (k : Model). isRunning (k .tally .mode)) same-model ∙ on
 
-  pub left-of : callsLeftOf (modelOf callOutcome a es .tally) ≡ n
-  left-of = ap (λ (k : Model). callsLeftOf (k .tally)) same-model ∙ left
+  pub calls-left-of : callsLeftOf (modelOf callOutcome a es .tally) ≡ n
+  calls-left-of = ap (λ (k : Model). callsLeftOf (k .tally)) same-model ∙ left
 
   pub left-told : lastReported callOutcome (begin a) es none ≡ some n
-  left-told = kept .calls-left is-up grows ∙ ap some left-of
+  left-told = kept .calls-left is-up grows ∙ ap some calls-left-of
 
   pub finishing-of : (further : List Event) → AllFurther callOutcome (systemAfter callOutcome a es) further → Finishing callOutcome a es further n
-  finishing-of further f = subst (Finishing callOutcome a es further) left-of (kept .finishes is-up grows further f)
+  finishing-of further f = subst (Finishing callOutcome a es further) calls-left-of (kept .finishes is-up grows further f)
 
 -- the accepted advances among what is fed are those that tell
 unfoldable pub advancesFed : (fs : List Fed) → ℕ

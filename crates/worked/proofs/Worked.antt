@@ -18,7 +18,7 @@ use Rattle.worked.specs.Worked.{blockOf, workedStart, firstEvents, copie
 use Rattle.worked.proofs.FasterCalls.{faster, OurRestart}
 use Rattle.worked.proofs.Computed.{Hearing, computed, lawfulResult, Facts, faster-facts, fed-before, fed-after, modelFed, model-fed}
 use Rattle.worked.proofs.Computing.{computing}
-use Rattle.worked.proofs.Running.{left-of, left-told, finishing-of, advancesFed, tellings-fed}
+use Rattle.worked.proofs.Running.{calls-left-of, left-told, finishing-of, advancesFed, tellings-fed}
 
 pub is-accepted : accepted (formatted workedStart .reply .answer) ≡ true
 unfolding computing
@@ -216,7 +216,7 @@ worked =
       is-lawful = worked-facts .lawful;
       no-early-cut = no-early-cut;
       open-before = ap (λ (k : Model). k .plain .blocks) first-model ∙ first-open;
-      calls-left = left-of workedStart is-accepted firstEvents first-lawful first-early first-up firstFed first-fed first-runs 2 first-left;
+      calls-left = calls-left-of workedStart is-accepted firstEvents first-lawful first-early first-up firstFed first-fed first-runs 2 first-left;
       calls-told = left-told workedStart is-accepted firstEvents first-lawful first-early first-up firstFed first-fed first-runs 2 first-left;
       all-further = all-further;
       further-fed = further-fed;
