@@ -65,7 +65,7 @@ passed-first (check ∷ a) b n h =
     absurd (omega (arith, k, ltb-true 0 (check .0) (and-left (ltb 0 (check .0)) (numbered a) n))))
     (λ e. rw e (passed-first a b (and-right (ltb 0 (check .0)) (numbered a) n) (rw e at h)))
 
--- where the whole refuses nothing, neither does
+-- where both together refuse nothing, neither does
 pub both-passed : (a b : List (ℕ × Bool)) → numbered a ≡ true → refusal (a ++ b) ≡ 0 → (refusal a ≡ 0) × (refusal b ≡ 0)
 both-passed a b n e =
     by-test (eqb (refusal a) 0) (λ z. let q = eqb-true (refusal a) 0 z in (q, sym (passed-first a b n q) ∙ e))

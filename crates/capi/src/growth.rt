@@ -37,7 +37,7 @@ pub extern "C" fn streterva_grow(
     hand_back(reply, state, figures)
 }
 
-// Starts a growth to so many disks.
+// Document 02, W7, "the one without 20": starts a growth to so many disks.
 #[no_mangle]
 pub extern "C" fn streterva_grow_beyond_doubling(
     state: &mut [usize],

@@ -1,4 +1,4 @@
--- The worked list with a growth beyond doubling, by computing.
+-- The worked lists with a growth beyond doubling, by computing.
 use Prim.Native.Nat.{ℕ}
 use mathlib.Core.Bool.{Bool, true, false}
 use mathlib.Core.List.{List, [], _∷_, _++_}
@@ -13,13 +13,16 @@ use Rattle.promise.specs.Calls.{Call, grow, growBeyondDoubling, advance, write,
 use Rattle.promise.specs.Lists.{Event, IsUp, runs, outcome, callOutcome, after, NoEarlyCut, Lawful, AllFurther, an-advance, a-flushed, afterAll, fedAll, finishedTold}
 use Rattle.promise.specs.Model.{Model}
 use Rattle.promise.specs.Promise.{Start, Finishing, formatted, begin, systemAfter, modelOf}
+use Rattle.promise.specs.WithoutCache.{ends, flushedAfter, fromFormat, systemWithout, modelWithout, advancesTold, DirectFurther, DirectFinishing}
+use Rattle.promise.specs.WithoutCache as direct
 use Rattle.promise.proofs.Theorem.{lawful-before, promise}
+use Rattle.promise.proofs.WithoutCache.{promise-without-cache}
 use Rattle.worked.specs.Worked.{blockOf}
-use Rattle.worked.specs.BeyondDoubling.{oneDisk, savedEvents, runningEvents, finishingEvents, restedEvents, grownEvents, beyondEvents, BeyondDoublingFacts}
+use Rattle.worked.specs.BeyondDoubling.{oneDisk, savedEvents, runningEvents, finishingEvents, restedEvents, grownEvents, beyondEvents, BeyondDoublingFacts, runningDirect, finishingDirect, finishedDirect, beyondDirect, BeyondWithoutCacheFacts}
 use Rattle.worked.proofs.FasterCalls.{faster}
 use Rattle.worked.proofs.Computed.{Hearing, heardAll, computed, lawfulResult, Facts, faster-facts, heard-both, fed-before, fed-after, modelFed, model-fed}
 use Rattle.worked.proofs.Computing.{computing}
-use Rattle.worked.proofs.Running.{left-told, finishing-of, advancesFed, tellings-fed}
+use Rattle.worked.proofs.Running.{left-told, finishing-of, direct-left-told, direct-finishing, advancesFed, tellings-fed}
 use Rattle.worked.proofs.Worked.{our-restart}
 
 is-accepted : accepted (formatted oneDisk .reply .answer) ≡ true
@@ -229,4 +232,117 @@ beyond-doubling =
           left-told oneDisk is-accepted grownEvents grown-lawful grown-early grown-up grownFed grown-fed (runs-of grown-stage) 4 (left-of grown-stage);
       block-set = block-set;
       read-back = read-back;
+    }
+
+-- ---- on drives that keep no store
+
+abbrev runningDirectFed : List Fed
+runningDirectFed =
+    ended flushed true
+    ∷ ended (write 0 (blockOf 1)) true
+    ∷ ended flushed true
+    ∷ ended (write 1 (blockOf 2)) true
+    ∷ ended flushed true
+    ∷ ended (grow 3) false
+    ∷ ended flushed true
+    ∷ cutIn (some (growBeyondDoubling 3)) recordNew
+    ∷ ended restart true
+    ∷ ended flushed true
+    ∷ []
+
+abbrev advanceFed : List Fed
+advanceFed = ended advance true ∷ ended flushed true ∷ []
+
+abbrev finishedDirectFed : List Fed
+finishedDirectFed = runningDirectFed ++ (advanceFed ++ advanceFed ++ advanceFed)
+
+direct-computed : computed (faster callOutcome) hearNumber (begin oneDisk) (fromFormat beyondDirect) 0
+    ≡ lawfulResult (finishedDirectFed ++ (ended (read 1 (blockOf 0)) true ∷ ended flushed true ∷ [])) 0
+unfolding computing
+direct-computed = refl
+
+direct-facts : Facts callOutcome hearNumber (begin oneDisk) (fromFormat beyondDirect) 0
+    (finishedDirectFed ++ (ended (read 1 (blockOf 0)) true ∷ ended flushed true ∷ [])) 0
+direct-facts = faster-facts callOutcome hearNumber (begin oneDisk) (fromFormat beyondDirect) 0 _ 0 our-restart direct-computed
+
+finished-direct-fed : fedAll callOutcome (begin oneDisk) (fromFormat finishedDirect) ≡ finishedDirectFed
+unfolding fromFormat flushedAfter beyondDirect finishedDirect runningDirect finishingDirect
+finished-direct-fed =
+    fed-before callOutcome (begin oneDisk) (fromFormat finishedDirect) (flushedAfter (ends (read 1 (blockOf 0)) ∷ [])) ∙ ap (take 16) (direct-facts .all-fed)
+
+running-direct-fed : fedAll callOutcome (begin oneDisk) (fromFormat runningDirect) ≡ runningDirectFed
+unfolding fromFormat flushedAfter finishedDirect runningDirect finishingDirect
+running-direct-fed = fed-before callOutcome (begin oneDisk) (fromFormat runningDirect) (flushedAfter finishingDirect) ∙ ap (take 10) finished-direct-fed
+
+running-direct-stage : stage (modelFed oneDisk runningDirectFed) ≡ (true, 2, 3)
+unfolding computing
+running-direct-stage = refl
+
+finished-direct-stage : stage (modelFed oneDisk finishedDirectFed) ≡ (false, 6, 0)
+unfolding computing
+finished-direct-stage = refl
+
+direct-set : modelFed oneDisk finishedDirectFed .plain .bytes 1 ≡ some (blockOf 2)
+unfolding computing
+direct-set = refl
+
+running-direct-after : stage (modelWithout callOutcome oneDisk runningDirect) ≡ (true, 2, 3)
+running-direct-after = stage-after (fromFormat runningDirect) runningDirectFed (true, 2, 3) running-direct-fed running-direct-stage
+
+finished-direct-after : stage (modelWithout callOutcome oneDisk finishedDirect) ≡ (false, 6, 0)
+finished-direct-after = stage-after (fromFormat finishedDirect) finishedDirectFed (false, 6, 0) finished-direct-fed finished-direct-stage
+
+running-direct-lawful : Lawful callOutcome (begin oneDisk) (fromFormat runningDirect)
+unfolding fromFormat flushedAfter beyondDirect finishedDirect runningDirect finishingDirect
+running-direct-lawful =
+    lawful-before callOutcome (begin oneDisk) (fromFormat runningDirect) (flushedAfter (finishingDirect ++ (ends (read 1 (blockOf 0)) ∷ []))) (direct-facts .lawful)
+
+running-direct-up : IsUp (systemWithout callOutcome oneDisk runningDirect)
+unfolding systemAfter afterAll after IsUp fromFormat flushedAfter runningDirect
+running-direct-up = tt
+
+direct-further : DirectFurther finishingDirect
+unfolding finishingDirect
+direct-further = direct.an-advance (direct.an-advance (direct.an-advance direct.no-call))
+
+three-direct : DirectFinishing callOutcome oneDisk runningDirect finishingDirect 3
+three-direct =
+    direct-finishing oneDisk is-accepted runningDirect running-direct-lawful running-direct-up runningDirectFed running-direct-fed
+    (runs-of running-direct-stage) 3 (left-of running-direct-stage) finishingDirect direct-further
+
+three-direct-told : length (advancesTold callOutcome (systemWithout callOutcome oneDisk runningDirect) finishingDirect) ≡ 3
+unfolding finishingDirect advancesTold isAdvance
+three-direct-told = refl
+
+direct-block-set : modelWithout callOutcome oneDisk finishedDirect .plain .bytes 1 ≡ some (blockOf 2)
+direct-block-set =
+    ap (λ (k : Model). k .plain .bytes 1) (model-fed callOutcome oneDisk (fromFormat finishedDirect) finishedDirectFed finished-direct-fed) ∙ direct-set
+
+direct-read-follows : beyondDirect ≡ finishedDirect ++ (ends (read 1 (blockOf 0)) ∷ [])
+unfolding beyondDirect
+direct-read-follows = refl
+
+direct-read-back : outcome callOutcome (read 1 (blockOf 0)) (systemWithout callOutcome oneDisk finishedDirect) .piece ≡ blockOf 2
+unfolding oneDisk
+direct-read-back =
+    promise-without-cache oneDisk is-accepted beyondDirect (direct-facts .lawful)
+    .reads finishedDirect [] 1 (blockOf 0) direct-read-follows (rw (open-of finished-direct-after) (omega arith)) (length-replicate {A = ℕ} 512 0)
+    .bytes-read (blockOf 2) direct-block-set
+
+pub beyond-without-cache : BeyondWithoutCacheFacts
+beyond-without-cache =
+    record {
+      is-lawful = direct-facts .lawful;
+      runs-on = runs-of running-direct-after;
+      calls-left = left-of running-direct-after;
+      calls-told =
+          direct-left-told oneDisk is-accepted runningDirect running-direct-lawful running-direct-up runningDirectFed running-direct-fed
+          (runs-of running-direct-stage) 3 (left-of running-direct-stage);
+      all-further = direct-further;
+      finishing = three-direct;
+      told = three-direct .last-told three-direct-told;
+      finished = runs-of finished-direct-after;
+      open-finished = open-of finished-direct-after;
+      block-set = direct-block-set;
+      read-back = direct-read-back;
     }

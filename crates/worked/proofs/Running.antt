@@ -12,30 +12,51 @@ use Rattle.promise.specs.Calls.{isAdvance, Fed, ended, cutIn}
 use Rattle.promise.specs.Lists.{Event, System, IsUp, runs, cut, isAccepted, callOutcome, after, NoEarlyCut, Lawful, AllFurther, fed, fedAll, lastReported, tellings, finishedTold}
 use Rattle.promise.specs.Model.{Model}
 use Rattle.promise.specs.Promise.{Start, Finishing, Kept, formatted, begin, systemAfter, modelOf}
+use Rattle.promise.specs.WithoutCache.{DirectEvent, fromFormat, systemWithout, DirectFurther, DirectFinishing, DirectKept}
 use Rattle.promise.proofs.Theorem.{promise}
+use Rattle.promise.proofs.WithoutCache.{promise-without-cache}
 use Rattle.worked.proofs.Computed.{modelFed, model-fed}
 
--- with n calls left
+-- ---- plain volume and tally, by what they are fed
+
+module _ (a : Start) (es : List Event) (fs : List Fed) (told : fedAll callOutcome (begin a) es ≡ fs) where
+  runs-fed : isRunning (modelFed a fs .tally .mode) ≡ true → isRunning (modelOf callOutcome a es .tally .mode) ≡ true
+  runs-fed on = ap (λ (k : Model). isRunning (k .tally .mode)) (model-fed callOutcome a es fs told) ∙ on
+
+  pub left-fed : (n : ℕ) → callsLeftOf (modelFed a fs .tally) ≡ n → callsLeftOf (modelOf callOutcome a es .tally) ≡ n
+  left-fed n left = ap (λ (k : Model). callsLeftOf (k .tally)) (model-fed callOutcome a es fs told) ∙ left
+
+-- ---- with n calls left
+
 module _ (a : Start) (format : accepted (formatted a .reply .answer) ≡ true) (es : List Event) (l : Lawful callOutcome (begin a) es)
     (early : NoEarlyCut es) (is-up : IsUp (systemAfter callOutcome a es)) (fs : List Fed) (told : fedAll callOutcome (begin a) es ≡ fs)
     (on : isRunning (modelFed a fs .tally .mode) ≡ true) (n : ℕ) (left : callsLeftOf (modelFed a fs .tally) ≡ n) where
   kept : Kept callOutcome a es
   kept = promise a format es l early
 
-  same-model : modelOf callOutcome a es ≡ modelFed a fs
-  same-model = model-fed callOutcome a es fs told
-
-  pub grows : isRunning (modelOf callOutcome a es .tally .mode) ≡ true
-  grows = ap (λ (k : Model). isRunning (k .tally .mode)) same-model ∙ on
-
-  pub calls-left-of : callsLeftOf (modelOf callOutcome a es .tally) ≡ n
-  calls-left-of = ap (λ (k : Model). callsLeftOf (k .tally)) same-model ∙ left
-
   pub left-told : lastReported callOutcome (begin a) es none ≡ some n
-  left-told = kept .calls-left is-up grows ∙ ap some calls-left-of
+  left-told = kept .calls-left is-up (runs-fed a es fs told on) ∙ ap some (left-fed a es fs told n left)
 
   pub finishing-of : (further : List Event) → AllFurther callOutcome (systemAfter callOutcome a es) further → Finishing callOutcome a es further n
-  finishing-of further f = subst (Finishing callOutcome a es further) calls-left-of (kept .finishes is-up grows further f)
+  finishing-of further f =
+      subst (Finishing callOutcome a es further) (left-fed a es fs told n left) (kept .finishes is-up (runs-fed a es fs told on) further f)
+
+-- the same for drives that keep no store
+module _ (a : Start) (format : accepted (formatted a .reply .answer) ≡ true) (es : List DirectEvent) (l : Lawful callOutcome (begin a) (fromFormat es))
+    (is-up : IsUp (systemWithout callOutcome a es)) (fs : List Fed) (told : fedAll callOutcome (begin a) (fromFormat es) ≡ fs)
+    (on : isRunning (modelFed a fs .tally .mode) ≡ true) (n : ℕ) (left : callsLeftOf (modelFed a fs .tally) ≡ n) where
+  direct-kept : DirectKept callOutcome a es
+  direct-kept = promise-without-cache a format es l
+
+  pub direct-left-told : lastReported callOutcome (begin a) (fromFormat es) none ≡ some n
+  direct-left-told = direct-kept .calls-left is-up (runs-fed a (fromFormat es) fs told on) ∙ ap some (left-fed a (fromFormat es) fs told n left)
+
+  pub direct-finishing : (further : List DirectEvent) → DirectFurther further → DirectFinishing callOutcome a es further n
+  direct-finishing further f =
+      subst (DirectFinishing callOutcome a es further) (left-fed a (fromFormat es) fs told n left)
+      (direct-kept .finishes is-up (runs-fed a (fromFormat es) fs told on) further f)
+
+-- ---- advances
 
 -- the accepted advances among what is fed are those that tell
 unfoldable pub advancesFed : (fs : List Fed) → ℕ

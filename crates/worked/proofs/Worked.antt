@@ -10,7 +10,7 @@ use lib.ListN.{length, take, drop, replicate, length-replicate}
 use Rattle.layout.specs.Tally.{isRunning, callsLeftOf}
 use Rattle.volume.specs.Answers.{accepted}
 use Rattle.promise.specs.Calls.{grow, advance, write, read, restart, flushed, isAdvance, sameRecord, recordOld, Fed, ended, cutIn}
-use Rattle.promise.specs.Lists.{Event, IsUp, runs, outcome, callOutcome, after, NoEarlyCut, Lawful, AllFurther, an-advance, a-write, a-read, a-flushed, afterAll, fed, fedAll, finishedTold}
+use Rattle.promise.specs.Lists.{Event, IsUp, runs, outcome, callOutcome, after, NoEarlyCut, Lawful, AllFurther, an-advance, a-write, a-read, a-flushed, afterAll, fedAll, finishedTold}
 use Rattle.promise.specs.Model.{Model}
 use Rattle.promise.specs.Promise.{Finishing, formatted, begin, systemAfter, modelOf}
 use Rattle.promise.proofs.Theorem.{lawful-before, promise}
@@ -18,7 +18,7 @@ use Rattle.worked.specs.Worked.{blockOf, workedStart, firstEvents, copie
 use Rattle.worked.proofs.FasterCalls.{faster, OurRestart}
 use Rattle.worked.proofs.Computed.{Hearing, computed, lawfulResult, Facts, faster-facts, fed-before, fed-after, modelFed, model-fed}
 use Rattle.worked.proofs.Computing.{computing}
-use Rattle.worked.proofs.Running.{calls-left-of, left-told, finishing-of, advancesFed, tellings-fed}
+use Rattle.worked.proofs.Running.{left-fed, left-told, finishing-of, advancesFed, tellings-fed}
 
 pub is-accepted : accepted (formatted workedStart .reply .answer) ≡ true
 unfolding computing
@@ -216,7 +216,7 @@ worked =
       is-lawful = worked-facts .lawful;
       no-early-cut = no-early-cut;
       open-before = ap (λ (k : Model). k .plain .blocks) first-model ∙ first-open;
-      calls-left = calls-left-of workedStart is-accepted firstEvents first-lawful first-early first-up firstFed first-fed first-runs 2 first-left;
+      calls-left = left-fed workedStart firstEvents firstFed first-fed 2 first-left;
       calls-told = left-told workedStart is-accepted firstEvents first-lawful first-early first-up firstFed first-fed first-runs 2 first-left;
       all-further = all-further;
       further-fed = further-fed;

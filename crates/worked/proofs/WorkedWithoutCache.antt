@@ -19,6 +19,7 @@ use Rattle.worked.specs.WorkedWithoutCache.{firstDirect, cutDirect, befo
 use Rattle.worked.proofs.FasterCalls.{faster}
 use Rattle.worked.proofs.Computed.{computed, lawfulResult, Facts, faster-facts, fed-before, fed-after, modelFed, model-fed}
 use Rattle.worked.proofs.Computing.{computing}
+use Rattle.worked.proofs.Running.{left-fed, direct-left-told, direct-finishing}
 use Rattle.worked.proofs.Worked.{is-accepted, our-restart, hearNothing}
 
 -- ---- what plain volume and tally are fed
@@ -138,25 +139,6 @@ first-model = model-fed callOutcome workedStart (fromFormat firstDirect) firstFe
 last-model : modelWithout callOutcome workedStart directBeforeRead ≡ modelFed workedStart lastFed
 last-model = model-fed callOutcome workedStart (fromFormat directBeforeRead) lastFed all-fed
 
--- of a list that leaves the growth running, with two calls left
-module _ (es : List DirectEvent) (fs : List Fed) (l : Lawful callOutcome (begin workedStart) (fromFormat es)) (is-up : IsUp (systemWithout callOutcome workedStart es))
-    (fed : fedAll callOutcome (begin workedStart) (fromFormat es) ≡ fs) (two : callsLeftOf (modelFed workedStart fs .tally) ≡ 2)
-    (on : isRunning (modelFed workedStart fs .tally .mode) ≡ true) where
-  kept : DirectKept callOutcome workedStart es
-  kept = promise-without-cache workedStart is-accepted es l
-
-  grows : isRunning (modelWithout callOutcome workedStart es .tally .mode) ≡ true
-  grows = ap (λ (k : Model). isRunning (k .tally .mode)) (model-fed callOutcome workedStart (fromFormat es) fs fed) ∙ on
-
-  calls-left : callsLeftOf (modelWithout callOutcome workedStart es .tally) ≡ 2
-  calls-left = ap (λ (k : Model). callsLeftOf (k .tally)) (model-fed callOutcome workedStart (fromFormat es) fs fed) ∙ two
-
-  calls-told : lastReported callOutcome (begin workedStart) (fromFormat es) none ≡ some 2
-  calls-told = kept .calls-left is-up grows ∙ ap some calls-left
-
-  finishing-two : (further : List DirectEvent) → DirectFurther further → DirectFinishing callOutcome workedStart es further 2
-  finishing-two further f = subst (DirectFinishing callOutcome workedStart es further) calls-left (kept .finishes is-up grows further f)
-
 before-lawful : Lawful callOutcome (begin workedStart) (fromFormat beforeFurther)
 unfolding fromFormat flushedAfter directEvents directBeforeRead beforeFurther firstDirect cutDirect
 before-lawful =
@@ -185,11 +167,15 @@ copied-further : DirectFurther copiedDirect
 unfolding copiedDirect
 copied-further = a-write (an-advance (a-read no-call))
 
+-- with two calls left
+finishing-two : (further : List DirectEvent) → DirectFurther further → DirectFinishing callOutcome workedStart beforeFurther further 2
+finishing-two = direct-finishing workedStart is-accepted beforeFurther before-lawful before-up (firstFed ++ cutFed) before-fed before-runs 2 before-left
+
 finishing : DirectFinishing callOutcome workedStart beforeFurther furtherDirect 2
-finishing = finishing-two beforeFurther (firstFed ++ cutFed) before-lawful before-up before-fed before-left before-runs furtherDirect all-further
+finishing = finishing-two furtherDirect all-further
 
 copied-finishing : DirectFinishing callOutcome workedStart beforeFurther copiedDirect 2
-copied-finishing = finishing-two beforeFurther (firstFed ++ cutFed) before-lawful before-up before-fed before-left before-runs copiedDirect copied-further
+copied-finishing = finishing-two copiedDirect copied-further
 
 two-advances : length (advancesTold callOutcome (systemWithout callOutcome workedStart beforeFurther) furtherDirect) ≡ 2
 unfolding furtherDirect copiedDirect advancesTold isAdvance
@@ -222,9 +208,9 @@ worked-without-cache =
     record {
       is-lawful = direct-facts .lawful;
       open-before = ap (λ (k : Model). k .plain .blocks) first-model ∙ first-open;
-      calls-left = calls-left firstDirect firstFed first-lawful first-up first-fed first-left first-runs;
-      calls-told = calls-told firstDirect firstFed first-lawful first-up first-fed first-left first-runs;
-      calls-left-again = calls-left beforeFurther (firstFed ++ cutFed) before-lawful before-up before-fed before-left before-runs;
+      calls-left = left-fed workedStart (fromFormat firstDirect) firstFed first-fed 2 first-left;
+      calls-told = direct-left-told workedStart is-accepted firstDirect first-lawful first-up firstFed first-fed first-runs 2 first-left;
+      calls-left-again = left-fed workedStart (fromFormat beforeFurther) (firstFed ++ cutFed) before-fed 2 before-left;
       all-further = all-further;
       copied-fed = copied-fed;
       finishing = finishing;

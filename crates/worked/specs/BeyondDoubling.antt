@@ -1,5 +1,6 @@
--- Document 02, W7: a worked list with a growth beyond doubling, by the grow without 20, on drives with a write cache: `BeyondDoublingFacts`. Its
--- proof, `beyond-doubling` in `proofs/BeyondDoubling.antt`, computes it.
+-- Document 02, W7: worked lists with a growth beyond doubling, by the grow without 20: `BeyondDoublingFacts` on drives with a write cache, and
+-- `BeyondWithoutCacheFacts` on drives that keep no store. Their proofs, `beyond-doubling` and `beyond-without-cache` in
+-- `proofs/BeyondDoubling.antt`, compute them.
 use mathlib.Core.Path.{_≡_}
 use mathlib.Core.Bool.{true, false}
 use mathlib.Core.List.{List, [], _∷_, _++_}
@@ -11,6 +12,7 @@ use Rattle.volume.specs.Answers.{number, accepted}
 use Rattle.promise.specs.Calls.{grow, growBeyondDoubling, advance, write, read, restart, flushed}
 use Rattle.promise.specs.Lists.{callOutcome, Event, runs, cut, outcome, Lawful, NoEarlyCut, lastReported, AllFurther, finishedTold}
 use Rattle.promise.specs.Promise.{Start, formatted, begin, systemAfter, modelOf, Finishing}
+use Rattle.promise.specs.WithoutCache.{DirectEvent, ends, fails, fromFormat, systemWithout, modelWithout, advancesTold, DirectFurther, DirectFinishing}
 use Rattle.worked.specs.Worked.{blockOf}
 
 -- One disk with two rows; room for six disks. The growth to three moves both blocks, in one window.
@@ -65,3 +67,40 @@ pub record BeyondDoublingFacts : Type 0 where
   pub calls-told-again : lastReported callOutcome (begin oneDisk) grownEvents none ≡ some 4
   pub block-set : modelOf callOutcome oneDisk grownEvents .plain .bytes 1 ≡ some (blockOf 2)
   pub read-back : outcome callOutcome (read 1 (blockOf 0)) (systemAfter callOutcome oneDisk grownEvents) .piece ≡ blockOf 2
+
+-- ---- on drives that keep no store
+
+-- two saves; a growth to three, refused with 20; the other grow, cut in its store, which leaves the new record; a restart
+unfoldable pub runningDirect : List DirectEvent
+runningDirect =
+    ends (write 0 (blockOf 1))
+    ∷ ends (write 1 (blockOf 2))
+    ∷ ends (grow 3)
+    ∷ fails (growBeyondDoubling 3) newRecord
+    ∷ ends restart
+    ∷ []
+
+-- further calls: the third advance finishes it
+unfoldable pub finishingDirect : List DirectEvent
+finishingDirect = ends advance ∷ ends advance ∷ ends advance ∷ []
+
+unfoldable pub finishedDirect : List DirectEvent
+finishedDirect = runningDirect ++ finishingDirect
+
+unfoldable pub beyondDirect : List DirectEvent
+beyondDirect = finishedDirect ++ (ends (read 1 (blockOf 0)) ∷ [])
+
+pub record BeyondWithoutCacheFacts : Type 0 where
+  pub is-lawful : Lawful callOutcome (begin oneDisk) (fromFormat beyondDirect)
+  -- the growth runs, with three calls left, which finish it
+  pub runs-on : isRunning (modelWithout callOutcome oneDisk runningDirect .tally .mode) ≡ true
+  pub calls-left : callsLeftOf (modelWithout callOutcome oneDisk runningDirect .tally) ≡ 3
+  pub calls-told : lastReported callOutcome (begin oneDisk) (fromFormat runningDirect) none ≡ some 3
+  pub all-further : DirectFurther finishingDirect
+  pub finishing : DirectFinishing callOutcome oneDisk runningDirect finishingDirect 3
+  pub told : advancesTold callOutcome (systemWithout callOutcome oneDisk runningDirect) finishingDirect ≡ false ∷ false ∷ true ∷ []
+  -- it is finished: six blocks are open, and a save is read back
+  pub finished : isRunning (modelWithout callOutcome oneDisk finishedDirect .tally .mode) ≡ false
+  pub open-finished : modelWithout callOutcome oneDisk finishedDirect .plain .blocks ≡ 6
+  pub block-set : modelWithout callOutcome oneDisk finishedDirect .plain .bytes 1 ≡ some (blockOf 2)
+  pub read-back : outcome callOutcome (read 1 (blockOf 0)) (systemWithout callOutcome oneDisk finishedDirect) .piece ≡ blockOf 2
