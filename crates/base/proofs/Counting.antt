@@ -3,13 +3,13 @@ use Prim.Native.Nat.{ℕ, zero, suc, _+_, _-_, _*_, _/_, _%_, _≤_, _<_, min}
 use mathlib.Core.Path.{_≡_, refl, sym, _∙_, ap}
 use mathlib.Core.Bool.{Bool, true, false, cond, not, _&&_, and-true, and-false}
 use mathlib.Core.Logic.{⊎-elim}
-use native.Mathlib.Nat.{add-zero, add-suc, zero-mul, suc-mul, not-suc-le-zero, le-of-suc-le-suc, eq-or-lt-of-le}
+use native.Mathlib.Nat.{add-zero, add-suc, zero-mul, mul-zero, suc-mul, not-suc-le-zero, le-of-suc-le-suc, eq-or-lt-of-le}
 use native.Mathlib.Numerals.{add-one}
 use native.Mathlib.Decide.{ℕ-discrete}
 use native.Mathlib.Omega.{arith}
-use lib.Dec.{ltb, eqb}
+use lib.Dec.{leb, ltb, eqb}
 use lib.Arith.{digits-div, digits-mod}
-use borrow.Author.Tests.{ltb-true, ltb-false, eqb-false, eq-eqb, ne-eqb, not-true}
+use borrow.Author.Tests.{leb-true, leb-false, ltb-true, ltb-false, eqb-true, eqb-false, eq-eqb, ne-eqb, not-true}
 use Rattle.base.specs.Below.{count, every, sum}
 use Rattle.base.proofs.Booleans.{cond-cases, and-left, and-right, and-both, clash, by-test}
 
@@ -43,6 +43,23 @@ pub count-split : (p q r : ℕ → Bool) (n : ℕ) → ((i : ℕ) → cond (p i)
 unfolding count
 count-split p q r zero h = refl
 count-split p q r (suc n) h = omega (arith, count-split p q r n h, h n)
+
+-- those that pass a second test too, and those that do not
+pub count-by-test : (p q : ℕ → Bool) (n : ℕ) → count p n ≡ count (λ i. p i && q i) n + count (λ i. p i && not (q i)) n
+count-by-test p q n = count-split p (λ i. p i && q i) (λ i. p i && not (q i)) n (λ i. by (p i) (q i))
+  where
+    by : (a b : Bool) → cond a 1 0 ≡ cond (a && b) 1 0 + cond (a && not b) 1 0
+    by true true = refl
+    by true false = refl
+    by false b = refl
+
+-- a test that implies another
+pub count-implied : (p q : ℕ → Bool) (n : ℕ) → ((i : ℕ) → i < n → p i ≡ true → q i ≡ true) → count p n ≤ count q n
+unfolding count
+count-implied p q zero h = omega arith
+count-implied p q (suc n) h =
+    let ih = count-implied p q n (λ i l. h i (omega arith)) in
+    by-test (p n) (λ e. rw (e, h n (omega arith) e) (omega arith)) (λ e. rw e (omega arith))
 
 count-join : (p : ℕ → Bool) (a n : ℕ) → count p (a + n) ≡ count p a + count (λ i. p (a + i)) n
 unfolding count
@@ -79,6 +96,13 @@ count-below d r zero = omega arith
 count-below d r (suc n) =
     cond-cases (λ v. count (λ i. ltb (d + i) r) n + v ≡ min (suc n) (r - d)) (ltb (d + n) r)
     (λ e. omega (arith, ltb-true, count-below d r n)) (λ e. omega (arith, ltb-false, count-below d r n))
+
+pub count-from : (a n : ℕ) → count (leb a) n ≡ n - a
+unfolding count
+count-from a zero = omega arith
+count-from a (suc n) =
+    cond-cases (λ v. count (leb a) n + v ≡ suc n - a) (leb a n) (λ e. omega (arith, leb-true, count-from a n))
+    (λ e. omega (arith, leb-false, count-from a n))
 
 -- what every number passes, each does
 pub every-use : (p : ℕ → Bool) (n : ℕ) → every p n ≡ true → (i : ℕ) → i < n → p i ≡ true
@@ -200,10 +224,13 @@ count-one-to-one p (suc n) q k f g o = one-more p n q k f g o (λ r. count-one-t
 
 -- ---- sums of sums
 
-pub sum-none : (f : ℕ → ℕ) (n : ℕ) → ((i : ℕ) → i < n → f i ≡ 0) → sum f n ≡ 0
+pub sum-all : (f : ℕ → ℕ) (n b : ℕ) → ((i : ℕ) → i < n → f i ≡ b) → sum f n ≡ n * b
 unfolding sum
-sum-none f zero h = refl
-sum-none f (suc n) h = rw (sum-none f n (λ i l. h i (omega arith)), h n (omega arith))
+sum-all f zero b h = sym (zero-mul b)
+sum-all f (suc n) b h = rw (sum-all f n b (λ i l. h i (omega arith)), h n (omega arith)) (sym (suc-mul n b))
+
+pub sum-none : (f : ℕ → ℕ) (n : ℕ) → ((i : ℕ) → i < n → f i ≡ 0) → sum f n ≡ 0
+sum-none f n h = sum-all f n 0 h ∙ mul-zero n
 
 pub sum-plus : (f g : ℕ → ℕ) (n : ℕ) → sum (λ i. f i + g i) n ≡ sum f n + sum g n
 unfolding sum
@@ -239,11 +266,34 @@ count-one k m h =
     count-less (eqb k) (λ i. false) m k h (eq-eqb k k refl) refl (λ i n. ne-eqb k i (λ e. n (sym e)))
     ∙ ap suc (count-none (λ i. false) m (λ i l. refl))
 
--- each is counted at one of the numbers below m
-pub sum-by-value : (f : ℕ → ℕ) (m n : ℕ) → ((j : ℕ) → j < n → f j < m) → sum (λ d. count (λ j. eqb (f j) d) n) m ≡ n
+-- each that passes is counted at one of the numbers below m
+pub count-by-value : (p : ℕ → Bool) (f : ℕ → ℕ) (m n : ℕ) → ((j : ℕ) → j < n → p j ≡ true → f j < m)
+    → count p n ≡ sum (λ d. count (λ j. p j && eqb (f j) d) n) m
 unfolding count
-sum-by-value f m zero h = sum-none (λ d. 0) m (λ d l. refl)
-sum-by-value f m (suc n) h =
-    let before = sum-by-value f m n (λ j l. h j (omega arith)) in
-    let last = count-as-sum (eqb (f n)) m ∙ count-one (f n) m (h n (omega arith)) in
-    sum-plus (λ d. count (λ j. eqb (f j) d) n) (λ d. cond (eqb (f n) d) 1 0) m ∙ rw (before, last) (add-one n)
+count-by-value p f m zero h = sym (sum-none (λ d. 0) m (λ d l. refl))
+count-by-value p f m (suc n) h =
+    let before = count-by-value p f m n (λ j l. h j (omega arith)) in
+    let both = sum-plus (λ d. count (λ j. p j && eqb (f j) d) n) (λ d. cond (p n && eqb (f n) d) 1 0) m in
+    omega (arith, before, both, last (p n) (h n (omega arith)))
+  where
+    last : (t : Bool) → (t ≡ true → f n < m) → sum (λ d. cond (t && eqb (f n) d) 1 0) m ≡ cond t 1 0
+    last true l = count-as-sum (eqb (f n)) m ∙ count-one (f n) m (l refl)
+    last false l = sum-none (λ d. 0) m (λ d _. refl)
+
+pub sum-by-value : (f : ℕ → ℕ) (m n : ℕ) → ((j : ℕ) → j < n → f j < m) → sum (λ d. count (λ j. eqb (f j) d) n) m ≡ n
+sum-by-value f m n h = sym (count-by-value (λ j. true) f m n (λ j l _. h j l)) ∙ count-all (λ j. true) n (λ i l. refl)
+
+-- where two maps agree, and the second stays below m: at most as many as the first has at the numbers below m
+pub count-agreeing : (p : ℕ → Bool) (f g : ℕ → ℕ) (m n b : ℕ) → ((j : ℕ) → j < n → g j < m)
+    → ((d : ℕ) → d < m → count (λ j. p j && eqb (f j) d) n ≤ b) → count (λ j. p j && eqb (f j) (g j)) n ≤ m * b
+count-agreeing p f g m n b h most =
+    let by = count-by-value (λ j. p j && eqb (f j) (g j)) g m n (λ j l _. h j l) in
+    let each = sum-most (λ d. count (λ j. (p j && eqb (f j) (g j)) && eqb (g j) d) n) m b
+    (λ d l. let i = count-implied _ (λ j. p j && eqb (f j) d) n (λ j _ e. same j d e) in omega (arith, i, most d l)) in
+    omega (arith, by, each)
+  where
+    same : (j d : ℕ) → ((p j && eqb (f j) (g j)) && eqb (g j) d) ≡ true → (p j && eqb (f j) d) ≡ true
+    same j d e =
+        let left = and-left (p j && eqb (f j) (g j)) _ e in
+        and-both (and-left (p j) _ left)
+        (eq-eqb (f j) d (eqb-true (f j) (g j) (and-right (p j) _ left) ∙ eqb-true (g j) d (and-right (p j && eqb (f j) (g j)) _ e)))

@@ -13,9 +13,11 @@ pub mod ReasonsTrue
 pub mod MarkSpots
 pub mod MarkBlocks
 pub mod MoveCounts
+pub mod FewestMoves
 pub mod MovesTrue
 pub mod LiveMoves
 pub mod MoveCases
+pub mod FewestCases
 pub mod Theorems
 pub mod HistoryCode
 pub mod GrowthCode

@@ -54,7 +54,7 @@ next-or-later true w v =
     ]
 
 -- window 0, with no block copied, and those after it
-first-or-later : (a : Bool) (v : ℕ) → cond a 1 0 ≡ cond ((a && eqb v 0) && true) 1 0 + cond (a && ltb 0 v) 1 0
+pub first-or-later : (a : Bool) (v : ℕ) → cond a 1 0 ≡ cond ((a && eqb v 0) && true) 1 0 + cond (a && ltb 0 v) 1 0
 first-or-later false v = refl
 first-or-later true v =
     elim (ℕ-discrete v 0) [

@@ -151,7 +151,7 @@ module _ (m n b1 : ℕ) (hm : 0 < m) (hn : 0 < n) (hb : b1 < m + n) where
       ))
 
 -- only the row's place in its window counts
-index-mod : (m n d b : ℕ) → addedIndex m n d b ≡ addedIndex m n d (b % (m + n))
+pub index-mod : (m n d b : ℕ) → addedIndex m n d b ≡ addedIndex m n d (b % (m + n))
 unfolding addedIndex
 index-mod m n d b = ap (λ f. minusMod d f (m + n)) (sym (minus-mod-left (m + n) b (n - 1)))
 

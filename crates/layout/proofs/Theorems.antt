@@ -18,6 +18,7 @@ use Rattle.layout.specs.Limits.{Limits}
 use Rattle.layout.specs.Reasons.{reasonAfter, reasonOf, moveCountOf}
 use Rattle.layout.specs.Tally.{Tally, isRunning, movedBlocks}
 use Rattle.layout.specs.Laws.{RemainderOf, Bijection, Moving, LiveSpots, Marks, MarksFit, Counts, LookUps, AddedAt, HeadBeforeTail, ReasonTrue, MovesTrue, GrowthMoves, LiveMoves, LayoutLaws}
+use Rattle.layout.specs.FewestMoves.{FewestInGrowth, FewestMoves}
 use Rattle.layout.specs.Cases.{TableHolds, table, worked}
 use Rattle.layout.proofs.Histories.{rising-up}
 use Rattle.layout.proofs.Remainder.{remainder}
@@ -32,6 +33,8 @@ use Rattle.layout.proofs.MoveCounts.{counts-law, growth-law}
 use Rattle.layout.proofs.MovesTrue.{moves-at-format, moves-one-more, moves-law, only-moves-law}
 use Rattle.layout.proofs.LiveMoves.{live-moves-law}
 use Rattle.layout.proofs.MoveCases.{moves-hold}
+use Rattle.layout.proofs.FewestMoves.{every-growth-law, fewest-law, restripe-law}
+use Rattle.layout.proofs.FewestCases.{spreads-hold, racks-hold}
 use Rattle.layout.proofs.WindowsCode.{marks-most}
 
 -- the remainder of b-(n-1) is the true one, also for b < n-1
@@ -128,6 +131,17 @@ added-blocks t r g e =
     (λ c m h q. added-law (t .rows) c m h q (t .window) (t .copied) (t .recorded) (t .mode) e)
     (t .counts) r g
 
+-- document 02, W8
+pub fewest-moves : FewestMoves
+fewest-moves =
+    record {
+      every-growth = every-growth-law;
+      in-growth = λ s. has-growth (FewestInGrowth s) (fewest-law s);
+      restripe = restripe-law;
+      spread-cases = spreads-hold;
+      racks = racks-hold;
+    }
+
 -- with as many disks added as there were, a row that fits head and tail is told as head
 pub head-before-tail : (m : ℕ) → HeadBeforeTail m
 unfolding partOf moves
@@ -173,5 +187,6 @@ layout-laws =
       growth-moves = growth-moves;
       live-moves = live-moves;
       move-cases = moves-hold;
+      fewest-moves = fewest-moves;
       layout-cases = layout-cases;
     }

@@ -23,6 +23,7 @@ use Rattle.layout.specs.Tally.{Tally, isRunning, openBlocks, movedBlocks
 use Rattle.layout.specs.Limits.{Limits}
 use Rattle.layout.specs.Cases.{TableHolds}
 use Rattle.layout.specs.MoveCases.{MovesHold}
+use Rattle.layout.specs.FewestMoves.{FewestMoves}
 
 -- r is the remainder of a - c by k, also where a is less than c; no other number is
 pub record RemainderOf (a c k r : ℕ) : Type 0 where
@@ -235,5 +236,7 @@ pub record LayoutLaws : Type 0 where
   pub growth-moves : (s : ℕ) (h : List ℕ) → rising h ≡ true → 0 < oldCount h → GrowthMoves s h
   pub live-moves : (t : Tally) → rising (t .counts) ≡ true → (isRunning (t .mode) ≡ true → 0 < oldCount (t .counts)) → LiveMoves t
   pub move-cases : MovesHold
+  -- Document 02, W8
+  pub fewest-moves : FewestMoves
   -- L1 to L12
   pub layout-cases : TableHolds

@@ -5,6 +5,9 @@ pub mod Live
 pub mod Reasons
 pub mod Tally
 pub mod Limits
+pub mod Spreads
 pub mod Laws
 pub mod Cases
 pub mod MoveCases
+pub mod FewestCases
+pub mod FewestMoves

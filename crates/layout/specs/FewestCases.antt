@@ -1,0 +1,149 @@
+-- Document 02, W8: spreads of one window, the least over all of them, and moves of whole growths, as one table. `proofs/FewestCases.antt` has its
+-- one proof: examples of what is claimed, counterexamples to what is not, and a check that "at least m·n" is no accident of words.
+use Prim.Native.Nat.{ℕ, zero, suc, _+_, _-_, _*_, min}
+use mathlib.Core.Path.{_≡_}
+use mathlib.Core.Bool.{Bool, false, cond}
+use mathlib.Core.List.{List, [], _∷_, map}
+use lib.Dec.{eqb}
+use lib.ListN.{length, getD}
+use Rattle.base.specs.Below.{every, joined, table}
+use Rattle.layout.specs.History.{oldCount, addedCount}
+use Rattle.layout.specs.Windows.{oldSpot, uncopied, callsLeft}
+use Rattle.layout.specs.Limits.{mostRows}
+use Rattle.layout.specs.Spreads.{diskOf, inWindow, onDisk, onAnotherDisk, partAtGrow, restripeMoves}
+
+-- ---- all spreads of a window
+
+-- a spread as a list: the disk of block 0, that of block 1, and so on
+abbrev pub listed : (disks : List ℕ) (x : ℕ) → ℕ
+listed disks x = getD disks x 0
+
+-- all spreads of so many blocks to so many disks
+unfoldable pub allSpreads : (disks blocks : ℕ) → List (List ℕ)
+allSpreads disks zero = [] ∷ []
+allSpreads disks (suc blocks) = joined (λ d. map (λ f. d ∷ f) (allSpreads disks blocks)) disks
+
+-- Of the newest growth of a history, with the rows of one whole window, m+n: its old blocks are those below m·(m+n).
+module _ (h : List ℕ) where
+  abbrev oneWindow : ℕ
+  oneWindow = oldCount h + addedCount h
+
+  -- "with m on each disk"
+  unfoldable pub isEven : (f : ℕ → ℕ) → Bool
+  isEven f = every (λ d. eqb (onDisk oneWindow h (inWindow oneWindow h 0) f d) (oldCount h)) (oldCount h + addedCount h)
+
+  -- for each spread with m on each disk, the number on another disk than before
+  unfoldable pub evenMoves : (spreads : List (List ℕ)) → List ℕ
+  evenMoves [] = []
+  evenMoves (f ∷ rest) = cond (isEven (listed f)) (onAnotherDisk oneWindow h (inWindow oneWindow h 0) (listed f) ∷ evenMoves rest) (evenMoves rest)
+
+-- the least of some numbers and a
+unfoldable pub leastOf : (a : ℕ) (numbers : List ℕ) → ℕ
+leastOf a [] = a
+leastOf a (b ∷ rest) = leastOf (min a b) rest
+
+-- how many of some numbers are a
+unfoldable pub timesIn : (a : ℕ) (numbers : List ℕ) → ℕ
+timesIn a [] = 0
+timesIn a (b ∷ rest) = cond (eqb a b) 1 0 + timesIn a rest
+
+-- ---- the table
+
+-- A volume has history h and s rows.
+-- Ours: the finished growth has so many of the old blocks of window w on each disk, and so many on another disk than before.
+-- Unmoved: the same where each block stays on its disk.
+-- Other: the same of a spread that is given as a list.
+-- Part: window w's part of U at grow.
+-- Least: one window has so many spreads, so many of them have m on each disk, and of these the least number on another disk than before is
+-- moves, reached by so many.
+-- Restripe: the moves of a full restripe from m disks by n.
+pub data Case : Type 0 where
+  Ours : (h : List ℕ) (s w : ℕ) (on : List ℕ) (another : ℕ) → Case
+  Unmoved : (h : List ℕ) (s w : ℕ) (on : List ℕ) (another : ℕ) → Case
+  Other : (h : List ℕ) (s w : ℕ) (f on : List ℕ) (another : ℕ) → Case
+  Part : (h : List ℕ) (s w moves : ℕ) → Case
+  Least : (h : List ℕ) (spreads even moves reached : ℕ) → Case
+  Restripe : (m n s moves : ℕ) → Case
+
+abbrev pub spreadCases : List Case
+spreadCases =
+    -- 2 disks and 1 more: m·n is 2
+    Ours (3 ∷ 2 ∷ []) 3 0 (2 ∷ 2 ∷ 2 ∷ []) 2
+    -- 2 disks that were 1: the old blocks are on disks 1, 0, 1, 0, 1, 0, where round-robin would have 0, 1, 0, 1, 0, 1
+    ∷ Ours (3 ∷ 2 ∷ 1 ∷ []) 3 0 (2 ∷ 2 ∷ 2 ∷ []) 2
+    ∷ Other (3 ∷ 2 ∷ 1 ∷ []) 3 0 (1 ∷ 0 ∷ 1 ∷ 0 ∷ 1 ∷ 0 ∷ []) (3 ∷ 3 ∷ 0 ∷ []) 0
+    ∷ Other (3 ∷ 2 ∷ 1 ∷ []) 3 0 (0 ∷ 1 ∷ 0 ∷ 1 ∷ 0 ∷ 1 ∷ []) (3 ∷ 3 ∷ 0 ∷ []) 6
+    -- a later window
+    ∷ Ours (3 ∷ 2 ∷ 1 ∷ []) 7 1 (2 ∷ 2 ∷ 2 ∷ []) 2
+    -- fewer moves, and not m on each disk
+    ∷ Unmoved (3 ∷ 2 ∷ []) 3 0 (3 ∷ 3 ∷ 0 ∷ []) 0
+    ∷ Other (3 ∷ 2 ∷ []) 3 0 (2 ∷ 1 ∷ 0 ∷ 1 ∷ 0 ∷ 1 ∷ []) (2 ∷ 3 ∷ 1 ∷ []) 1
+    -- as many moves, and not m on each disk
+    ∷ Other (3 ∷ 2 ∷ []) 3 0 (2 ∷ 1 ∷ 2 ∷ 1 ∷ 0 ∷ 1 ∷ []) (1 ∷ 3 ∷ 2 ∷ []) 2
+    -- another spread with m on each disk and as many moves
+    ∷ Other (3 ∷ 2 ∷ []) 3 0 (0 ∷ 2 ∷ 2 ∷ 1 ∷ 0 ∷ 1 ∷ []) (2 ∷ 2 ∷ 2 ∷ []) 2
+    -- round-robin: m on each disk, and more moves
+    ∷ Other (3 ∷ 2 ∷ []) 3 0 (0 ∷ 1 ∷ 2 ∷ 0 ∷ 1 ∷ 2 ∷ []) (2 ∷ 2 ∷ 2 ∷ []) 4
+    -- m on each of the first disks, and a disk that is not there
+    ∷ Other (3 ∷ 2 ∷ []) 3 0 (0 ∷ 1 ∷ 0 ∷ 1 ∷ 2 ∷ 3 ∷ []) (2 ∷ 2 ∷ 1 ∷ []) 2
+    -- a window cut off to one row: only its moves are claimed. Left as they were, its blocks were spread as evenly
+    ∷ Ours (3 ∷ 2 ∷ []) 1 0 (0 ∷ 1 ∷ 1 ∷ []) 1
+    ∷ Unmoved (3 ∷ 2 ∷ []) 1 0 (1 ∷ 1 ∷ 0 ∷ []) 0
+    ∷ Part (3 ∷ 2 ∷ []) 1 0 1
+    -- 3 disks and 2 more, with 9 rows: a whole window, one cut off to 4 rows, and no third
+    ∷ Part (5 ∷ 3 ∷ []) 9 0 6
+    ∷ Part (5 ∷ 3 ∷ []) 9 1 6
+    ∷ Part (5 ∷ 3 ∷ []) 7 1 3
+    ∷ Part (5 ∷ 3 ∷ []) 9 2 0
+    -- the least over all spreads is m·n
+    ∷ Least (2 ∷ 1 ∷ []) 4 2 1 2
+    ∷ Least (3 ∷ 1 ∷ []) 27 6 2 6
+    ∷ Least (3 ∷ 2 ∷ []) 729 90 2 9
+    ∷ Least (3 ∷ 2 ∷ 1 ∷ []) 729 90 2 9
+    -- a full restripe leaves m blocks where they were
+    ∷ Restripe 2 1 3 4
+    ∷ Restripe 3 2 5 12
+    ∷ []
+
+-- how many of window w's old blocks f has on each disk
+abbrev pub onDisks : (s : ℕ) (h : List ℕ) (w : ℕ) (f : ℕ → ℕ) → List ℕ
+onDisks s h w f = table (onDisk s h (inWindow s h w) f) (oldCount h + addedCount h)
+
+-- all spreads of one window, and the moves of those with m on each disk
+abbrev pub windowSpreads : (h : List ℕ) → List (List ℕ)
+windowSpreads h = allSpreads (oldCount h + addedCount h) (oldCount h * (oldCount h + addedCount h))
+
+-- Least from the moves of the even spreads
+unfoldable pub leastCase : (h : List ℕ) (spreads : ℕ) (moves : List ℕ) → Case
+leastCase h spreads moves =
+    let least = leastOf (oldCount h * (oldCount h + addedCount h)) moves in
+    Least h spreads (length moves) least (timesIn least moves)
+
+-- a case with its numbers worked out from the definitions
+unfoldable pub worked : Case → Case
+worked (Ours h s w on another) = Ours h s w (onDisks s h w (diskOf s h)) (onAnotherDisk s h (inWindow s h w) (diskOf s h))
+worked (Unmoved h s w on another) =
+    let f : ℕ → ℕ = λ x. oldSpot s h x .disk in
+    Unmoved h s w (onDisks s h w f) (onAnotherDisk s h (inWindow s h w) f)
+worked (Other h s w f on another) = Other h s w f (onDisks s h w (listed f)) (onAnotherDisk s h (inWindow s h w) (listed f))
+worked (Part h s w moves) = Part h s w (partAtGrow s h w)
+worked (Least h spreads even moves reached) = leastCase h (length (windowSpreads h)) (evenMoves h (windowSpreads h))
+worked (Restripe m n s moves) = Restripe m n s (restripeMoves m n s)
+
+-- the table is right: worked out, it is the same table
+abbrev pub SpreadsHold : Type 0
+SpreadsHold = map worked spreadCases ≡ spreadCases
+
+-- ---- the racks of the data sheet
+
+-- From m disks to c, with the most rows that a disk may have: U at grow, the advance calls that grow tells, and the moves of a full restripe
+pub record Rack (m c moves calls restripe : ℕ) : Type 0 where
+  pub moves-at-grow : uncopied mostRows (c ∷ m ∷ []) 0 (λ x. false) ≡ moves
+  pub calls-told : callsLeft mostRows (c ∷ m ∷ []) 0 (λ x. false) ≡ calls
+  pub restripe-moves : restripeMoves m (c - m) mostRows ≡ restripe
+
+pub record Racks : Type 0 where
+  pub three-to-five : Rack 3 5 1_200_000 1_400_000 2_999_997
+  pub four-to-eight : Rack 4 8 2_000_000 2_125_000 3_999_996
+  -- the last window is cut off to 4 rows: 4 + 3 + 2 + 1 moves
+  pub eight-to-twelve : Rack 8 12 2_666_666 2_750_000 7_999_992
