@@ -13,21 +13,19 @@ use Rattle.base.proofs.Booleans.{and-left, and-right, and-both, clash, by-test,
 use Rattle.base.proofs.Counting.{count-ext, count-zero, count-split, count-by-test, count-from, sum-all, sum-plus, OneToOne, count-one-to-one, count-by-value, count-agreeing}
 use Rattle.layout.specs.declared.Row.{Row}
 use Rattle.layout.specs.declared.Spot.{Spot}
+use Rattle.layout.specs.Cases.{at}
 use Rattle.layout.specs.Growth.{minusMod, diskAfter, addedIndex, spotBefore, oldBlockSpot}
 use Rattle.layout.specs.History.{Within, diskCount, earlier, oldCount, addedCount, rising, spotOf, blockAt}
-use Rattle.layout.specs.Windows.{oldSpot, moving, windowOfRow, windowOf, movingIn, movesOfWindow, windows, uncopied, cutMoves}
-use Rattle.layout.specs.Spreads.{diskOf, inWindow, chosenCount, onDisk, onAnotherDisk, IsSpread, OnEachDisk, partOfUncopied, partAtGrow, restriped, restripeMoves}
-use Rattle.layout.specs.FewestMoves.{EverySpread, WindowSpread, WindowLeast, VolumeSpread, VolumeLeast, PartsOfU, EveryGrowth, FewestInGrowth}
+use Rattle.layout.specs.Windows.{oldSpot, moving, windowOfRow, windowOf, movingIn, movesOfWindow, windows, uncopied}
+use Rattle.layout.specs.Spreads.{diskOf, inWindow, inFirst, chosenCount, onDisk, onAnotherDisk, IsSpread, OnEachDisk, partOfUncopied, partAtGrow, restriped, restripeMoves}
+use Rattle.layout.specs.FewestMoves.{EverySpread, WindowSpread, WindowLeast, FirstWindowsSpread, FirstWindowsLeast, PartsOfU, EveryGrowth, FewestInGrowth}
 use Rattle.layout.proofs.Histories.{not-rising, rising-some}
 use Rattle.layout.proofs.Remainder.{minus-below, minus-minus, minus-twice}
 use Rattle.layout.proofs.OneRow.{index-mod, old-there, old-back}
 use Rattle.layout.proofs.OneGrowth.{spot-after-old, block-after-old}
-use Rattle.layout.proofs.NewestGrowth.{up, old-some, old-bijection, new-bijection, old-within, still-there, moving-law}
-use Rattle.layout.proofs.MarkBlocks.{marks-law}
+use Rattle.layout.proofs.NewestGrowth.{up, old-bijection, new-bijection, old-within, still-there, moving-law}
+use Rattle.layout.proofs.MarkBlocks.{old-pos, added-pos, marks-law}
 use Rattle.layout.proofs.MoveCounts.{first-or-later, counts-law}
-
-abbrev spot : (d b : ℕ) → Spot
-spot d b = record { disk = d; row = record { 0 = b } }
 
 -- of the rows of a window, disk d has an old block in m: an added one is there where addedIndex, which takes each value below m+n once, is below n
 old-rows : (m n d : ℕ) → 0 < n → count (λ b. leb n (addedIndex m n d b)) (m + n) ≡ m
@@ -61,13 +59,13 @@ module _ (s c m : ℕ) (h : List ℕ) (r : rising (c ∷ m ∷ h) ≡ true) wher
   H = c ∷ m ∷ h
 
   hm : 0 < m
-  hm = old-some s c m h r
+  hm = old-pos s c m h r
 
   hn : 0 < n
-  hn = omega (arith, up s c m h r)
+  hn = added-pos s c m h r
 
-  hk : 0 < k
-  hk = omega (arith, hm)
+  disks-some : 0 < k
+  disks-some = omega (arith, hm)
 
   old-disk : (x : ℕ) → x < m * s → oldSpot s H x .disk < m
   unfolding oldSpot earlier diskCount
@@ -126,9 +124,9 @@ module _ (s c m : ℕ) (h : List ℕ) (r : rising (c ∷ m ∷ h) ≡ true) wher
   unfolding oldCount addedCount earlier diskCount
   ours-spread chosen x l e = rw (new-disk x l) (old-there m n (oldSpot s H x .row .0) hm hn (oldSpot s H x .disk) (old-disk x l) .0)
 
-  same-row : (x : ℕ) → x < m * s → spotOf s H x .row .0 ≡ oldSpot s H x .row .0
+  row-kept : (x : ℕ) → x < m * s → spotOf s H x .row .0 ≡ oldSpot s H x .row .0
   unfolding oldCount earlier diskCount
-  same-row x l = ap (λ (b : Row). b .0) (moving-law s c m h r .same-row x l)
+  row-kept x l = ap (λ (b : Row). b .0) (moving-law s c m h r .same-row x l)
 
   abbrev rowOf : ℕ → ℕ
   rowOf x = oldSpot s H x .row .0
@@ -152,9 +150,9 @@ module _ (s c m : ℕ) (h : List ℕ) (r : rising (c ∷ m ∷ h) ≡ true) wher
 
     -- the block that disk d has in row b of the window
     block-on : ℕ → ℕ
-    block-on b = blockAt s H (spot d (w * k + b))
+    block-on b = blockAt s H (at d (w * k + b))
 
-    here : (b : ℕ) → b < k → Within s H (spot d (w * k + b))
+    here : (b : ℕ) → b < k → Within s H (at d (w * k + b))
     unfolding diskCount
     here b l = record { disk = omega (arith, hd, up s c m h r); row = row-exists b l }
 
@@ -163,8 +161,8 @@ module _ (s c m : ℕ) (h : List ℕ) (r : rising (c ∷ m ∷ h) ≡ true) wher
     older b l e =
         let i : n ≤ addedIndex m n d (w * k + b) = rw (index-mod m n d (w * k + b), digits-mod w l) e in
         let o = old-back m n (w * k + b) hm hn d hd i in
-        rw (block-after-old m n s (spot d (w * k + b)) (blockAt s (m ∷ h) (spotBefore m n (spot d (w * k + b)))) i)
-        (old-bijection s c m h r .block-within (spotBefore m n (spot d (w * k + b))) (record { disk = o .0; row = row-exists b l }))
+        rw (block-after-old m n s (at d (w * k + b)) (blockAt s (m ∷ h) (spotBefore m n (at d (w * k + b)))) i)
+        (old-bijection s c m h r .block-within (spotBefore m n (at d (w * k + b))) (record { disk = o .0; row = row-exists b l }))
 
     -- an old block that the growth has on disk d: there is no added one
     not-added : (x : ℕ) → x < m * s → diskOf s H x ≡ d → n ≤ addedIndex m n d (rowOf x % k)
@@ -179,15 +177,15 @@ module _ (s c m : ℕ) (h : List ℕ) (r : rising (c ∷ m ∷ h) ≡ true) wher
         record {
           there = λ x l e.
               let g : diskOf s H x ≡ d = eqb-true _ d (and-right (inWindow s H w x) _ e) in
-              let z : w * k + rowOf x % k ≡ spotOf s H x .row .0 = sym (row-in x (and-left (inWindow s H w x) _ e)) ∙ sym (same-row x l) in (
-                mod-lt (rowOf x) hk,
+              let z : w * k + rowOf x % k ≡ spotOf s H x .row .0 = sym (row-in x (and-left (inWindow s H w x) _ e)) ∙ sym (row-kept x l) in (
+                mod-lt (rowOf x) disks-some,
                 le-leb n _ (not-added x l g),
-                (λ i. blockAt s H (spot (sym g i) (z i))) ∙ new-bijection s c m h r .block-of-spot x (unfold diskCount in still-there s c m h r x l),
+                (λ i. blockAt s H (at (sym g i) (z i))) ∙ new-bijection s c m h r .block-of-spot x (unfold diskCount in still-there s c m h r x l),
               );
           back = λ b l e.
               let low = older b l (leb-true n (addedIndex m n d b) e) in
-              let q = new-bijection s c m h r .spot-of-block (spot d (w * k + b)) (here b l) in
-              let z : rowOf (block-on b) ≡ w * k + b = sym (same-row (block-on b) low) ∙ ap (λ (u : Spot). u .row .0) q in (
+              let q = new-bijection s c m h r .spot-of-block (at d (w * k + b)) (here b l) in
+              let z : rowOf (block-on b) ≡ w * k + b = sym (row-kept (block-on b) low) ∙ ap (λ (u : Spot). u .row .0) q in (
                 low,
                 and-both (in-row (block-on b) b l z) (eq-eqb _ d (ap (λ (u : Spot). u .disk) q)),
                 ap (λ (j : ℕ). j % k) z ∙ digits-mod w l,
@@ -234,42 +232,50 @@ module _ (s c m : ℕ) (h : List ℕ) (r : rising (c ∷ m ∷ h) ≡ true) wher
     unfolding oldCount addedCount earlier diskCount
     window-least-law = every-spread (inWindow s H w) m window-blocks
 
-  -- ---- ours, in q whole windows
+  -- ---- ours, in the first q windows
 
-  module _ (q : ℕ) (all : s ≡ q * k) where
-    window-below : (x : ℕ) → x < m * s → windowOf s H x < q
-    window-below x l =
-        let b : rowOf x < q * k = subst (λ (z : ℕ). rowOf x < z) all (unfold oldSpot earlier in old-within s c m h r x l .row) in
-        rw (window-of x) (div-lt-iff-lt-mul hk .1 b)
-
+  module _ (q : ℕ) (fit : q * k ≤ s) where
     fits : (w : ℕ) → w < q → suc w * k ≤ s
-    fits w l = subst (λ (z : ℕ). suc w * k ≤ z) (sym all) (mul-le-mul-right k l)
+    fits w l = omega (arith, mul-le-mul-right k l)
 
     -- a test with as many in each window
-    by-windows : (p : ℕ → Bool) (each : ℕ) → ((w : ℕ) → w < q → count (λ x. inWindow s H w x && p x) (m * s) ≡ each) → count p (m * s) ≡ q * each
+    by-windows : (p : ℕ → Bool) (each : ℕ) → ((w : ℕ) → w < q → count (λ x. inWindow s H w x && p x) (m * s) ≡ each)
+        → count (λ x. inFirst s H q x && p x) (m * s) ≡ q * each
     by-windows p each f =
-        count-by-value p (windowOf s H) q (m * s) (λ x l e. window-below x l)
-        ∙ sum-all _ q each (λ w l. count-ext _ _ (m * s) (λ x _. and-comm (p x) (inWindow s H w x)) ∙ f w l)
+        count-by-value (λ x. inFirst s H q x && p x) (windowOf s H) q (m * s) (λ x l e. ltb-true _ q (and-left (inFirst s H q x) _ e))
+        ∙ sum-all _ q each (λ w l. count-ext _ (λ x. inWindow s H w x && p x) (m * s) (λ x _. one w l x) ∙ f w l)
+      where
+        one : (w : ℕ) → w < q → (x : ℕ) → ((inFirst s H q x && p x) && inWindow s H w x) ≡ (inWindow s H w x && p x)
+        one w l x =
+            same-test _ _ (λ e. and-both (and-right (inFirst s H q x && p x) _ e) (and-right (inFirst s H q x) _ (and-left (inFirst s H q x && p x) _ e)))
+            (λ e.
+            let z : windowOf s H x ≡ w = eqb-true _ w (and-left (inWindow s H w x) _ e) in
+            and-both (and-both (lt-ltb (windowOf s H x) q (omega arith)) (and-right (inWindow s H w x) _ e)) (and-left (inWindow s H w x) _ e))
 
-    volume-even : OnEachDisk s H (λ x. true) (q * m) (diskOf s H)
+    first-even : OnEachDisk s H (inFirst s H q) (q * m) (diskOf s H)
     unfolding onDisk oldCount addedCount earlier diskCount
-    volume-even d hd = by-windows (λ x. eqb (diskOf s H x) d) m (λ w l. m-on-disk w (fits w l) d hd)
+    first-even d hd = by-windows (λ x. eqb (diskOf s H x) d) m (λ w l. m-on-disk w (fits w l) d hd)
 
-    volume-blocks : chosenCount s H (λ x. true) ≡ q * m * k
-    volume-blocks = blocks-of-spread (λ x. true) (q * m) (diskOf s H) volume-even (ours-spread (λ x. true))
+    first-blocks : chosenCount s H (inFirst s H q) ≡ q * m * k
+    first-blocks = blocks-of-spread (inFirst s H q) (q * m) (diskOf s H) first-even (ours-spread (inFirst s H q))
 
-    volume-moved : onAnotherDisk s H (λ x. true) (diskOf s H) ≡ q * (m * n)
+    first-moved : onAnotherDisk s H (inFirst s H q) (diskOf s H) ≡ q * (m * n)
     unfolding onAnotherDisk oldCount addedCount earlier diskCount
-    volume-moved =
+    first-moved =
         by-windows (λ x. not (eqb (diskOf s H x) (oldSpot s H x .disk))) (m * n) (λ w l. moved-in-window w ∙ counts-law s c m h r .whole-window w (fits w l))
 
-    pub volume-spread-law : VolumeSpread s H q
+    pub first-windows-spread-law : FirstWindowsSpread s H q
     unfolding oldCount addedCount earlier diskCount
-    volume-spread-law = record { blocks = volume-blocks; is-spread = ours-spread (λ x. true); even = volume-even; moved = volume-moved }
+    first-windows-spread-law = record { blocks = first-blocks; is-spread = ours-spread (inFirst s H q); even = first-even; moved = first-moved }
 
-    pub volume-least-law : VolumeLeast s H q
+    pub first-windows-least-law : FirstWindowsLeast s H q
     unfolding oldCount addedCount earlier diskCount
-    volume-least-law = subst (EverySpread s H (λ x. true) (q * m)) (mul-assoc q m n) (every-spread (λ x. true) (q * m) volume-blocks)
+    first-windows-least-law = subst (EverySpread s H (inFirst s H q) (q * m)) (mul-assoc q m n) (every-spread (inFirst s H q) (q * m) first-blocks)
+
+  all-old-law : (q : ℕ) → s ≡ q * k → (x : ℕ) → x < m * s → inFirst s H q x ≡ true
+  all-old-law q all x l =
+      let b : rowOf x < q * k = subst (λ (z : ℕ). rowOf x < z) all (unfold oldSpot earlier in old-within s c m h r x l .row) in
+      lt-ltb (windowOf s H x) q (rw (window-of x) (div-lt-iff-lt-mul disks-some .1 b))
 
   -- ---- the windows' parts of U
 
@@ -314,8 +320,9 @@ module _ (s c m : ℕ) (h : List ℕ) (r : rising (c ∷ m ∷ h) ≡ true) wher
       record {
         window-spread = window-spread-law;
         window-least = window-least-law;
-        volume-spread = volume-spread-law;
-        volume-least = volume-least-law;
+        first-windows-spread = first-windows-spread-law;
+        first-windows-least = first-windows-least-law;
+        all-old = all-old-law;
         parts = parts-law;
       }
 

@@ -10,7 +10,7 @@ use Rattle.base.specs.Below.{every, joined, table}
 use Rattle.layout.specs.History.{oldCount, addedCount}
 use Rattle.layout.specs.Windows.{oldSpot, uncopied, callsLeft}
 use Rattle.layout.specs.Limits.{mostRows}
-use Rattle.layout.specs.Spreads.{diskOf, inWindow, onDisk, onAnotherDisk, partAtGrow, restripeMoves}
+use Rattle.layout.specs.Spreads.{diskOf, inWindow, inFirst, onDisk, onAnotherDisk, partAtGrow, restripeMoves}
 
 -- ---- all spreads of a window
 
@@ -49,8 +49,13 @@ timesIn a (b ∷ rest) = cond (eqb a b) 1 0 + timesIn a rest
 
 -- ---- the table
 
+-- the old blocks of window w, and those of the first q windows
+pub data Blocks : Type 0 where
+  Window : (w : ℕ) → Blocks
+  FirstWindows : (q : ℕ) → Blocks
+
 -- A volume has history h and s rows.
--- Ours: the finished growth has so many of the old blocks of window w on each disk, and so many on another disk than before.
+-- Ours: the finished growth has so many of these old blocks on each disk, and so many on another disk than before.
 -- Unmoved: the same where each block stays on its disk.
 -- Other: the same of a spread that is given as a list.
 -- Part: window w's part of U at grow.
@@ -58,9 +63,9 @@ timesIn a (b ∷ rest) = cond (eqb a b) 1 0 + timesIn a rest
 -- moves, reached by so many.
 -- Restripe: the moves of a full restripe from m disks by n.
 pub data Case : Type 0 where
-  Ours : (h : List ℕ) (s w : ℕ) (on : List ℕ) (another : ℕ) → Case
-  Unmoved : (h : List ℕ) (s w : ℕ) (on : List ℕ) (another : ℕ) → Case
-  Other : (h : List ℕ) (s w : ℕ) (f on : List ℕ) (another : ℕ) → Case
+  Ours : (h : List ℕ) (s : ℕ) (b : Blocks) (on : List ℕ) (another : ℕ) → Case
+  Unmoved : (h : List ℕ) (s : ℕ) (b : Blocks) (on : List ℕ) (another : ℕ) → Case
+  Other : (h : List ℕ) (s : ℕ) (b : Blocks) (f on : List ℕ) (another : ℕ) → Case
   Part : (h : List ℕ) (s w moves : ℕ) → Case
   Least : (h : List ℕ) (spreads even moves reached : ℕ) → Case
   Restripe : (m n s moves : ℕ) → Case
@@ -68,29 +73,33 @@ pub data Case : Type 0 where
 abbrev pub spreadCases : List Case
 spreadCases =
     -- 2 disks and 1 more: m·n is 2
-    Ours (3 ∷ 2 ∷ []) 3 0 (2 ∷ 2 ∷ 2 ∷ []) 2
+    Ours (3 ∷ 2 ∷ []) 3 (Window 0) (2 ∷ 2 ∷ 2 ∷ []) 2
     -- 2 disks that were 1: the old blocks are on disks 1, 0, 1, 0, 1, 0, where round-robin would have 0, 1, 0, 1, 0, 1
-    ∷ Ours (3 ∷ 2 ∷ 1 ∷ []) 3 0 (2 ∷ 2 ∷ 2 ∷ []) 2
-    ∷ Other (3 ∷ 2 ∷ 1 ∷ []) 3 0 (1 ∷ 0 ∷ 1 ∷ 0 ∷ 1 ∷ 0 ∷ []) (3 ∷ 3 ∷ 0 ∷ []) 0
-    ∷ Other (3 ∷ 2 ∷ 1 ∷ []) 3 0 (0 ∷ 1 ∷ 0 ∷ 1 ∷ 0 ∷ 1 ∷ []) (3 ∷ 3 ∷ 0 ∷ []) 6
+    ∷ Ours (3 ∷ 2 ∷ 1 ∷ []) 3 (Window 0) (2 ∷ 2 ∷ 2 ∷ []) 2
+    ∷ Other (3 ∷ 2 ∷ 1 ∷ []) 3 (Window 0) (1 ∷ 0 ∷ 1 ∷ 0 ∷ 1 ∷ 0 ∷ []) (3 ∷ 3 ∷ 0 ∷ []) 0
+    ∷ Other (3 ∷ 2 ∷ 1 ∷ []) 3 (Window 0) (0 ∷ 1 ∷ 0 ∷ 1 ∷ 0 ∷ 1 ∷ []) (3 ∷ 3 ∷ 0 ∷ []) 6
     -- a later window
-    ∷ Ours (3 ∷ 2 ∷ 1 ∷ []) 7 1 (2 ∷ 2 ∷ 2 ∷ []) 2
+    ∷ Ours (3 ∷ 2 ∷ 1 ∷ []) 7 (Window 1) (2 ∷ 2 ∷ 2 ∷ []) 2
+    ∷ Ours (3 ∷ 2 ∷ 1 ∷ []) 7 (FirstWindows 2) (4 ∷ 4 ∷ 4 ∷ []) 4
     -- fewer moves, and not m on each disk
-    ∷ Unmoved (3 ∷ 2 ∷ []) 3 0 (3 ∷ 3 ∷ 0 ∷ []) 0
-    ∷ Other (3 ∷ 2 ∷ []) 3 0 (2 ∷ 1 ∷ 0 ∷ 1 ∷ 0 ∷ 1 ∷ []) (2 ∷ 3 ∷ 1 ∷ []) 1
+    ∷ Unmoved (3 ∷ 2 ∷ []) 3 (Window 0) (3 ∷ 3 ∷ 0 ∷ []) 0
+    ∷ Other (3 ∷ 2 ∷ []) 3 (Window 0) (2 ∷ 1 ∷ 0 ∷ 1 ∷ 0 ∷ 1 ∷ []) (2 ∷ 3 ∷ 1 ∷ []) 1
     -- as many moves, and not m on each disk
-    ∷ Other (3 ∷ 2 ∷ []) 3 0 (2 ∷ 1 ∷ 2 ∷ 1 ∷ 0 ∷ 1 ∷ []) (1 ∷ 3 ∷ 2 ∷ []) 2
+    ∷ Other (3 ∷ 2 ∷ []) 3 (Window 0) (2 ∷ 1 ∷ 2 ∷ 1 ∷ 0 ∷ 1 ∷ []) (1 ∷ 3 ∷ 2 ∷ []) 2
     -- another spread with m on each disk and as many moves
-    ∷ Other (3 ∷ 2 ∷ []) 3 0 (0 ∷ 2 ∷ 2 ∷ 1 ∷ 0 ∷ 1 ∷ []) (2 ∷ 2 ∷ 2 ∷ []) 2
+    ∷ Other (3 ∷ 2 ∷ []) 3 (Window 0) (0 ∷ 2 ∷ 2 ∷ 1 ∷ 0 ∷ 1 ∷ []) (2 ∷ 2 ∷ 2 ∷ []) 2
     -- round-robin: m on each disk, and more moves
-    ∷ Other (3 ∷ 2 ∷ []) 3 0 (0 ∷ 1 ∷ 2 ∷ 0 ∷ 1 ∷ 2 ∷ []) (2 ∷ 2 ∷ 2 ∷ []) 4
+    ∷ Other (3 ∷ 2 ∷ []) 3 (Window 0) (0 ∷ 1 ∷ 2 ∷ 0 ∷ 1 ∷ 2 ∷ []) (2 ∷ 2 ∷ 2 ∷ []) 4
     -- m on each of the first disks, and a disk that is not there
-    ∷ Other (3 ∷ 2 ∷ []) 3 0 (0 ∷ 1 ∷ 0 ∷ 1 ∷ 2 ∷ 3 ∷ []) (2 ∷ 2 ∷ 1 ∷ []) 2
+    ∷ Other (3 ∷ 2 ∷ []) 3 (Window 0) (0 ∷ 1 ∷ 0 ∷ 1 ∷ 2 ∷ 3 ∷ []) (2 ∷ 2 ∷ 1 ∷ []) 2
+    -- two windows: even in the whole and not in each window, and as many moves
+    ∷ Other (2 ∷ 1 ∷ []) 4 (FirstWindows 2) (0 ∷ 0 ∷ 1 ∷ 1 ∷ []) (2 ∷ 2 ∷ []) 2
+    ∷ Other (2 ∷ 1 ∷ []) 4 (Window 0) (0 ∷ 0 ∷ 1 ∷ 1 ∷ []) (2 ∷ 0 ∷ []) 0
     -- a window cut off to one row: only its moves are claimed. Left as they were, its blocks were spread as evenly
-    ∷ Ours (3 ∷ 2 ∷ []) 1 0 (0 ∷ 1 ∷ 1 ∷ []) 1
-    ∷ Unmoved (3 ∷ 2 ∷ []) 1 0 (1 ∷ 1 ∷ 0 ∷ []) 0
+    ∷ Ours (3 ∷ 2 ∷ []) 1 (Window 0) (0 ∷ 1 ∷ 1 ∷ []) 1
+    ∷ Unmoved (3 ∷ 2 ∷ []) 1 (Window 0) (1 ∷ 1 ∷ 0 ∷ []) 0
     ∷ Part (3 ∷ 2 ∷ []) 1 0 1
-    -- 3 disks and 2 more, with 9 rows: a whole window, one cut off to 4 rows, and no third
+    -- 3 disks and 2 more: a whole window, the next one cut off to 4 rows and to 2, and no third
     ∷ Part (5 ∷ 3 ∷ []) 9 0 6
     ∷ Part (5 ∷ 3 ∷ []) 9 1 6
     ∷ Part (5 ∷ 3 ∷ []) 7 1 3
@@ -105,9 +114,20 @@ spreadCases =
     ∷ Restripe 3 2 5 12
     ∷ []
 
--- how many of window w's old blocks f has on each disk
-abbrev pub onDisks : (s : ℕ) (h : List ℕ) (w : ℕ) (f : ℕ → ℕ) → List ℕ
-onDisks s h w f = table (onDisk s h (inWindow s h w) f) (oldCount h + addedCount h)
+abbrev pub chosenBy : (s : ℕ) (h : List ℕ) (b : Blocks) → ℕ → Bool
+chosenBy s h (Window w) = inWindow s h w
+chosenBy s h (FirstWindows q) = inFirst s h q
+
+-- how many of these blocks f has on each disk, and on another disk than before
+abbrev pub onDisks : (s : ℕ) (h : List ℕ) (b : Blocks) (f : ℕ → ℕ) → List ℕ
+onDisks s h b f = table (onDisk s h (chosenBy s h b) f) (oldCount h + addedCount h)
+
+abbrev pub movedBy : (s : ℕ) (h : List ℕ) (b : Blocks) (f : ℕ → ℕ) → ℕ
+movedBy s h b f = onAnotherDisk s h (chosenBy s h b) f
+
+-- the disk of the history before
+abbrev pub unmoved : (s : ℕ) (h : List ℕ) (x : ℕ) → ℕ
+unmoved s h x = oldSpot s h x .disk
 
 -- all spreads of one window, and the moves of those with m on each disk
 abbrev pub windowSpreads : (h : List ℕ) → List (List ℕ)
@@ -121,11 +141,9 @@ leastCase h spreads moves =
 
 -- a case with its numbers worked out from the definitions
 unfoldable pub worked : Case → Case
-worked (Ours h s w on another) = Ours h s w (onDisks s h w (diskOf s h)) (onAnotherDisk s h (inWindow s h w) (diskOf s h))
-worked (Unmoved h s w on another) =
-    let f : ℕ → ℕ = λ x. oldSpot s h x .disk in
-    Unmoved h s w (onDisks s h w f) (onAnotherDisk s h (inWindow s h w) f)
-worked (Other h s w f on another) = Other h s w f (onDisks s h w (listed f)) (onAnotherDisk s h (inWindow s h w) (listed f))
+worked (Ours h s b on another) = Ours h s b (onDisks s h b (diskOf s h)) (movedBy s h b (diskOf s h))
+worked (Unmoved h s b on another) = Unmoved h s b (onDisks s h b (unmoved s h)) (movedBy s h b (unmoved s h))
+worked (Other h s b f on another) = Other h s b f (onDisks s h b (listed f)) (movedBy s h b (listed f))
 worked (Part h s w moves) = Part h s w (partAtGrow s h w)
 worked (Least h spreads even moves reached) = leastCase h (length (windowSpreads h)) (evenMoves h (windowSpreads h))
 worked (Restripe m n s moves) = Restripe m n s (restripeMoves m n s)

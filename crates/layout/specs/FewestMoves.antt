@@ -7,7 +7,7 @@ use mathlib.Core.List.{List, [], _∷_}
 use Rattle.base.specs.Below.{sum}
 use Rattle.layout.specs.History.{diskCount, earlier, oldCount, addedCount, rising}
 use Rattle.layout.specs.Windows.{windows, uncopied, cutMoves}
-use Rattle.layout.specs.Spreads.{diskOf, inWindow, chosenCount, onDisk, onAnotherDisk, IsSpread, OnEachDisk, partOfUncopied, partAtGrow, restripeMoves}
+use Rattle.layout.specs.Spreads.{diskOf, inWindow, inFirst, chosenCount, onAnotherDisk, IsSpread, OnEachDisk, partOfUncopied, partAtGrow, restripeMoves}
 use Rattle.layout.specs.FewestCases.{SpreadsHold, Racks}
 
 -- Of the old blocks that pass a test:
@@ -33,12 +33,12 @@ WindowSpread s h w = SpreadByGrowth s h (inWindow s h w) (oldCount h) (oldCount 
 abbrev pub WindowLeast : (s : ℕ) (h : List ℕ) (w : ℕ) → Type 0
 WindowLeast s h w = EverySpread s h (inWindow s h w) (oldCount h) (oldCount h * addedCount h)
 
--- All old blocks of a growth with q windows, all of them whole: the same, and of every spread that is even in the whole, whatever it has in each window
-abbrev pub VolumeSpread : (s : ℕ) (h : List ℕ) (q : ℕ) → Type 0
-VolumeSpread s h q = SpreadByGrowth s h (λ x. true) (q * oldCount h) (q * (oldCount h * addedCount h))
+-- The same of the old blocks of the first q windows, all of them whole, and of every spread that is even in the whole, whatever it has in each window
+abbrev pub FirstWindowsSpread : (s : ℕ) (h : List ℕ) (q : ℕ) → Type 0
+FirstWindowsSpread s h q = SpreadByGrowth s h (inFirst s h q) (q * oldCount h) (q * (oldCount h * addedCount h))
 
-abbrev pub VolumeLeast : (s : ℕ) (h : List ℕ) (q : ℕ) → Type 0
-VolumeLeast s h q = EverySpread s h (λ x. true) (q * oldCount h) (q * (oldCount h * addedCount h))
+abbrev pub FirstWindowsLeast : (s : ℕ) (h : List ℕ) (q : ℕ) → Type 0
+FirstWindowsLeast s h q = EverySpread s h (inFirst s h q) (q * oldCount h) (q * (oldCount h * addedCount h))
 
 pub record PartsOfU (s : ℕ) (h : List ℕ) : Type 0 where
   -- the parts of all windows are U, at grow and later
@@ -61,9 +61,11 @@ pub record FewestInGrowth (s : ℕ) (h : List ℕ) : Type 0 where
   -- of a whole window
   pub window-spread : (w : ℕ) → suc w * (oldCount h + addedCount h) ≤ s → WindowSpread s h w
   pub window-least : (w : ℕ) → suc w * (oldCount h + addedCount h) ≤ s → WindowLeast s h w
-  -- of q windows that are all whole
-  pub volume-spread : (q : ℕ) → s ≡ q * (oldCount h + addedCount h) → VolumeSpread s h q
-  pub volume-least : (q : ℕ) → s ≡ q * (oldCount h + addedCount h) → VolumeLeast s h q
+  -- of the first q windows, which are whole
+  pub first-windows-spread : (q : ℕ) → q * (oldCount h + addedCount h) ≤ s → FirstWindowsSpread s h q
+  pub first-windows-least : (q : ℕ) → q * (oldCount h + addedCount h) ≤ s → FirstWindowsLeast s h q
+  -- where there are no further rows, these are all old blocks
+  pub all-old : (q : ℕ) → s ≡ q * (oldCount h + addedCount h) → (x : ℕ) → x < oldCount h * s → inFirst s h q x ≡ true
   -- of every window
   pub parts : PartsOfU s h
 
