@@ -4,6 +4,7 @@
 mod doubling;
 mod moves;
 mod pending;
+mod racks;
 mod view;
 
 use crate::raw;

@@ -3,7 +3,7 @@ use Prim.Native.Nat.{ℕ, zero, suc, _+_, _-_, _*_, _/_, _%_, _≤_, _<_}
 use mathlib.Core.Path.{_≡_, refl, sym, _∙_, ap, subst}
 use mathlib.Core.Bool.{Bool, true, false, cond, not, _&&_, and-true, and-false, and-comm}
 use mathlib.Core.List.{List, [], _∷_}
-use native.Mathlib.Nat.{mod-lt, mod-eq-of-lt, div-add-mod', div-eq-of-lt, div-lt-iff-lt-mul, mul-comm, mul-assoc, mul-le-mul-right, suc-mul}
+use native.Mathlib.Nat.{mod-lt, mod-eq-of-lt, div-add-mod', div-eq-of-lt, div-lt-iff-lt-mul, eq-of-mul-eq-mul-right, mul-comm, mul-assoc, mul-le-mul-right, suc-mul}
 use native.Mathlib.Omega.{arith}
 use lib.Dec.{leb, ltb, eqb}
 use lib.Arith.{digits-div, digits-mod}
@@ -109,11 +109,6 @@ module _ (s c m : ℕ) (h : List ℕ) (r : rising (c ∷ m ∷ h) ≡ true) wher
           let none = count-zero (λ i. chosen i && not (ltb (f i) k)) (m * s) (omega (arith, blocks, on-disks, all)) x l in
           by-test (ltb (f x) k) (λ t. ltb-true (f x) k t) (λ t. clash (and-both e (ap not t)) none)
 
-  every-spread : (chosen : ℕ → Bool) (each : ℕ) → chosenCount s H chosen ≡ each * k → EverySpread s H chosen each (each * n)
-  unfolding oldCount addedCount earlier diskCount
-  every-spread chosen each blocks =
-      record { least = λ f even. least-moved chosen each f even blocks; is-spread = λ f even. is-spread chosen each f even blocks }
-
   -- ---- ours, in one window
 
   new-disk : (x : ℕ) → x < m * s → diskOf s H x ≡ diskAfter m n (oldSpot s H x .disk) (oldSpot s H x .row .0 % k)
@@ -123,6 +118,19 @@ module _ (s c m : ℕ) (h : List ℕ) (r : rising (c ∷ m ∷ h) ≡ true) wher
   ours-spread : (chosen : ℕ → Bool) → IsSpread s H chosen (diskOf s H)
   unfolding oldCount addedCount earlier diskCount
   ours-spread chosen x l e = rw (new-disk x l) (old-there m n (oldSpot s H x .row .0) hm hn (oldSpot s H x .disk) (old-disk x l) .0)
+
+  -- with what the growth itself does with these blocks
+  every-spread : (chosen : ℕ → Bool) (each : ℕ) → OnEachDisk s H chosen each (diskOf s H) → onAnotherDisk s H chosen (diskOf s H) ≡ each * n
+      → EverySpread s H chosen each (each * n)
+  unfolding oldCount addedCount earlier diskCount
+  every-spread chosen each even moved =
+      let blocks = blocks-of-spread chosen each (diskOf s H) even (ours-spread chosen) in
+      record {
+        least = λ f e. least-moved chosen each f e blocks;
+        no-more = λ bound g. subst (λ (z : ℕ). bound ≤ z) moved (g (diskOf s H) even);
+        is-spread = λ f e. is-spread chosen each f e blocks;
+        only-each = λ f other g e. eq-of-mul-eq-mul-right k disks-some other each (sym (blocks-of-spread chosen other f e g) ∙ blocks);
+      }
 
   row-kept : (x : ℕ) → x < m * s → spotOf s H x .row .0 ≡ oldSpot s H x .row .0
   unfolding oldCount earlier diskCount
@@ -218,19 +226,17 @@ module _ (s c m : ℕ) (h : List ℕ) (r : rising (c ∷ m ∷ h) ≡ true) wher
     window-blocks : chosenCount s H (inWindow s H w) ≡ m * k
     window-blocks = blocks-of-spread (inWindow s H w) m (diskOf s H) window-even (ours-spread (inWindow s H w))
 
+    window-moved : onAnotherDisk s H (inWindow s H w) (diskOf s H) ≡ m * n
+    unfolding oldCount addedCount earlier diskCount
+    window-moved = moved-in-window w ∙ counts-law s c m h r .whole-window w fits
+
     pub window-spread-law : WindowSpread s H w
     unfolding oldCount addedCount earlier diskCount
-    window-spread-law =
-        record {
-          blocks = window-blocks;
-          is-spread = ours-spread (inWindow s H w);
-          even = window-even;
-          moved = moved-in-window w ∙ counts-law s c m h r .whole-window w fits;
-        }
+    window-spread-law = record { blocks = window-blocks; is-spread = ours-spread (inWindow s H w); even = window-even; moved = window-moved }
 
     pub window-least-law : WindowLeast s H w
     unfolding oldCount addedCount earlier diskCount
-    window-least-law = every-spread (inWindow s H w) m window-blocks
+    window-least-law = every-spread (inWindow s H w) m window-even window-moved
 
   -- ---- ours, in the first q windows
 
@@ -261,8 +267,7 @@ module _ (s c m : ℕ) (h : List ℕ) (r : rising (c ∷ m ∷ h) ≡ true) wher
 
     first-moved : onAnotherDisk s H (inFirst s H q) (diskOf s H) ≡ q * (m * n)
     unfolding onAnotherDisk oldCount addedCount earlier diskCount
-    first-moved =
-        by-windows (λ x. not (eqb (diskOf s H x) (oldSpot s H x .disk))) (m * n) (λ w l. moved-in-window w ∙ counts-law s c m h r .whole-window w (fits w l))
+    first-moved = by-windows (λ x. not (eqb (diskOf s H x) (oldSpot s H x .disk))) (m * n) (λ w l. window-moved w (fits w l))
 
     pub first-windows-spread-law : FirstWindowsSpread s H q
     unfolding oldCount addedCount earlier diskCount
@@ -270,7 +275,9 @@ module _ (s c m : ℕ) (h : List ℕ) (r : rising (c ∷ m ∷ h) ≡ true) wher
 
     pub first-windows-least-law : FirstWindowsLeast s H q
     unfolding oldCount addedCount earlier diskCount
-    first-windows-least-law = subst (EverySpread s H (inFirst s H q) (q * m)) (mul-assoc q m n) (every-spread (inFirst s H q) (q * m) first-blocks)
+    first-windows-least-law =
+        let e = mul-assoc q m n in
+        subst (EverySpread s H (inFirst s H q) (q * m)) e (every-spread (inFirst s H q) (q * m) first-even (first-moved ∙ sym e))
 
   all-old-law : (q : ℕ) → s ≡ q * k → (x : ℕ) → x < m * s → inFirst s H q x ≡ true
   all-old-law q all x l =

@@ -19,11 +19,15 @@ module _ (s : ℕ) (h : List ℕ) (chosen : ℕ → Bool) where
     pub even : OnEachDisk s h chosen each (diskOf s h)
     pub moved : onAnotherDisk s h chosen (diskOf s h) ≡ moves
 
-  -- a function with so many on each disk has at least so many of them on another disk than before
+  -- every function with so many on each disk has at least so many of them on another disk than before
   pub record EverySpread (each moves : ℕ) : Type 0 where
     pub least : (f : ℕ → ℕ) → OnEachDisk s h chosen each f → moves ≤ onAnotherDisk s h chosen f
-    -- and it has none elsewhere than on the m+n disks, so that it is a spread
+    -- no greater number is a bound
+    pub no-more : (bound : ℕ) → ((f : ℕ → ℕ) → OnEachDisk s h chosen each f → bound ≤ onAnotherDisk s h chosen f) → bound ≤ moves
+    -- such a function has none elsewhere than on the m+n disks, so that it is a spread
     pub is-spread : (f : ℕ → ℕ) → OnEachDisk s h chosen each f → IsSpread s h chosen f
+    -- no spread has another number on each disk
+    pub only-each : (f : ℕ → ℕ) (other : ℕ) → IsSpread s h chosen f → OnEachDisk s h chosen other f → other ≡ each
 
 -- "m·(m+n) old blocks are spread by the finished growth so that each of the m+n disks has exactly m", "and ours puts exactly m·n"
 abbrev pub WindowSpread : (s : ℕ) (h : List ℕ) (w : ℕ) → Type 0
