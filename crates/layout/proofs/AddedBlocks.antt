@@ -17,7 +17,7 @@ use Rattle.layout.proofs.OneGrowth.{spot-after-added, block-after-added
 use Rattle.layout.proofs.NewestGrowth.{up, old-some, new-bijection}
 
 -- q is the remainder of d-(b-(n-1))
-index-remainder : (m n d b : ℕ) → 0 < n → RemainderOf (d + (n - 1)) b (m + n) (addedIndex m n d b)
+pub index-remainder : (m n d b : ℕ) → 0 < n → RemainderOf (d + (n - 1)) b (m + n) (addedIndex m n d b)
 unfolding addedIndex
 index-remainder m n d b h = rw (minus-minus (m + n) d b (n - 1) (omega arith)) (remainder (m + n) (d + (n - 1)) b (omega arith))
 
@@ -57,7 +57,7 @@ module _ (s c m : ℕ) (h : List ℕ) (r : rising (c ∷ m ∷ h) ≡ true) wher
   unfolding blockAt
   block-added p k = block-after-added m n s p _ k
 
-  block-older : (p : Spot) → n ≤ index p → blockAt s (c ∷ m ∷ h) p ≡ blockAt s (m ∷ h) (spotBefore m n p)
+  pub block-older : (p : Spot) → n ≤ index p → blockAt s (c ∷ m ∷ h) p ≡ blockAt s (m ∷ h) (spotBefore m n p)
   unfolding blockAt
   block-older p k = block-after-old m n s p _ k
 

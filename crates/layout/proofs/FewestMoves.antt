@@ -3,7 +3,7 @@ use Prim.Native.Nat.{ℕ, zero, suc, _+_, _-_, _*_, _/_, _%_, _≤_, _<_}
 use mathlib.Core.Path.{_≡_, refl, sym, _∙_, ap, subst}
 use mathlib.Core.Bool.{Bool, true, false, cond, not, _&&_, and-true, and-false, and-comm}
 use mathlib.Core.List.{List, [], _∷_}
-use native.Mathlib.Nat.{mod-lt, mod-eq-of-lt, div-add-mod', div-eq-of-lt, div-lt-iff-lt-mul, eq-of-mul-eq-mul-right, mul-comm, mul-assoc, mul-le-mul-right, suc-mul}
+use native.Mathlib.Nat.{add-comm, mod-lt, mod-eq-of-lt, div-add-mod', div-eq-of-lt, div-lt-iff-lt-mul, eq-of-mul-eq-mul-right, mul-comm, mul-assoc, mul-le-mul-right, suc-mul}
 use native.Mathlib.Omega.{arith}
 use lib.Dec.{leb, ltb, eqb}
 use lib.Arith.{digits-div, digits-mod}
@@ -14,16 +14,15 @@ use Rattle.base.proofs.Counting.{count-ext, count-zero, count-split, count-by-t
 use Rattle.layout.specs.declared.Row.{Row}
 use Rattle.layout.specs.declared.Spot.{Spot}
 use Rattle.layout.specs.Cases.{at}
-use Rattle.layout.specs.Growth.{minusMod, diskAfter, addedIndex, spotBefore, oldBlockSpot}
+use Rattle.layout.specs.Growth.{diskAfter, addedIndex, spotBefore, oldBlockSpot}
 use Rattle.layout.specs.History.{Within, diskCount, earlier, oldCount, addedCount, rising, spotOf, blockAt}
 use Rattle.layout.specs.Windows.{oldSpot, moving, windowOfRow, windowOf, movingIn, movesOfWindow, windows, uncopied}
-use Rattle.layout.specs.Spreads.{diskOf, inWindow, inFirst, chosenCount, onDisk, onAnotherDisk, IsSpread, OnEachDisk, partOfUncopied, partAtGrow, restriped, restripeMoves}
-use Rattle.layout.specs.FewestMoves.{EverySpread, WindowSpread, WindowLeast, FirstWindowsSpread, FirstWindowsLeast, PartsOfU, EveryGrowth, FewestInGrowth}
+use Rattle.layout.specs.Spreads.{diskOf, inWindow, inFirstWindows, chosenCount, onDisk, onAnotherDisk, IsSpread, OnEachDisk, partOfUncopied, partAtGrow, restriped, restripeMoves}
+use Rattle.layout.specs.FewestMoves.{SpreadByGrowth, EverySpread, WindowSpread, WindowLeast, FirstWindowsSpread, FirstWindowsLeast, PartsOfU, EveryGrowth, FewestInGrowth}
 use Rattle.layout.proofs.Histories.{not-rising, rising-some}
-use Rattle.layout.proofs.Remainder.{minus-below, minus-minus, minus-twice}
 use Rattle.layout.proofs.OneRow.{index-mod, old-there, old-back}
-use Rattle.layout.proofs.OneGrowth.{spot-after-old, block-after-old}
-use Rattle.layout.proofs.NewestGrowth.{up, old-bijection, new-bijection, old-within, still-there, moving-law}
+use Rattle.layout.proofs.NewestGrowth.{up, old-block, old-bijection, new-bijection, old-within, still-there, moving-law}
+use Rattle.layout.proofs.AddedBlocks.{index-remainder, block-older}
 use Rattle.layout.proofs.MarkBlocks.{old-pos, added-pos, marks-law}
 use Rattle.layout.proofs.MoveCounts.{first-or-later, counts-law}
 
@@ -32,19 +31,15 @@ old-rows : (m n d : ℕ) → 0 < n → count (λ b. leb n (addedIndex m n d b)) 
 old-rows m n d hn =
     count-one-to-one _ (m + n) (leb n) (m + n) (addedIndex m n d) (addedIndex m n d)
     (record {
-      there = λ b l e. (below b, e, twice b l);
-      back = λ q l e. (below q, rw (twice q l) e, twice q l);
+      there = λ b l e. (index-remainder m n d b hn .below, e, twice b l);
+      back = λ q l e. (index-remainder m n d q hn .below, rw (twice q l) e, twice q l);
     })
     ∙ count-from n (m + n) ∙ omega arith
   where
-    below : (b : ℕ) → addedIndex m n d b < m + n
-    below b = unfold addedIndex in minus-below (m + n) d _ (omega arith)
-
     twice : (b : ℕ) → b < m + n → addedIndex m n d (addedIndex m n d b) ≡ b
     twice b l =
-        unfold addedIndex in
-        (rw (minus-minus (m + n) d b (n - 1) (omega arith), minus-minus (m + n) d (minusMod (d + (n - 1)) b (m + n)) (n - 1) (omega arith))
-        (minus-twice (m + n) (d + (n - 1)) b l))
+        let q : ℕ = addedIndex m n d b in
+        sym (index-remainder m n d q hn .only b l (ap (_% (m + n)) (add-comm b q) ∙ index-remainder m n d b hn .same))
 
 -- ---- any function, of any old blocks
 
@@ -109,28 +104,37 @@ module _ (s c m : ℕ) (h : List ℕ) (r : rising (c ∷ m ∷ h) ≡ true) wher
           let none = count-zero (λ i. chosen i && not (ltb (f i) k)) (m * s) (omega (arith, blocks, on-disks, all)) x l in
           by-test (ltb (f x) k) (λ t. ltb-true (f x) k t) (λ t. clash (and-both e (ap not t)) none)
 
-  -- ---- ours, in one window
+  -- ---- the growth's own spread, of any old blocks
 
   new-disk : (x : ℕ) → x < m * s → diskOf s H x ≡ diskAfter m n (oldSpot s H x .disk) (oldSpot s H x .row .0 % k)
-  unfolding spotOf oldBlockSpot oldSpot earlier
-  new-disk x l = ap (λ (u : Spot). u .disk) (spot-after-old m n s x (spotOf s (m ∷ h) x) l)
+  unfolding oldBlockSpot oldSpot earlier
+  new-disk x l = ap (λ (u : Spot). u .disk) (old-block s c m h r x l)
 
   ours-spread : (chosen : ℕ → Bool) → IsSpread s H chosen (diskOf s H)
   unfolding oldCount addedCount earlier diskCount
   ours-spread chosen x l e = rw (new-disk x l) (old-there m n (oldSpot s H x .row .0) hm hn (oldSpot s H x .disk) (old-disk x l) .0)
 
-  -- with what the growth itself does with these blocks
-  every-spread : (chosen : ℕ → Bool) (each : ℕ) → OnEachDisk s H chosen each (diskOf s H) → onAnotherDisk s H chosen (diskOf s H) ≡ each * n
-      → EverySpread s H chosen each (each * n)
-  unfolding oldCount addedCount earlier diskCount
-  every-spread chosen each even moved =
-      let blocks = blocks-of-spread chosen each (diskOf s H) even (ours-spread chosen) in
-      record {
-        least = λ f e. least-moved chosen each f e blocks;
-        no-more = λ bound g. subst (λ (z : ℕ). bound ≤ z) moved (g (diskOf s H) even);
-        is-spread = λ f e. is-spread chosen each f e blocks;
-        only-each = λ f other g e. eq-of-mul-eq-mul-right k disks-some other each (sym (blocks-of-spread chosen other f e g) ∙ blocks);
-      }
+  -- where it has each of them on every disk and so many on another disk than before, both claims follow
+  module _ (chosen : ℕ → Bool) (each moves : ℕ) (even : OnEachDisk s H chosen each (diskOf s H))
+      (moved : onAnotherDisk s H chosen (diskOf s H) ≡ moves) where
+    blocks : chosenCount s H chosen ≡ each * k
+    blocks = blocks-of-spread chosen each (diskOf s H) even (ours-spread chosen)
+
+    spread-by-growth : SpreadByGrowth s H chosen each moves
+    unfolding oldCount addedCount earlier diskCount
+    spread-by-growth = record { blocks = blocks; is-spread = ours-spread chosen; even = even; moved = moved }
+
+    every-spread : moves ≡ each * n → EverySpread s H chosen each moves
+    unfolding oldCount addedCount earlier diskCount
+    every-spread part =
+        record {
+          least = λ f e. subst (λ (z : ℕ). z ≤ onAnotherDisk s H chosen f) (sym part) (least-moved chosen each f e blocks);
+          no-more = λ bound g. subst (λ (z : ℕ). bound ≤ z) moved (g (diskOf s H) even);
+          is-spread = λ f e. is-spread chosen each f e blocks;
+          only-each = λ f other g e. eq-of-mul-eq-mul-right k disks-some other each (sym (blocks-of-spread chosen other f e g) ∙ blocks);
+        }
+
+  -- ---- in one window
 
   row-kept : (x : ℕ) → x < m * s → spotOf s H x .row .0 ≡ oldSpot s H x .row .0
   unfolding oldCount earlier diskCount
@@ -165,11 +169,11 @@ module _ (s c m : ℕ) (h : List ℕ) (r : rising (c ∷ m ∷ h) ≡ true) wher
     here b l = record { disk = omega (arith, hd, up s c m h r); row = row-exists b l }
 
     older : (b : ℕ) → b < k → n ≤ addedIndex m n d b → block-on b < m * s
-    unfolding block-on blockAt spotBefore diskCount
+    unfolding block-on spotBefore diskCount
     older b l e =
         let i : n ≤ addedIndex m n d (w * k + b) = rw (index-mod m n d (w * k + b), digits-mod w l) e in
         let o = old-back m n (w * k + b) hm hn d hd i in
-        rw (block-after-old m n s (at d (w * k + b)) (blockAt s (m ∷ h) (spotBefore m n (at d (w * k + b)))) i)
+        rw (block-older s c m h r (at d (w * k + b)) i)
         (old-bijection s c m h r .block-within (spotBefore m n (at d (w * k + b))) (record { disk = o .0; row = row-exists b l }))
 
     -- an old block that the growth has on disk d: there is no added one
@@ -223,22 +227,19 @@ module _ (s c m : ℕ) (h : List ℕ) (r : rising (c ∷ m ∷ h) ≡ true) wher
     unfolding onDisk oldCount addedCount earlier diskCount
     window-even d hd = m-on-disk w fits d hd
 
-    window-blocks : chosenCount s H (inWindow s H w) ≡ m * k
-    window-blocks = blocks-of-spread (inWindow s H w) m (diskOf s H) window-even (ours-spread (inWindow s H w))
-
     window-moved : onAnotherDisk s H (inWindow s H w) (diskOf s H) ≡ m * n
     unfolding oldCount addedCount earlier diskCount
     window-moved = moved-in-window w ∙ counts-law s c m h r .whole-window w fits
 
-    pub window-spread-law : WindowSpread s H w
+    window-spread-law : WindowSpread s H w
     unfolding oldCount addedCount earlier diskCount
-    window-spread-law = record { blocks = window-blocks; is-spread = ours-spread (inWindow s H w); even = window-even; moved = window-moved }
+    window-spread-law = spread-by-growth (inWindow s H w) m (m * n) window-even window-moved
 
-    pub window-least-law : WindowLeast s H w
+    window-least-law : WindowLeast s H w
     unfolding oldCount addedCount earlier diskCount
-    window-least-law = every-spread (inWindow s H w) m window-even window-moved
+    window-least-law = every-spread (inWindow s H w) m (m * n) window-even window-moved refl
 
-  -- ---- ours, in the first q windows
+  -- ---- in the first q windows
 
   module _ (q : ℕ) (fit : q * k ≤ s) where
     fits : (w : ℕ) → w < q → suc w * k ≤ s
@@ -246,40 +247,35 @@ module _ (s c m : ℕ) (h : List ℕ) (r : rising (c ∷ m ∷ h) ≡ true) wher
 
     -- a test with as many in each window
     by-windows : (p : ℕ → Bool) (each : ℕ) → ((w : ℕ) → w < q → count (λ x. inWindow s H w x && p x) (m * s) ≡ each)
-        → count (λ x. inFirst s H q x && p x) (m * s) ≡ q * each
+        → count (λ x. inFirstWindows s H q x && p x) (m * s) ≡ q * each
     by-windows p each f =
-        count-by-value (λ x. inFirst s H q x && p x) (windowOf s H) q (m * s) (λ x l e. ltb-true _ q (and-left (inFirst s H q x) _ e))
+        count-by-value (λ x. inFirstWindows s H q x && p x) (windowOf s H) q (m * s) (λ x l e. ltb-true _ q (and-left (inFirstWindows s H q x) _ e))
         ∙ sum-all _ q each (λ w l. count-ext _ (λ x. inWindow s H w x && p x) (m * s) (λ x _. one w l x) ∙ f w l)
       where
-        one : (w : ℕ) → w < q → (x : ℕ) → ((inFirst s H q x && p x) && inWindow s H w x) ≡ (inWindow s H w x && p x)
+        one : (w : ℕ) → w < q → (x : ℕ) → ((inFirstWindows s H q x && p x) && inWindow s H w x) ≡ (inWindow s H w x && p x)
         one w l x =
-            same-test _ _ (λ e. and-both (and-right (inFirst s H q x && p x) _ e) (and-right (inFirst s H q x) _ (and-left (inFirst s H q x && p x) _ e)))
+            same-test _ _ (λ e. and-both (and-right (inFirstWindows s H q x && p x) _ e) (and-right (inFirstWindows s H q x) _ (and-left (inFirstWindows s H q x && p x) _ e)))
             (λ e.
             let z : windowOf s H x ≡ w = eqb-true _ w (and-left (inWindow s H w x) _ e) in
             and-both (and-both (lt-ltb (windowOf s H x) q (omega arith)) (and-right (inWindow s H w x) _ e)) (and-left (inWindow s H w x) _ e))
 
-    first-even : OnEachDisk s H (inFirst s H q) (q * m) (diskOf s H)
+    first-even : OnEachDisk s H (inFirstWindows s H q) (q * m) (diskOf s H)
     unfolding onDisk oldCount addedCount earlier diskCount
     first-even d hd = by-windows (λ x. eqb (diskOf s H x) d) m (λ w l. m-on-disk w (fits w l) d hd)
 
-    first-blocks : chosenCount s H (inFirst s H q) ≡ q * m * k
-    first-blocks = blocks-of-spread (inFirst s H q) (q * m) (diskOf s H) first-even (ours-spread (inFirst s H q))
-
-    first-moved : onAnotherDisk s H (inFirst s H q) (diskOf s H) ≡ q * (m * n)
+    first-moved : onAnotherDisk s H (inFirstWindows s H q) (diskOf s H) ≡ q * (m * n)
     unfolding onAnotherDisk oldCount addedCount earlier diskCount
     first-moved = by-windows (λ x. not (eqb (diskOf s H x) (oldSpot s H x .disk))) (m * n) (λ w l. window-moved w (fits w l))
 
-    pub first-windows-spread-law : FirstWindowsSpread s H q
+    first-windows-spread-law : FirstWindowsSpread s H q
     unfolding oldCount addedCount earlier diskCount
-    first-windows-spread-law = record { blocks = first-blocks; is-spread = ours-spread (inFirst s H q); even = first-even; moved = first-moved }
+    first-windows-spread-law = spread-by-growth (inFirstWindows s H q) (q * m) (q * (m * n)) first-even first-moved
 
-    pub first-windows-least-law : FirstWindowsLeast s H q
+    first-windows-least-law : FirstWindowsLeast s H q
     unfolding oldCount addedCount earlier diskCount
-    first-windows-least-law =
-        let e = mul-assoc q m n in
-        subst (EverySpread s H (inFirst s H q) (q * m)) e (every-spread (inFirst s H q) (q * m) first-even (first-moved ∙ sym e))
+    first-windows-least-law = every-spread (inFirstWindows s H q) (q * m) (q * (m * n)) first-even first-moved (sym (mul-assoc q m n))
 
-  all-old-law : (q : ℕ) → s ≡ q * k → (x : ℕ) → x < m * s → inFirst s H q x ≡ true
+  all-old-law : (q : ℕ) → s ≡ q * k → (x : ℕ) → x < m * s → inFirstWindows s H q x ≡ true
   all-old-law q all x l =
       let b : rowOf x < q * k = subst (λ (z : ℕ). rowOf x < z) all (unfold oldSpot earlier in old-within s c m h r x l .row) in
       lt-ltb (windowOf s H x) q (rw (window-of x) (div-lt-iff-lt-mul disks-some .1 b))
@@ -311,13 +307,12 @@ module _ (s c m : ℕ) (h : List ℕ) (r : rising (c ∷ m ∷ h) ≡ true) wher
       let b = split-by-window later (λ x e. and-left (moving s H x) _ e) in
       rw (a, b) (sym (sum-plus (λ v. count (λ x. now x && inWindow s H v x) (m * s)) (λ v. count (λ x. later x && inWindow s H v x) (m * s)) (windows m n s)))
 
-  pub parts-law : PartsOfU s H
+  parts-law : PartsOfU s H
   unfolding oldCount addedCount earlier diskCount
   parts-law =
       record {
         sum-of-parts = parts-sum;
         part-moved = λ w. part-at-grow w ∙ sym (moved-in-window w);
-        whole-part = λ w l. part-at-grow w ∙ counts-law s c m h r .whole-window w l;
         cut-part = λ w z e. part-at-grow w ∙ counts-law s c m h r .cut-window w z e;
       }
 
@@ -333,33 +328,7 @@ module _ (s c m : ℕ) (h : List ℕ) (r : rising (c ∷ m ∷ h) ≡ true) wher
         parts = parts-law;
       }
 
--- ---- a full restripe
-
--- a block keeps its spot exactly if it is below m
-restriped-from : (m n s x : ℕ) → 0 < m → 0 < n → restriped m n s x ≡ leb m x
-unfolding restriped spotOf
-restriped-from m n s x hm hn =
-    by-test (leb m x)
-    (λ e.
-    let l : m ≤ x = leb-true m x e in
-    rw e (ap not (not-both (eqb (x % (m + n)) (x % m)) (eqb (x / (m + n)) (x / m))
-    (λ f g. apart l (eqb-true _ _ f) (eqb-true _ _ g)))))
-    (λ e.
-    let l : x < m = leb-false m x e in
-    rw (e, mod-eq-of-lt l, mod-eq-of-lt {n = x} {m = m + n} (omega arith), div-eq-of-lt l, div-eq-of-lt {n = x} {m = m + n} (omega arith), eq-eqb x x refl))
-  where
-    not-both : (a b : Bool) → (a ≡ true → b ≡ true → ⊥) → (a && b) ≡ false
-    not-both true true f = absurd (f refl refl)
-    not-both true false f = refl
-    not-both false b f = refl
-
-    -- before row q, m disks have q·m blocks and m+n disks have q·n more
-    same-place : (q z : ℕ) → z < m → m ≤ x → q * m + z ≡ x → q * (m + n) + z ≡ x → ⊥
-    same-place zero z l g a b = omega arith
-    same-place (suc q) z l g a b = omega arith
-
-    apart : m ≤ x → x % (m + n) ≡ x % m → x / (m + n) ≡ x / m → ⊥
-    apart l e f = same-place (x / m) (x % m) (mod-lt x hm) l (div-add-mod' x m) (rw (sym f, sym e) (div-add-mod' x (m + n)))
+-- ---- every history grows
 
 pub every-growth-law : EveryGrowth
 unfolding rising oldCount addedCount earlier diskCount
@@ -376,6 +345,29 @@ every-growth-law =
     next (m ∷ h) n r g =
         unfold rising oldCount addedCount earlier diskCount in
         (and-both (lt-ltb m (m + n) (omega arith)) r, rising-some m h r, refl, refl, omega arith)
+
+-- ---- a full restripe
+
+-- a block keeps its spot exactly if it is below m
+restriped-from : (m n s x : ℕ) → 0 < m → 0 < n → restriped m n s x ≡ leb m x
+unfolding restriped spotOf
+restriped-from m n s x hm hn =
+    by-test (leb m x)
+    (λ e.
+    let l : m ≤ x = leb-true m x e in
+    rw e (ap not (by-test (eqb (x % (m + n)) (x % m) && eqb (x / (m + n)) (x / m))
+    (λ t. absurd (apart l (eqb-true _ _ (and-left (eqb (x % (m + n)) (x % m)) _ t)) (eqb-true _ _ (and-right (eqb (x % (m + n)) (x % m)) _ t)))) (λ t. t))))
+    (λ e.
+    let l : x < m = leb-false m x e in
+    rw (e, mod-eq-of-lt l, mod-eq-of-lt {n = x} {m = m + n} (omega arith), div-eq-of-lt l, div-eq-of-lt {n = x} {m = m + n} (omega arith), eq-eqb x x refl))
+  where
+    -- before row q, m disks have q·m blocks and m+n disks have q·n more
+    same-place : (q z : ℕ) → z < m → m ≤ x → q * m + z ≡ x → q * (m + n) + z ≡ x → ⊥
+    same-place zero z l g a b = omega arith
+    same-place (suc q) z l g a b = omega arith
+
+    apart : m ≤ x → x % (m + n) ≡ x % m → x / (m + n) ≡ x / m → ⊥
+    apart l e f = same-place (x / m) (x % m) (mod-lt x hm) l (div-add-mod' x m) (rw (sym f, sym e) (div-add-mod' x (m + n)))
 
 pub restripe-law : (m n s : ℕ) → 0 < m → 0 < n → restripeMoves m n s ≡ m * s - m
 unfolding restripeMoves

@@ -51,7 +51,7 @@ module _ (s c m : ℕ) (h : List ℕ) (r : rising (c ∷ m ∷ h) ≡ true) wher
   unfolding moving oldCount addedCount oldSpot earlier diskCount
   moves-moving x k e = and-both (lt-ltb x (m * s) k) e
 
-  old-block : (x : ℕ) → x < m * s → spotOf s (c ∷ m ∷ h) x ≡ oldBlockSpot m (c - m) (spotOf s (m ∷ h) x)
+  pub old-block : (x : ℕ) → x < m * s → spotOf s (c ∷ m ∷ h) x ≡ oldBlockSpot m (c - m) (spotOf s (m ∷ h) x)
   unfolding spotOf
   old-block x k = spot-after-old m (c - m) s x (spotOf s (m ∷ h) x) k
 

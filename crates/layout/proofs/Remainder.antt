@@ -78,13 +78,6 @@ module _ (k : ℕ) where
         only = λ z hz e. sym (undone z c h hz) ∙ sym (minus-mod-left (z + c) c) ∙ (rw e (minus-mod-left a c));
       }
 
-  -- taking a - b off a leaves b
-  pub minus-twice : (a b : ℕ) → b < k → minusMod a (minusMod a b k) k ≡ b
-  minus-twice a b hb =
-      let h : 0 < k = omega arith in
-      let e : b + minusMod a b k ≡ minusMod a b k + b = omega arith in
-      sym (remainder a (minusMod a b k) h .only b hb (rw e (same a b h)))
-
   -- taking b - e off d is taking b off d + e
   pub minus-minus : (d b e : ℕ) → 0 < k → minusMod d (minusMod b e k) k ≡ minusMod (d + e) b k
   minus-minus d b e h =

@@ -1,5 +1,6 @@
--- Document 02, W8: spreads of one window, the least over all of them, and moves of whole growths, as one table. `proofs/FewestCases.antt` has its
--- one proof: examples of what is claimed, counterexamples to what is not, and a check that "at least m·n" is no accident of words.
+-- Document 02, W8: spreads of old blocks, the least over all spreads of one window and full restripes, as one table; and three racks.
+-- `proofs/FewestCases.antt` has the proofs: examples of what is claimed, counterexamples to what is not, and a check that "at least m·n" is no
+-- accident of words.
 use Prim.Native.Nat.{ℕ, zero, suc, _+_, _-_, _*_, min}
 use mathlib.Core.Path.{_≡_}
 use mathlib.Core.Bool.{Bool, false, cond}
@@ -10,7 +11,7 @@ use Rattle.base.specs.Below.{every, joined, table}
 use Rattle.layout.specs.History.{oldCount, addedCount}
 use Rattle.layout.specs.Windows.{oldSpot, uncopied, callsLeft}
 use Rattle.layout.specs.Limits.{mostRows}
-use Rattle.layout.specs.Spreads.{diskOf, inWindow, inFirst, onDisk, onAnotherDisk, partAtGrow, restripeMoves}
+use Rattle.layout.specs.Spreads.{diskOf, inWindow, inFirstWindows, onDisk, onAnotherDisk, partAtGrow, restripeMoves}
 
 -- ---- all spreads of a window
 
@@ -25,17 +26,17 @@ allSpreads disks (suc blocks) = joined (λ d. map (λ f. d ∷ f) (allSpreads di
 
 -- Of the newest growth of a history, with the rows of one whole window, m+n: its old blocks are those below m·(m+n).
 module _ (h : List ℕ) where
-  abbrev oneWindow : ℕ
-  oneWindow = oldCount h + addedCount h
+  abbrev windowRows : ℕ
+  windowRows = oldCount h + addedCount h
 
   -- "with m on each disk"
   unfoldable pub isEven : (f : ℕ → ℕ) → Bool
-  isEven f = every (λ d. eqb (onDisk oneWindow h (inWindow oneWindow h 0) f d) (oldCount h)) (oldCount h + addedCount h)
+  isEven f = every (λ d. eqb (onDisk windowRows h (inWindow windowRows h 0) f d) (oldCount h)) (oldCount h + addedCount h)
 
   -- for each spread with m on each disk, the number on another disk than before
   unfoldable pub evenMoves : (spreads : List (List ℕ)) → List ℕ
   evenMoves [] = []
-  evenMoves (f ∷ rest) = cond (isEven (listed f)) (onAnotherDisk oneWindow h (inWindow oneWindow h 0) (listed f) ∷ evenMoves rest) (evenMoves rest)
+  evenMoves (f ∷ rest) = cond (isEven (listed f)) (onAnotherDisk windowRows h (inWindow windowRows h 0) (listed f) ∷ evenMoves rest) (evenMoves rest)
 
 -- the least of some numbers and a
 unfoldable pub leastOf : (a : ℕ) (numbers : List ℕ) → ℕ
@@ -116,7 +117,7 @@ spreadCases =
 
 abbrev pub chosenBy : (s : ℕ) (h : List ℕ) (b : Blocks) → ℕ → Bool
 chosenBy s h (Window w) = inWindow s h w
-chosenBy s h (FirstWindows q) = inFirst s h q
+chosenBy s h (FirstWindows q) = inFirstWindows s h q
 
 -- how many of these blocks f has on each disk, and on another disk than before
 abbrev pub onDisks : (s : ℕ) (h : List ℕ) (b : Blocks) (f : ℕ → ℕ) → List ℕ
@@ -129,7 +130,7 @@ movedBy s h b f = onAnotherDisk s h (chosenBy s h b) f
 abbrev pub unmoved : (s : ℕ) (h : List ℕ) (x : ℕ) → ℕ
 unmoved s h x = oldSpot s h x .disk
 
--- all spreads of one window, and the moves of those with m on each disk
+-- all spreads of one window
 abbrev pub windowSpreads : (h : List ℕ) → List (List ℕ)
 windowSpreads h = allSpreads (oldCount h + addedCount h) (oldCount h * (oldCount h + addedCount h))
 

@@ -7,19 +7,19 @@ use mathlib.Core.List.{List, [], _∷_}
 use Rattle.base.specs.Below.{sum}
 use Rattle.layout.specs.History.{diskCount, earlier, oldCount, addedCount, rising}
 use Rattle.layout.specs.Windows.{windows, uncopied, cutMoves}
-use Rattle.layout.specs.Spreads.{diskOf, inWindow, inFirst, chosenCount, onAnotherDisk, IsSpread, OnEachDisk, partOfUncopied, partAtGrow, restripeMoves}
+use Rattle.layout.specs.Spreads.{diskOf, inWindow, inFirstWindows, chosenCount, onAnotherDisk, IsSpread, OnEachDisk, partOfUncopied, partAtGrow, restripeMoves}
 use Rattle.layout.specs.FewestCases.{SpreadsHold, Racks}
 
 -- Of the old blocks that pass a test:
 module _ (s : ℕ) (h : List ℕ) (chosen : ℕ → Bool) where
-  -- the finished growth spreads them evenly and has so many of them on another disk than before
+  -- the finished growth has `each` of them on each disk, and `moves` of them on another disk than before
   pub record SpreadByGrowth (each moves : ℕ) : Type 0 where
     pub blocks : chosenCount s h chosen ≡ each * (oldCount h + addedCount h)
     pub is-spread : IsSpread s h chosen (diskOf s h)
     pub even : OnEachDisk s h chosen each (diskOf s h)
     pub moved : onAnotherDisk s h chosen (diskOf s h) ≡ moves
 
-  -- every function with so many on each disk has at least so many of them on another disk than before
+  -- every function with `each` of them on each disk has at least `moves` of them on another disk than before
   pub record EverySpread (each moves : ℕ) : Type 0 where
     pub least : (f : ℕ → ℕ) → OnEachDisk s h chosen each f → moves ≤ onAnotherDisk s h chosen f
     -- no greater number is a bound
@@ -39,21 +39,20 @@ WindowLeast s h w = EverySpread s h (inWindow s h w) (oldCount h) (oldCount h * 
 
 -- The same of the old blocks of the first q windows, all of them whole, and of every spread that is even in the whole, whatever it has in each window
 abbrev pub FirstWindowsSpread : (s : ℕ) (h : List ℕ) (q : ℕ) → Type 0
-FirstWindowsSpread s h q = SpreadByGrowth s h (inFirst s h q) (q * oldCount h) (q * (oldCount h * addedCount h))
+FirstWindowsSpread s h q = SpreadByGrowth s h (inFirstWindows s h q) (q * oldCount h) (q * (oldCount h * addedCount h))
 
 abbrev pub FirstWindowsLeast : (s : ℕ) (h : List ℕ) (q : ℕ) → Type 0
-FirstWindowsLeast s h q = EverySpread s h (inFirst s h q) (q * oldCount h) (q * (oldCount h * addedCount h))
+FirstWindowsLeast s h q = EverySpread s h (inFirstWindows s h q) (q * oldCount h) (q * (oldCount h * addedCount h))
 
 pub record PartsOfU (s : ℕ) (h : List ℕ) : Type 0 where
   -- the parts of all windows are U, at grow and later
   pub sum-of-parts : (w : ℕ) (copied : ℕ → Bool) → uncopied s h w copied ≡ sum (partOfUncopied s h w copied) (windows (oldCount h) (addedCount h) s)
   -- a window's part at grow is what the growth puts on another disk
   pub part-moved : (w : ℕ) → partAtGrow s h w ≡ onAnotherDisk s h (inWindow s h w) (diskOf s h)
-  pub whole-part : (w : ℕ) → suc w * (oldCount h + addedCount h) ≤ s → partAtGrow s h w ≡ oldCount h * addedCount h
   -- "For a last window cut off to r rows, .. that window's part of U at grow is the sum, over the old disks d below r, of the lesser of n and r-d."
   pub cut-part : (w r : ℕ) → s ≡ w * (oldCount h + addedCount h) + r → partAtGrow s h w ≡ cutMoves (oldCount h) (addedCount h) r
 
--- "after any history", and for every m and n above 0: a growth by n follows every history, and a history may start with m disks
+-- after any history, and for every m and n above 0: a growth by n may follow every history, and a history may start with m disks
 pub record EveryGrowth : Type 0 where
   pub any-start : (m : ℕ) → 0 < m → rising (m ∷ []) ≡ true
   pub any-next : (before : List ℕ) (n : ℕ) → rising before ≡ true → 0 < n
@@ -69,7 +68,7 @@ pub record FewestInGrowth (s : ℕ) (h : List ℕ) : Type 0 where
   pub first-windows-spread : (q : ℕ) → q * (oldCount h + addedCount h) ≤ s → FirstWindowsSpread s h q
   pub first-windows-least : (q : ℕ) → q * (oldCount h + addedCount h) ≤ s → FirstWindowsLeast s h q
   -- where there are no further rows, these are all old blocks
-  pub all-old : (q : ℕ) → s ≡ q * (oldCount h + addedCount h) → (x : ℕ) → x < oldCount h * s → inFirst s h q x ≡ true
+  pub all-old : (q : ℕ) → s ≡ q * (oldCount h + addedCount h) → (x : ℕ) → x < oldCount h * s → inFirstWindows s h q x ≡ true
   -- of every window
   pub parts : PartsOfU s h
 

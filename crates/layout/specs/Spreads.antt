@@ -20,8 +20,8 @@ abbrev pub inWindow : (s : ℕ) (h : List ℕ) (w x : ℕ) → Bool
 inWindow s h w x = eqb (windowOf s h x) w
 
 -- and those in the first q windows
-abbrev pub inFirst : (s : ℕ) (h : List ℕ) (q x : ℕ) → Bool
-inFirst s h q x = ltb (windowOf s h x) q
+abbrev pub inFirstWindows : (s : ℕ) (h : List ℕ) (q x : ℕ) → Bool
+inFirstWindows s h q x = ltb (windowOf s h x) q
 
 -- Of the old blocks that pass a test: f says on which disk each of them is.
 module _ (s : ℕ) (h : List ℕ) (chosen : ℕ → Bool) where
