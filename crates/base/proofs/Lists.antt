@@ -1,7 +1,7 @@
 -- Laws of lists: runs of elements stored (`sets` of the library), parts, tables, and lists joined.
 use Prim.Native.Nat.{ℕ, zero, suc, _+_, _-_, _*_, _≤_, _<_}
-use mathlib.Core.Path.{_≡_, refl, sym, ap, _∙_}
-use mathlib.Core.List.{List, [], _∷_, _++_, append-nil, append-assoc}
+use mathlib.Core.Path.{_≡_, refl, sym, ap, subst, _∙_}
+use mathlib.Core.List.{List, [], _∷_, _++_, append-nil, append-assoc, List·Mem, mem-append-left, mem-append-right}
 use mathlib.Core.Logic.{_⊎_, inl, inr, _≢_, ⊎-elim}
 use native.Mathlib.Nat.{zero-add, add-zero, add-suc, suc-add, zero-mul, suc-mul, not-suc-le-zero, le-of-suc-le-suc, eq-or-lt-of-le}
 use native.Mathlib.Numerals.{add-one}
@@ -112,8 +112,17 @@ module _ {A : Type 0} where
       let k : n - i ≡ suc (n - suc i) = omega arith in
       rw (e, k, add-one) (set-at (table f i) z (replicate (n - suc i) z) (f i) i (length-table f i) ∙ sym (append-snoc (table f i) (f i) (replicate (n - suc i) z)))
 
-  -- ---- lists of one length, joined
+  -- ---- lists joined
 
+  -- what one of them has
+  pub mem-joined : (f : ℕ → List A) (n i : ℕ) (a : A) → i < n → List·Mem a (f i) → List·Mem a (joined f n)
+  unfolding joined
+  mem-joined f zero i a h e = absurd (not-suc-le-zero h)
+  mem-joined f (suc n) i a h e =
+      ⊎-elim (λ (q : i ≡ n). mem-append-right (joined f n) (subst (λ (k : ℕ). List·Mem a (f k)) q e))
+      (λ (q : i < n). mem-append-left (f n) (mem-joined f n i a q e)) (eq-or-lt-of-le (le-of-suc-le-suc h))
+
+  -- of one length
   module _ (f : ℕ → List A) (w : ℕ) (each : (i : ℕ) → length (f i) ≡ w) where
     pub length-joined : (n : ℕ) → length (joined f n) ≡ n * w
     unfolding joined

@@ -18,7 +18,7 @@ use Rattle.layout.specs.Growth.{diskAfter, addedIndex, spotBefore, oldBl
 use Rattle.layout.specs.History.{Within, diskCount, earlier, oldCount, addedCount, rising, spotOf, blockAt}
 use Rattle.layout.specs.Windows.{oldSpot, moving, windowOfRow, windowOf, movingIn, movesOfWindow, windows, uncopied}
 use Rattle.layout.specs.Spreads.{diskOf, inWindow, inFirstWindows, chosenCount, onDisk, onAnotherDisk, IsSpread, OnEachDisk, partOfUncopied, partAtGrow, restriped, restripeMoves}
-use Rattle.layout.specs.FewestMoves.{SpreadByGrowth, EverySpread, WindowSpread, WindowLeast, FirstWindowsSpread, FirstWindowsLeast, PartsOfU, EveryGrowth, FewestInGrowth}
+use Rattle.layout.specs.FewestMoves.{EvenSpread, EverySpread, WindowSpread, WindowLeast, FirstWindowsSpread, FirstWindowsLeast, PartsOfU, EveryGrowth, FewestInGrowth}
 use Rattle.layout.proofs.Histories.{not-rising, rising-some}
 use Rattle.layout.proofs.OneRow.{index-mod, old-there, old-back}
 use Rattle.layout.proofs.NewestGrowth.{up, old-block, old-bijection, new-bijection, old-within, still-there, moving-law}
@@ -120,9 +120,9 @@ module _ (s c m : ℕ) (h : List ℕ) (r : rising (c ∷ m ∷ h) ≡ true) wher
     blocks : chosenCount s H chosen ≡ each * k
     blocks = blocks-of-spread chosen each (diskOf s H) even (ours-spread chosen)
 
-    spread-by-growth : SpreadByGrowth s H chosen each moves
+    even-spread : EvenSpread s H chosen (diskOf s H) each moves
     unfolding oldCount addedCount earlier diskCount
-    spread-by-growth = record { blocks = blocks; is-spread = ours-spread chosen; even = even; moved = moved }
+    even-spread = record { blocks = blocks; is-spread = ours-spread chosen; even = even; moved = moved }
 
     every-spread : moves ≡ each * n → EverySpread s H chosen each moves
     unfolding oldCount addedCount earlier diskCount
@@ -233,7 +233,7 @@ module _ (s c m : ℕ) (h : List ℕ) (r : rising (c ∷ m ∷ h) ≡ true) wher
 
     window-spread-law : WindowSpread s H w
     unfolding oldCount addedCount earlier diskCount
-    window-spread-law = spread-by-growth (inWindow s H w) m (m * n) window-even window-moved
+    window-spread-law = even-spread (inWindow s H w) m (m * n) window-even window-moved
 
     window-least-law : WindowLeast s H w
     unfolding oldCount addedCount earlier diskCount
@@ -269,7 +269,7 @@ module _ (s c m : ℕ) (h : List ℕ) (r : rising (c ∷ m ∷ h) ≡ true) wher
 
     first-windows-spread-law : FirstWindowsSpread s H q
     unfolding oldCount addedCount earlier diskCount
-    first-windows-spread-law = spread-by-growth (inFirstWindows s H q) (q * m) (q * (m * n)) first-even first-moved
+    first-windows-spread-law = even-spread (inFirstWindows s H q) (q * m) (q * (m * n)) first-even first-moved
 
     first-windows-least-law : FirstWindowsLeast s H q
     unfolding oldCount addedCount earlier diskCount

@@ -34,7 +34,7 @@ use Rattle.layout.proofs.MovesTrue.{moves-at-format, moves-one-more, mo
 use Rattle.layout.proofs.LiveMoves.{live-moves-law}
 use Rattle.layout.proofs.MoveCases.{moves-hold}
 use Rattle.layout.proofs.FewestMoves.{every-growth-law, fewest-law, restripe-law}
-use Rattle.layout.proofs.FewestCases.{spreads-hold, racks-hold}
+use Rattle.layout.proofs.FewestCases.{spreads-hold, cases-true-law, counterexamples-law, racks-hold}
 use Rattle.layout.proofs.WindowsCode.{marks-most}
 
 -- the remainder of b-(n-1) is the true one, also for b < n-1
@@ -138,7 +138,9 @@ fewest-moves =
       every-growth = every-growth-law;
       in-growth = λ s. has-growth (FewestInGrowth s) (fewest-law s);
       restripe = restripe-law;
+      counterexamples = counterexamples-law;
       spread-cases = spreads-hold;
+      cases-true = cases-true-law;
       racks = racks-hold;
     }
 

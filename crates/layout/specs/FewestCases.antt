@@ -1,10 +1,9 @@
--- Document 02, W8: spreads of old blocks, the least over all spreads of one window and full restripes, as one table; and three racks.
--- `proofs/FewestCases.antt` has the proofs: examples of what is claimed, counterexamples to what is not, and a check that "at least m·n" is no
--- accident of words.
+-- Document 02, W8: spreads of old blocks, the least over all spreads of one window, parts of U and full restripes, as one table; and three
+-- racks. `proofs/FewestCases.antt` has the proofs: examples of what is claimed, and a check that "at least m·n" is no accident of words.
 use Prim.Native.Nat.{ℕ, zero, suc, _+_, _-_, _*_, min}
 use mathlib.Core.Path.{_≡_}
 use mathlib.Core.Bool.{Bool, false, cond}
-use mathlib.Core.List.{List, [], _∷_, map}
+use mathlib.Core.List.{List, [], _∷_, _++_, map}
 use lib.Dec.{eqb}
 use lib.ListN.{length, getD}
 use Rattle.base.specs.Below.{every, joined, table}
@@ -22,21 +21,20 @@ listed disks x = getD disks x 0
 -- all spreads of so many blocks to so many disks
 unfoldable pub allSpreads : (disks blocks : ℕ) → List (List ℕ)
 allSpreads disks zero = [] ∷ []
-allSpreads disks (suc blocks) = joined (λ d. map (λ f. d ∷ f) (allSpreads disks blocks)) disks
+allSpreads disks (suc blocks) = joined (λ d. map (λ f. f ++ (d ∷ [])) (allSpreads disks blocks)) disks
 
--- Of the newest growth of a history, with the rows of one whole window, m+n: its old blocks are those below m·(m+n).
-module _ (h : List ℕ) where
-  abbrev windowRows : ℕ
-  windowRows = oldCount h + addedCount h
+-- the test of `OnEachDisk`
+unfoldable pub hasOnEach : (s : ℕ) (h : List ℕ) (chosen : ℕ → Bool) (each : ℕ) (f : ℕ → ℕ) → Bool
+hasOnEach s h chosen each f = every (λ d. eqb (onDisk s h chosen f d) each) (oldCount h + addedCount h)
 
-  -- "with m on each disk"
-  unfoldable pub isEven : (f : ℕ → ℕ) → Bool
-  isEven f = every (λ d. eqb (onDisk windowRows h (inWindow windowRows h 0) f d) (oldCount h)) (oldCount h + addedCount h)
-
-  -- for each spread with m on each disk, the number on another disk than before
-  unfoldable pub evenMoves : (spreads : List (List ℕ)) → List ℕ
-  evenMoves [] = []
-  evenMoves (f ∷ rest) = cond (isEven (listed f)) (onAnotherDisk windowRows h (inWindow windowRows h 0) (listed f) ∷ evenMoves rest) (evenMoves rest)
+-- Of the newest growth of a history, with the rows of one whole window, m+n: its old blocks are those below m·(m+n). For each spread with m on each
+-- disk, the number on another disk than before
+unfoldable pub evenMoves : (h : List ℕ) (spreads : List (List ℕ)) → List ℕ
+evenMoves h [] = []
+evenMoves h (f ∷ rest) =
+    let s = oldCount h + addedCount h in
+    let chosen = inWindow s h 0 in
+    cond (hasOnEach s h chosen (oldCount h) (listed f)) (onAnotherDisk s h chosen (listed f) ∷ evenMoves h rest) (evenMoves h rest)
 
 -- the least of some numbers and a
 unfoldable pub leastOf : (a : ℕ) (numbers : List ℕ) → ℕ
@@ -56,17 +54,15 @@ pub data Blocks : Type 0 where
   FirstWindows : (q : ℕ) → Blocks
 
 -- A volume has history h and s rows.
+-- Before: the disks of its old blocks before the newest growth.
 -- Ours: the finished growth has so many of these old blocks on each disk, and so many on another disk than before.
--- Unmoved: the same where each block stays on its disk.
--- Other: the same of a spread that is given as a list.
 -- Part: window w's part of U at grow.
 -- Least: one window has so many spreads, so many of them have m on each disk, and of these the least number on another disk than before is
 -- moves, reached by so many.
 -- Restripe: the moves of a full restripe from m disks by n.
 pub data Case : Type 0 where
+  Before : (h : List ℕ) (s : ℕ) (disks : List ℕ) → Case
   Ours : (h : List ℕ) (s : ℕ) (b : Blocks) (on : List ℕ) (another : ℕ) → Case
-  Unmoved : (h : List ℕ) (s : ℕ) (b : Blocks) (on : List ℕ) (another : ℕ) → Case
-  Other : (h : List ℕ) (s : ℕ) (b : Blocks) (f on : List ℕ) (another : ℕ) → Case
   Part : (h : List ℕ) (s w moves : ℕ) → Case
   Least : (h : List ℕ) (spreads even moves reached : ℕ) → Case
   Restripe : (m n s moves : ℕ) → Case
@@ -75,30 +71,16 @@ abbrev pub spreadCases : List Case
 spreadCases =
     -- 2 disks and 1 more: m·n is 2
     Ours (3 ∷ 2 ∷ []) 3 (Window 0) (2 ∷ 2 ∷ 2 ∷ []) 2
-    -- 2 disks that were 1: the old blocks are on disks 1, 0, 1, 0, 1, 0, where round-robin would have 0, 1, 0, 1, 0, 1
+    -- 2 disks that were 1: not in round-robin order
+    ∷ Before (3 ∷ 2 ∷ 1 ∷ []) 3 (1 ∷ 0 ∷ 1 ∷ 0 ∷ 1 ∷ 0 ∷ [])
     ∷ Ours (3 ∷ 2 ∷ 1 ∷ []) 3 (Window 0) (2 ∷ 2 ∷ 2 ∷ []) 2
-    ∷ Other (3 ∷ 2 ∷ 1 ∷ []) 3 (Window 0) (1 ∷ 0 ∷ 1 ∷ 0 ∷ 1 ∷ 0 ∷ []) (3 ∷ 3 ∷ 0 ∷ []) 0
-    ∷ Other (3 ∷ 2 ∷ 1 ∷ []) 3 (Window 0) (0 ∷ 1 ∷ 0 ∷ 1 ∷ 0 ∷ 1 ∷ []) (3 ∷ 3 ∷ 0 ∷ []) 6
-    -- a later window
     ∷ Ours (3 ∷ 2 ∷ 1 ∷ []) 7 (Window 1) (2 ∷ 2 ∷ 2 ∷ []) 2
     ∷ Ours (3 ∷ 2 ∷ 1 ∷ []) 7 (FirstWindows 2) (4 ∷ 4 ∷ 4 ∷ []) 4
-    -- fewer moves, and not m on each disk
-    ∷ Unmoved (3 ∷ 2 ∷ []) 3 (Window 0) (3 ∷ 3 ∷ 0 ∷ []) 0
-    ∷ Other (3 ∷ 2 ∷ []) 3 (Window 0) (2 ∷ 1 ∷ 0 ∷ 1 ∷ 0 ∷ 1 ∷ []) (2 ∷ 3 ∷ 1 ∷ []) 1
-    -- as many moves, and not m on each disk
-    ∷ Other (3 ∷ 2 ∷ []) 3 (Window 0) (2 ∷ 1 ∷ 2 ∷ 1 ∷ 0 ∷ 1 ∷ []) (1 ∷ 3 ∷ 2 ∷ []) 2
-    -- another spread with m on each disk and as many moves
-    ∷ Other (3 ∷ 2 ∷ []) 3 (Window 0) (0 ∷ 2 ∷ 2 ∷ 1 ∷ 0 ∷ 1 ∷ []) (2 ∷ 2 ∷ 2 ∷ []) 2
-    -- round-robin: m on each disk, and more moves
-    ∷ Other (3 ∷ 2 ∷ []) 3 (Window 0) (0 ∷ 1 ∷ 2 ∷ 0 ∷ 1 ∷ 2 ∷ []) (2 ∷ 2 ∷ 2 ∷ []) 4
-    -- m on each of the first disks, and a disk that is not there
-    ∷ Other (3 ∷ 2 ∷ []) 3 (Window 0) (0 ∷ 1 ∷ 0 ∷ 1 ∷ 2 ∷ 3 ∷ []) (2 ∷ 2 ∷ 1 ∷ []) 2
-    -- two windows: even in the whole and not in each window, and as many moves
-    ∷ Other (2 ∷ 1 ∷ []) 4 (FirstWindows 2) (0 ∷ 0 ∷ 1 ∷ 1 ∷ []) (2 ∷ 2 ∷ []) 2
-    ∷ Other (2 ∷ 1 ∷ []) 4 (Window 0) (0 ∷ 0 ∷ 1 ∷ 1 ∷ []) (2 ∷ 0 ∷ []) 0
-    -- a window cut off to one row: only its moves are claimed. Left as they were, its blocks were spread as evenly
+    -- 1 disk and 3 more, and 3 disks and 2 more
+    ∷ Ours (4 ∷ 1 ∷ []) 4 (Window 0) (1 ∷ 1 ∷ 1 ∷ 1 ∷ []) 3
+    ∷ Ours (5 ∷ 3 ∷ []) 5 (Window 0) (3 ∷ 3 ∷ 3 ∷ 3 ∷ 3 ∷ []) 6
+    -- a window cut off to one row
     ∷ Ours (3 ∷ 2 ∷ []) 1 (Window 0) (0 ∷ 1 ∷ 1 ∷ []) 1
-    ∷ Unmoved (3 ∷ 2 ∷ []) 1 (Window 0) (1 ∷ 1 ∷ 0 ∷ []) 0
     ∷ Part (3 ∷ 2 ∷ []) 1 0 1
     -- 3 disks and 2 more: a whole window, the next one cut off to 4 rows and to 2, and no third
     ∷ Part (5 ∷ 3 ∷ []) 9 0 6
@@ -119,17 +101,6 @@ abbrev pub chosenBy : (s : ℕ) (h : List ℕ) (b : Blocks) → ℕ → Bool
 chosenBy s h (Window w) = inWindow s h w
 chosenBy s h (FirstWindows q) = inFirstWindows s h q
 
--- how many of these blocks f has on each disk, and on another disk than before
-abbrev pub onDisks : (s : ℕ) (h : List ℕ) (b : Blocks) (f : ℕ → ℕ) → List ℕ
-onDisks s h b f = table (onDisk s h (chosenBy s h b) f) (oldCount h + addedCount h)
-
-abbrev pub movedBy : (s : ℕ) (h : List ℕ) (b : Blocks) (f : ℕ → ℕ) → ℕ
-movedBy s h b f = onAnotherDisk s h (chosenBy s h b) f
-
--- the disk of the history before
-abbrev pub unmoved : (s : ℕ) (h : List ℕ) (x : ℕ) → ℕ
-unmoved s h x = oldSpot s h x .disk
-
 -- all spreads of one window
 abbrev pub windowSpreads : (h : List ℕ) → List (List ℕ)
 windowSpreads h = allSpreads (oldCount h + addedCount h) (oldCount h * (oldCount h + addedCount h))
@@ -142,9 +113,9 @@ leastCase h spreads moves =
 
 -- a case with its numbers worked out from the definitions
 unfoldable pub worked : Case → Case
-worked (Ours h s b on another) = Ours h s b (onDisks s h b (diskOf s h)) (movedBy s h b (diskOf s h))
-worked (Unmoved h s b on another) = Unmoved h s b (onDisks s h b (unmoved s h)) (movedBy s h b (unmoved s h))
-worked (Other h s b f on another) = Other h s b f (onDisks s h b (listed f)) (movedBy s h b (listed f))
+worked (Before h s disks) = Before h s (table (λ x. oldSpot s h x .disk) (oldCount h * s))
+worked (Ours h s b on another) =
+    Ours h s b (table (onDisk s h (chosenBy s h b) (diskOf s h)) (oldCount h + addedCount h)) (onAnotherDisk s h (chosenBy s h b) (diskOf s h))
 worked (Part h s w moves) = Part h s w (partAtGrow s h w)
 worked (Least h spreads even moves reached) = leastCase h (length (windowSpreads h)) (evenMoves h (windowSpreads h))
 worked (Restripe m n s moves) = Restripe m n s (restripeMoves m n s)
