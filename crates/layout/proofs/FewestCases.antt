@@ -85,6 +85,7 @@ counterexamples-law =
       round-robin-fails = λ c. eqb-false 4 2 refl (c .moved);
       before-is-history = refl;
       cut-fails = uneven-out 1 0 (diskOf 1 twoToThree) 0 (omega arith) refl;
+      cut-alone = refl;
       each-needed = λ g. not-suc-le-zero (g (λ x. x % 2) (λ x l e. let h : x % 2 < 2 = mod-lt x (omega arith) in omega (arith, h)));
       spread-needed = on-each (λ x. 3) 0 refl;
       together-even = tested 4 (2 ∷ 1 ∷ []) (inFirstWindows 4 (2 ∷ 1 ∷ []) 2) 2 (λ x. x / 2) refl;

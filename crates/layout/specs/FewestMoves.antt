@@ -6,8 +6,8 @@ use mathlib.Core.Bool.{Bool, true, false}
 use mathlib.Core.List.{List, [], _∷_, List·Mem}
 use Rattle.base.specs.Below.{sum, table}
 use Rattle.layout.specs.History.{diskCount, earlier, oldCount, addedCount, rising}
-use Rattle.layout.specs.Windows.{windows, uncopied, cutMoves}
-use Rattle.layout.specs.Spreads.{diskOf, inWindow, inFirstWindows, chosenCount, onAnotherDisk, IsSpread, OnEachDisk, partOfUncopied, partAtGrow, restripeMoves}
+use Rattle.layout.specs.Windows.{windows, oldSpot, uncopied, cutMoves}
+use Rattle.layout.specs.Spreads.{diskOf, inWindow, inFirstWindows, chosenCount, onDisk, onAnotherDisk, IsSpread, OnEachDisk, partOfUncopied, partAtGrow, restripeMoves}
 use Rattle.layout.specs.FewestCases.{listed, allSpreads, hasOnEach, SpreadsHold, Racks}
 
 -- Of the old blocks that pass a test:
@@ -99,9 +99,10 @@ pub record Counterexamples : Type 0 where
   pub round-robin-fails : WindowSpreadOf 3 twoToThree 0 (λ x. x % 3) → ⊥
   -- the disk before is that of the history: after a growth from 1 disk to 2, round-robin order on 2 disks has every block on another one
   pub before-is-history : onAnotherDisk 3 (3 ∷ 2 ∷ 1 ∷ []) (inWindow 3 (3 ∷ 2 ∷ 1 ∷ []) 0) (λ x. x % 2) ≡ 6
-  -- a window that is cut off is not spread so
+  -- a window that is cut off is not spread so: of one row ours has 0, 1 and 1 blocks on the disks. Left where they were, there would be 1, 1 and 0
   pub cut-fails : WindowSpread 1 twoToThree 0 → ⊥
-  -- `least`: spreads in which not every disk has m may have fewer moves
+  pub cut-alone : table (onDisk 1 twoToThree (inWindow 1 twoToThree 0) (λ x. oldSpot 1 twoToThree x .disk)) 3 ≡ 1 ∷ 1 ∷ 0 ∷ []
+  -- `least`: spreads without m on each disk may have fewer moves
   pub each-needed : ((f : ℕ → ℕ) → IsSpread 3 twoToThree (inWindow 3 twoToThree 0) f → 2 ≤ onAnotherDisk 3 twoToThree (inWindow 3 twoToThree 0) f) → ⊥
   -- `only-each`: functions that are no spreads may have another number on each disk
   pub spread-needed : OnEachDisk 3 twoToThree (inWindow 3 twoToThree 0) 0 (λ x. 3)
