@@ -91,6 +91,7 @@ counterexamples-law =
       together-even = tested 4 (2 ∷ 1 ∷ []) (inFirstWindows 4 (2 ∷ 1 ∷ []) 2) 2 (λ x. x / 2) refl;
       each-uneven = λ e. eqb-false 2 1 refl (e 0 (omega arith));
       row-left = refl;
+      part-other = λ e. eqb-false 2 4 refl e;
       part-missing = λ e. eqb-false 9 6 refl e;
       cut-less = λ e. eqb-false 3 6 refl e;
       no-start = λ e. true≢false (sym e);

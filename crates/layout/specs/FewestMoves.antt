@@ -90,6 +90,7 @@ abbrev pub uneven : ℕ → ℕ
 uneven = listed (2 ∷ 1 ∷ 2 ∷ 1 ∷ 0 ∷ 1 ∷ [])
 
 pub record Counterexamples : Type 0 where
+  -- ours is not the only one
   pub another-passes : WindowSpreadOf 3 twoToThree 0 another
   -- `even`: as many moves are not enough
   pub uneven-moves : onAnotherDisk 3 twoToThree (inWindow 3 twoToThree 0) uneven ≡ 2
@@ -111,6 +112,8 @@ pub record Counterexamples : Type 0 where
   pub each-uneven : OnEachDisk 4 (2 ∷ 1 ∷ []) (inWindow 4 (2 ∷ 1 ∷ []) 0) 1 (λ x. x / 2) → ⊥
   -- `all-old`: with a row left there are old blocks behind the first window
   pub row-left : inFirstWindows 4 twoToThree 1 6 ≡ false
+  -- `part-moved`: it is not the number that round-robin order has on another disk
+  pub part-other : partAtGrow 3 twoToThree 0 ≡ onAnotherDisk 3 twoToThree (inWindow 3 twoToThree 0) (λ x. x % 3) → ⊥
   -- from 3 disks to 5 with 7 rows. `sum-of-parts`: U is not the whole window's part alone; `cut-part`: nor has the other one m·n
   pub part-missing : uncopied 7 (5 ∷ 3 ∷ []) 0 (λ x. false) ≡ partAtGrow 7 (5 ∷ 3 ∷ []) 0 → ⊥
   pub cut-less : partAtGrow 7 (5 ∷ 3 ∷ []) 1 ≡ 6 → ⊥
