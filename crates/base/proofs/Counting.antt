@@ -147,6 +147,21 @@ unfolding sum
 sum-most f zero b h = omega arith
 sum-most f (suc n) b h = omega (arith, sum-most f n b (λ i l. h i (omega arith)), h n (omega arith), suc-mul n b)
 
+-- ---- numbers below a sum: each is in one place, r of f i
+
+pub sum-within : (f : ℕ → ℕ) (n i r : ℕ) → i < n → r < f i → sum f i + r < sum f n
+unfolding sum
+sum-within f zero i r h k = absurd (not-suc-le-zero h)
+sum-within f (suc n) i r h k =
+    ⊎-elim (λ (e : i ≡ n). rw e (omega (arith, (rw e at k)))) (λ (l : i < n). omega (arith, sum-within f n i r l k)) (eq-or-lt-of-le (le-of-suc-le-suc h))
+
+pub sum-place : (f : ℕ → ℕ) (n k : ℕ) → k < sum f n → (i : ℕ) × (r : ℕ) × (i < n) × (r < f i) × (sum f i + r ≡ k)
+unfolding sum
+sum-place f zero k h = absurd (not-suc-le-zero h)
+sum-place f (suc n) k h =
+    by-test (ltb k (sum f n)) (λ e. let (i, r, hi, hr, at) = sum-place f n k (ltb-true k (sum f n) e) in (i, r, omega arith, hr, at))
+    (λ e. let past : sum f n ≤ k = ltb-false k (sum f n) e in (n, k - sum f n, omega arith, omega arith, omega arith))
+
 -- ---- counting along a one to one map
 
 -- one less passes

@@ -3,13 +3,14 @@ use Prim.Native.Nat.{ℕ, zero, suc, _+_, _-_, _*_, _≤_, _<_}
 use mathlib.Core.Path.{_≡_, refl, sym, ap, subst, _∙_}
 use mathlib.Core.List.{List, [], _∷_, _++_, append-nil, append-assoc, List·Mem, mem-append-left, mem-append-right}
 use mathlib.Core.Logic.{_⊎_, inl, inr, _≢_, ⊎-elim}
-use native.Mathlib.Nat.{zero-add, add-zero, add-suc, suc-add, zero-mul, suc-mul, not-suc-le-zero, le-of-suc-le-suc, eq-or-lt-of-le}
+use native.Mathlib.Nat.{zero-add, add-zero, add-suc, suc-add, not-suc-le-zero, le-of-suc-le-suc, eq-or-lt-of-le}
 use native.Mathlib.Numerals.{add-one}
 use native.Mathlib.Decide.{ℕ-discrete}
 use native.Mathlib.Omega.{arith}
 use lib.ListN.{length, take, drop, getD, set, replicate, length-set, length-append, length-take, length-drop, drop-of-length-le, List·getD-append}
-use lib.Seq.{sets, sets-eq, length-sets, take-at, drop-at, set-at, getD-at, append-snoc, drop-drop, drop-set-lt, drop-set-add, take-set-le, getD-set-same, getD-set-other, ext-getD}
-use Rattle.base.specs.Below.{table, joined}
+use lib.Seq.{sets, sets-eq, length-sets, take-at, drop-at, set-at, getD-at, append-snoc, getD-append-add, drop-drop, drop-set-lt, drop-set-add, take-set-le, getD-set-same, getD-set-other, ext-getD}
+use Rattle.base.specs.Below.{sum, table, joined}
+use Rattle.base.proofs.Counting.{sum-all, sum-within}
 
 module _ {A : Type 0} where
   -- ---- runs
@@ -122,12 +123,28 @@ module _ {A : Type 0} where
       ⊎-elim (λ (q : i ≡ n). mem-append-right (joined f n) (subst (λ (k : ℕ). List·Mem a (f k)) q e))
       (λ (q : i < n). mem-append-left (f n) (mem-joined f n i a q e)) (eq-or-lt-of-le (le-of-suc-le-suc h))
 
+  pub length-joined-sum : (f : ℕ → List A) (n : ℕ) → length (joined f n) ≡ sum (λ i. length (f i)) n
+  unfolding joined sum
+  length-joined-sum f zero = refl
+  length-joined-sum f (suc n) = simp (length-append, length-joined-sum f n)
+
+  -- entry k of the list at i
+  pub getD-joined : (z : A) (f : ℕ → List A) (n i k : ℕ) → i < n → k < length (f i) → getD (joined f n) (sum (λ j. length (f j)) i + k) z ≡ getD (f i) k z
+  unfolding joined
+  getD-joined z f zero i k h l = absurd (not-suc-le-zero h)
+  getD-joined z f (suc n) i k h l =
+      ⊎-elim
+      (λ (q : i ≡ n). rw (q, ← length-joined-sum f n) (getD-append-add (joined f n) (f n) k z))
+      (λ (q : i < n).
+      List·getD-append (joined f n) (f n) z (sum (λ j. length (f j)) i + k)
+      (rw (length-joined-sum f n) (sum-within (λ j. length (f j)) n i k q l))
+      ∙ getD-joined z f n i k q l)
+      (eq-or-lt-of-le (le-of-suc-le-suc h))
+
   -- of one length
   module _ (f : ℕ → List A) (w : ℕ) (each : (i : ℕ) → length (f i) ≡ w) where
     pub length-joined : (n : ℕ) → length (joined f n) ≡ n * w
-    unfolding joined
-    length-joined zero = sym (zero-mul w)
-    length-joined (suc n) = simp (length-append, length-joined n, each n) (sym (suc-mul n w))
+    length-joined n = length-joined-sum f n ∙ sum-all (λ i. length (f i)) n w (λ i _. each i)
 
     -- the list at i, whatever follows
     pub joined-part : (n i : ℕ) (rest : List A) → i < n → take w (drop (i * w) (joined f n ++ rest)) ≡ f i

@@ -66,7 +66,7 @@ disk-before-old m n d b1 h = rw (lt-ltb d m h)
 -- a row of the window, b1 < m+n
 module _ (m n b1 : ℕ) (hm : 0 < m) (hn : 0 < n) (hb : b1 < m + n) where
   -- a moved block: its disk is an added one, has no added block, and leads back
-  moved : (d0 : ℕ) → d0 < m → d0 ≤ b1 → b1 < d0 + n
+  pub moved : (d0 : ℕ) → d0 < m → d0 ≤ b1 → b1 < d0 + n
       → (m ≤ newDisk m n d0 b1) × (newDisk m n d0 b1 < m + n) × (b1 < newDisk m n d0 b1) × (newDisk m n d0 b1 ≤ m + b1)
       × (oldDisk m n (newDisk m n d0 b1) b1 ≡ d0)
   unfolding newDisk oldDisk

@@ -1,0 +1,3 @@
+pub mod EntryPlaces
+pub mod PlacesCode
+pub mod Theorems

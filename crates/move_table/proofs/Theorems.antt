@@ -1,0 +1,2 @@
+-- The laws of the table of moves.
+use Prim.Native.Nat.{ℕ}

@@ -1,0 +1,29 @@
+-- The one test over the whole table: the array is `entries`, number by number.
+use mathlib.Core.Path.{refl, sym}
+use native.Mathlib.Nat.{lt-of-lt-of-le}
+use native.Mathlib.Omega.{arith}
+use lib.ListN.{List·getD-eq-default}
+use borrow.Author.Needs.{needs}
+use Rattle.base.specs.Below.{table, joined}
+use Rattle.layout.specs.Growth.{partOf, newDisk}
+use Rattle.move_table.specs.Entries.{diskOfMark, entriesOfPair, entriesOfSum, entries}
+use Rattle.move_table.proofs.EntryPlaces.{size-law, entry-most}
+use Rattle.move_table.proofs.places.disk_at.Statement.{statement}
+use Rattle.move_table.proofs.places.disk_at.Tie as tie
+
+returns : tie.Need-returns
+returns c = sym (List·getD-eq-default entries 0 (omega (arith, size-law)))
+
+array-read-result : tie.Need-array-read-result
+array-read-result c = search needs
+
+cast-result : tie.Need-cast-result
+unfolding entries entriesOfSum entriesOfPair diskOfMark newDisk partOf table joined
+cast-result c = record { fits = lt-of-lt-of-le (entry-most (c .before .args .at)) (omega arith) }
+
+returns-2 : tie.Need-returns-2
+unfolding entries entriesOfSum entriesOfPair diskOfMark newDisk partOf table joined
+returns-2 c = refl
+
+pub disk-at-spec : {M : Type 1} → statement M
+disk-at-spec = tie.close (tie.spec returns array-read-result cast-result returns-2)
