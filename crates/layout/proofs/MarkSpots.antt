@@ -28,11 +28,11 @@ module _ (m n : ℕ) (hm : 0 < m) (hn : 0 < n) where
     unfolding markOfSpot b1
     mark-below = digits-lt hd digit
 
-    mark-disk : markOfSpot m n p / n ≡ p .disk
+    pub mark-disk : markOfSpot m n p / n ≡ p .disk
     unfolding markOfSpot b1
     mark-disk = digits-div (p .disk) digit
 
-    mark-row : markOfSpot m n p / n + markOfSpot m n p % n ≡ b1
+    pub mark-row : markOfSpot m n p / n + markOfSpot m n p % n ≡ p .row .0 % (m + n)
     unfolding markOfSpot b1
     mark-row =
         omega (arith, rows, digits-div (p .disk) digit, digits-mod (p .disk) digit)

@@ -1,3 +1,5 @@
 pub mod EntryPlaces
 pub mod PlacesCode
+pub mod Agreement
+pub mod OnlyTable
 pub mod Theorems

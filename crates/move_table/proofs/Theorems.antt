@@ -1,2 +1,17 @@
--- The laws of the table of moves.
-use Prim.Native.Nat.{ℕ}
+-- The laws of the table of moves: `move-table-laws` proves all of `MoveTableLaws` in `specs/Laws.antt`.
+use Rattle.move_table.specs.Laws.{MoveTableLaws}
+use Rattle.move_table.proofs.EntryPlaces.{added-disk-law, table-law}
+use Rattle.move_table.proofs.PlacesCode.{formula-law}
+use Rattle.move_table.proofs.OnlyTable.{only-places-law, only-numbers-law}
+use Rattle.move_table.proofs.Agreement.{agrees-law}
+
+pub move-table-laws : MoveTableLaws
+move-table-laws =
+    record {
+      added-disk = added-disk-law;
+      is-table = table-law;
+      only-places = only-places-law;
+      only-numbers = only-numbers-law;
+      formula = formula-law;
+      address-agrees = agrees-law
+    }

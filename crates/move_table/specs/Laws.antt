@@ -1,11 +1,12 @@
 -- What is proved of the table of moves. `proofs/Theorems.antt` has the proof of `MoveTableLaws`.
-use Prim.Native.Nat.{ℕ, suc, _+_, _*_, _≤_, _<_}
+use Prim.Native.Nat.{ℕ, _+_, _*_, _≤_, _<_}
 use mathlib.Core.Path.{_≡_}
 use mathlib.Core.Bool.{true}
 use mathlib.Core.List.{List}
-use lib.ListN.{length, getD, set}
+use lib.ListN.{length, getD}
 use Rattle.layout.specs.History.{oldCount, addedCount, spotOf}
 use Rattle.layout.specs.Windows.{moving, markOf}
+use Rattle.layout.specs.Tally.{Tally, isRunning, liveSpotOf, growthsOf}
 use Rattle.layout.specs.Limits.{Grows, Limits}
 use Rattle.move_table.specs.Entries.{diskOfMark, entries, entryCount, offset, offsetFormula, spotByTable}
 
@@ -30,18 +31,21 @@ pub record IsMoveTable (numbers : List ℕ) (place : (m n j : ℕ) → ℕ) : Ty
 
 -- "Address may use it, and agrees with the formula for every block."
 pub record AddressAgrees (numbers : List ℕ) (place : (m n j : ℕ) → ℕ) : Type 0 where
-  -- a moving block of a growth, the newest of its history
+  -- a moving block of a growth, the newest of its history: its number is the disk of its new spot
   pub moving-block : (s : ℕ) (h : List ℕ) (x : ℕ) → Limits s h → moving s h x ≡ true
       → getD numbers (place (oldCount h) (addedCount h) (markOf s h x)) 0 ≡ spotOf s h x .disk
-  -- every block, through all growths of its history
+  -- every block, through all growths of a history
   pub every-block : (s : ℕ) (h : List ℕ) (x : ℕ) → Limits s h → spotByTable numbers place s h x ≡ spotOf s h x
+  -- and the live spot, which address tells, in every stage of a growth: through the growths that have placed the block
+  pub live-block : (t : Tally) (x : ℕ) → Limits (t .rows) (t .counts) → (isRunning (t .mode) ≡ true → 0 < oldCount (t .counts))
+      → spotByTable numbers place (t .rows) (growthsOf t x) x ≡ liveSpotOf t x
 
 pub record MoveTableLaws : Type 0 where
   -- a mark's disk is an added one, so that no entry is 0, and each is below 16
   pub added-disk : (m n j : ℕ) → IsMark m n j → (m ≤ diskOfMark m n j) × (diskOfMark m n j < m + n)
   pub is-table : IsMoveTable entries offset
-  -- no other numbers and no other places are
-  pub only-place : (numbers : List ℕ) (place : (m n j : ℕ) → ℕ) → IsMoveTable numbers place → (m n j : ℕ) → IsMark m n j → place m n j ≡ offset m n j
+  -- no other places and no other numbers are
+  pub only-places : (numbers : List ℕ) (place : (m n j : ℕ) → ℕ) → IsMoveTable numbers place → (m n j : ℕ) → IsMark m n j → place m n j ≡ offset m n j
   pub only-numbers : (numbers : List ℕ) (place : (m n j : ℕ) → ℕ) → IsMoveTable numbers place → numbers ≡ entries
   pub formula : (m n j : ℕ) → IsMark m n j → offset m n j ≡ offsetFormula m n j
-  pub address-agrees : AddressAgrees entries offset
+  pub address-agrees : (numbers : List ℕ) (place : (m n j : ℕ) → ℕ) → IsMoveTable numbers place → AddressAgrees numbers place
