@@ -22,7 +22,7 @@ use Rattle.layout.proofs.Spots.{same-spot}
 use Rattle.layout.proofs.NewestGrowth.{old-within, old-block, moving-old, moving-moves}
 use Rattle.layout.proofs.Theorems.{disks-sum, look-ups}
 use Rattle.move_table.specs.Entries.{diskOfMark, diskByTable, spotByTable}
-use Rattle.move_table.specs.Laws.{IsMark, IsMoveTable, AddressAgrees}
+use Rattle.move_table.specs.Tables.{IsMark, IsMoveTable, AddressAgrees}
 
 -- ---- one growth
 
@@ -114,5 +114,5 @@ module _ (numbers : List ℕ) (place : (m n j : ℕ) → ℕ) (is : IsMoveTable 
       record {
         moving-block = moving-agrees;
         every-block = λ s h x l. spot-agrees s h x (l .rise) (l .disks-most);
-        live-block = live-agrees
+        live-block = live-agrees;
       }

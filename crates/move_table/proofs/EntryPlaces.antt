@@ -14,7 +14,7 @@ use Rattle.base.proofs.Lists.{length-table, getD-table, length-joined-sum, getD
 use Rattle.layout.specs.Limits.{mostDisks}
 use Rattle.layout.proofs.OneRow.{moved}
 use Rattle.move_table.specs.Entries.{diskOfMark, entriesOfPair, entriesOfSum, entries, entryCount, marksOfSum, offset}
-use Rattle.move_table.specs.Laws.{IsMark, IsMoveTable}
+use Rattle.move_table.specs.Tables.{IsMark, IsMoveTable}
 
 -- ---- lengths
 
@@ -146,5 +146,5 @@ table-law =
       sum-rises = sum-rises-law;
       old-rises = old-rises-law;
       mark-rises = λ m n j i _ _. mark-rises-law m n j i;
-      size = size-law
+      size = size-law;
     }

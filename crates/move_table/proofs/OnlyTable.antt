@@ -11,7 +11,7 @@ use lib.Seq.{ext-getD}
 use borrow.Author.Tests.{ltb-true, ltb-false}
 use Rattle.base.proofs.Booleans.{by-test}
 use Rattle.move_table.specs.Entries.{entries, offset}
-use Rattle.move_table.specs.Laws.{IsMark, IsMoveTable}
+use Rattle.move_table.specs.Tables.{IsMark, IsMoveTable}
 use Rattle.move_table.proofs.EntryPlaces.{table-law}
 
 -- less, equal or greater

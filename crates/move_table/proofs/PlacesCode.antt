@@ -13,12 +13,12 @@ use Rattle.layout.specs.Limits.{Grows, mostDisks}
 use Rattle.move_table.specs.declared.Place.{Place}
 use Rattle.move_table.specs.declared.Place.the-variants.{At, NoMark}
 use Rattle.move_table.specs.Entries.{marksOfSum, offset, offsetFormula, hasMark, placeOf}
-use Rattle.move_table.specs.Laws.{IsMark}
+use Rattle.move_table.specs.Tables.{IsMark}
 
 -- ---- which marks there are
 
 module _ (m n j : ℕ) where
-  mark-true : hasMark m n j ≡ true → IsMark m n j
+  pub mark-true : hasMark m n j ≡ true → IsMark m n j
   unfolding hasMark
   mark-true e =
       let three = and-left (leb 1 m && leb 1 n && leb (m + n) mostDisks) (ltb j (m * n)) e in
@@ -28,9 +28,9 @@ module _ (m n j : ℕ) where
             record {
               old = leb-true 1 m (and-left (leb 1 m) (leb 1 n) two);
               added = leb-true 1 n (and-right (leb 1 m) (leb 1 n) two);
-              most = leb-true (m + n) mostDisks (and-right (leb 1 m && leb 1 n) (leb (m + n) mostDisks) three)
+              most = leb-true (m + n) mostDisks (and-right (leb 1 m && leb 1 n) (leb (m + n) mostDisks) three);
             };
-        below = ltb-true j (m * n) (and-right (leb 1 m && leb 1 n && leb (m + n) mostDisks) (ltb j (m * n)) e)
+        below = ltb-true j (m * n) (and-right (leb 1 m && leb 1 n && leb (m + n) mostDisks) (ltb j (m * n)) e);
       }
 
   true-mark : IsMark m n j → hasMark m n j ≡ true

@@ -4,14 +4,17 @@ use Rattle.move_table.proofs.EntryPlaces.{added-disk-law, table-law}
 use Rattle.move_table.proofs.PlacesCode.{formula-law}
 use Rattle.move_table.proofs.OnlyTable.{only-places-law, only-numbers-law}
 use Rattle.move_table.proofs.Agreement.{agrees-law}
+use Rattle.move_table.proofs.Cases.{examples-law, counterexamples-law}
 
 pub move-table-laws : MoveTableLaws
 move-table-laws =
     record {
-      added-disk = added-disk-law;
       is-table = table-law;
       only-places = only-places-law;
       only-numbers = only-numbers-law;
+      added-disk = added-disk-law;
       formula = formula-law;
-      address-agrees = agrees-law
+      address-agrees = agrees-law;
+      examples = examples-law;
+      counterexamples = counterexamples-law;
     }

@@ -1,2 +1,4 @@
 pub mod Entries
+pub mod Tables
+pub mod Cases
 pub mod Laws

@@ -4,7 +4,7 @@ use native.Mathlib.Omega.{arith}
 use Rattle.layout.proofs.WindowsCode.{marks-most}
 use Rattle.move_table.specs.declared.Place.the-variants.{At}
 use Rattle.move_table.specs.Entries.{offset}
-use Rattle.move_table.specs.Laws.{IsMark}
+use Rattle.move_table.specs.Tables.{IsMark}
 use Rattle.move_table.proofs.PlacesCode.{at-place, no-place}
 use Rattle.move_table.proofs.EntryPlaces.{size-law, within-law}
 use borrow.Author.Needs.{needs}

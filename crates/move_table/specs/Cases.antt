@@ -1,0 +1,54 @@
+-- Examples of the table of moves, and what breaks each part of `IsMoveTable` and of `AddressAgrees`.
+use Prim.Native.Nat.{ℕ, suc, _+_, _-_, _*_}
+use mathlib.Core.Path.{_≡_}
+use mathlib.Core.List.{List, [], _∷_, _++_}
+use lib.ListN.{getD, set}
+use Rattle.base.specs.Below.{table, joined}
+use Rattle.layout.specs.Limits.{mostDisks}
+use Rattle.move_table.specs.declared.Place.the-variants.{At, NoMark}
+use Rattle.move_table.specs.Entries.{entriesOfPair, entriesOfSum, entries, offset, placeOf}
+use Rattle.move_table.specs.Tables.{IsMoveTable, AddressAgrees}
+
+-- c entries from a place on
+abbrev pub entriesFrom : (at c : ℕ) → List ℕ
+entriesFrom at c = table (λ j. getD entries (at + j) 0) c
+
+pub record Examples : Type 0 where
+  -- the first pair, 1 and 1, has one mark; the last, 15 and 1, has 15
+  pub first-place : placeOf 1 1 0 ≡ At 0
+  pub last-place : placeOf 15 1 14 ≡ At 3_059
+  -- from 3 disks to 5, document 01's example: six marks
+  pub three-to-five-place : placeOf 3 2 0 ≡ At 25
+  pub three-to-five : entriesFrom 25 6 ≡ 3 ∷ 3 ∷ 4 ∷ 3 ∷ 4 ∷ 4 ∷ []
+  -- from 2 disks to 5, the pair before: six marks too
+  pub two-to-five-place : placeOf 2 3 0 ≡ At 19
+  pub two-to-five : entriesFrom 19 6 ≡ 2 ∷ 2 ∷ 3 ∷ 3 ∷ 4 ∷ 4 ∷ []
+  -- no old disk, no added disk, 17 disks, and a mark too many
+  pub no-old : placeOf 0 5 0 ≡ NoMark
+  pub no-added : placeOf 5 0 0 ≡ NoMark
+  pub too-many-disks : placeOf 9 8 0 ≡ NoMark
+  pub no-such-mark : placeOf 3 2 6 ≡ NoMark
+
+-- Where `place` is any, no places make these numbers a table of moves; where `numbers` is any, no numbers do with these places.
+pub record Counterexamples : Type 0 where
+  -- `its-disk`: one entry changed, block 0's from 3 disks to 5
+  pub one-changed : (place : (m n j : ℕ) → ℕ) → IsMoveTable (set entries 25 4) place → ⊥
+  -- `within`: each place one more
+  pub one-off : IsMoveTable entries (λ m n j. suc (offset m n j)) → ⊥
+  -- `each-place`: a number more at the end
+  pub one-more : IsMoveTable (entries ++ (1 ∷ [])) offset → ⊥
+  -- `sum-rises`: all in the opposite order
+  pub sums-fall : (numbers : List ℕ) → IsMoveTable numbers (λ m n j. 3_059 - offset m n j) → ⊥
+  -- `old-rises`: m and n swapped
+  pub swapped-places : (numbers : List ℕ) → IsMoveTable numbers (λ m n j. offset n m j) → ⊥
+  pub swapped-numbers : (place : (m n j : ℕ) → ℕ) → IsMoveTable (joined (λ k. joined (λ m. entriesOfPair (k - m) m) k) (suc mostDisks)) place → ⊥
+  -- `mark-rises`: the marks of each pair falling
+  pub marks-fall : (numbers : List ℕ) → IsMoveTable numbers (λ m n j. offset m n (m * n - suc j)) → ⊥
+  -- `size`: m + n at most 15
+  pub too-few : (place : (m n j : ℕ) → ℕ) → IsMoveTable (joined entriesOfSum mostDisks) place → ⊥
+  -- `moving-block`: one entry changed
+  pub changed-elsewhere : AddressAgrees (set entries 25 4) offset → ⊥
+  -- `every-block`: m and n swapped
+  pub swapped-elsewhere : AddressAgrees entries (λ m n j. offset n m j) → ⊥
+  -- `live-block`: each place one more
+  pub one-off-elsewhere : AddressAgrees entries (λ m n j. suc (offset m n j)) → ⊥
