@@ -20,11 +20,12 @@ use Rattle.volume.specs.States.{geometry, withPending}
 use Rattle.volume.specs.Calls.{refused, doing, formatTable, formatEffect, formatOutcome}
 use Rattle.promise.specs.Calls.{Call}
 use Rattle.promise.specs.Lists.{callOutcome}
+use Rattle.move_table.specs.Entries.{placeOf}
 use Rattle.scene_load.specs.declared.Load.{Load}
 use Rattle.scene_load.specs.declared.Scene.{Scene}
 use Rattle.scene_load.specs.Loads.{loadOf, loadNumber}
-use Rattle.capi.specs.Exported.{Left, wrongLength, lengthsFit, stateFits, untouched, handedBack, lookedUp, callLeft, lookUpLeft, stateTaken, loadLeft}
-use Rattle.capi.specs.Figures.{loadFigures}
+use Rattle.capi.specs.Exported.{Left, wrongLength, lengthsFit, stateFits, untouched, handedBack, lookedUp, callLeft, lookUpLeft, stateTaken, loadLeft, tableMoveLeft}
+use Rattle.capi.specs.Figures.{loadFigures, tableMoveFigures}
 use Rattle.capi.specs.Words.{stateWords, pendingWord, wordsOf, stateFrom, areState}
 use Rattle.capi.proofs.WordLaws.{words-pending, state-words}
 use Rattle.capi.proofs.RefusedLaws.{OnlyPending}
@@ -156,3 +157,15 @@ module _ (words : List ℕ) (scenes : List Scene) (figures : List ℕ) where
       let same : load ≡ loadOf (stateFrom words) scenes = f ∙ ap (λ (s : Volume). loadOf s scenes) (e ∙ taken t) in
       rw (t, ← same) (rw t at (g .0), rw t at (g .1)))
       (λ t. rw t (rw t at (g .0), rw t at (g .1)))
+
+-- ---- the table of moves, which asks for figures alone
+
+module _ (m n j : ℕ) (figures : List ℕ) where
+  pub table-not-looked-up : length figures ≢ 2 → (wrongLength ≡ tableMoveLeft m n j figures .number) × (figures ≡ tableMoveLeft m n j figures .figures)
+  unfolding tableMoveLeft untouched
+  table-not-looked-up h = rw (ne-eqb (length figures) 2 h) (refl, refl)
+
+  pub table-looked-up : length figures ≡ 2 → (after : List ℕ) → after ≡ tableMoveFigures (placeOf m n j)
+      → (0 ≡ tableMoveLeft m n j figures .number) × (after ≡ tableMoveLeft m n j figures .figures)
+  unfolding tableMoveLeft lookedUp
+  table-looked-up h after e = rw (eq-eqb (length figures) 2 h) (refl, e)

@@ -3,4 +3,5 @@ pub mod ExportedCode
 pub mod WordLaws
 pub mod RefusedLaws
 pub mod Theorems
+pub mod TableLaws
 pub mod ViewLaws

@@ -1,6 +1,7 @@
 -- The laws of words and of the exported functions: `capi-laws` proves all of `CapiLaws` in `specs/Laws.antt`.
 use Rattle.capi.specs.Laws.{CapiLaws}
 use Rattle.capi.proofs.RefusedLaws.{format-number, call-number, address-number, holder-number, view-number, load-number, grow-refused, grow-beyond-doubling-refused, copy-refused, checkpoint-refused, advance-refused, format-refused, restart-refused, address-refused, holder-refused, view-refused, load-refused, write-refused, read-refused, flushed-refused, write-keeps, flushed-keeps, read-keeps}
+use Rattle.capi.proofs.TableLaws.{table-move-told, table-move-none}
 use Rattle.capi.proofs.ViewLaws.{view-told}
 use Rattle.capi.proofs.WordLaws.{words-count, state-back, state-arrays, words-back}
 
@@ -35,4 +36,6 @@ capi-laws =
       flushed-keeps = flushed-keeps;
       read-keeps = read-keeps;
       view-told = view-told;
+      table-move-told = table-move-told;
+      table-move-none = table-move-none;
     }

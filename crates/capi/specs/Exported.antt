@@ -1,5 +1,5 @@
 -- What each exported function leaves: the number that it returns, the lent words of the state, the lent figures, its store and the lent
--- piece. It is the outcome of the state that the words hold: of the call that demand 3 speaks of, of format or a look-up, of a view or of a load.
+-- piece. It is the outcome of the state that the words hold: of the call that demand 3 speaks of, of format or a look-up, of a view or of a load. The table of moves needs no state.
 use Prim.Native.Nat.{ℕ}
 use mathlib.Core.Bool.{Bool, cond, _&&_}
 use mathlib.Core.List.{List, []}
@@ -17,8 +17,9 @@ use Rattle.promise.specs.Calls.{Call, grow, growBeyondDoubling, copy, checkpoin
 use Rattle.promise.specs.Lists.{callOutcome}
 use Rattle.scene_load.specs.declared.Scene.{Scene}
 use Rattle.scene_load.specs.Loads.{loadOf, loadNumber}
+use Rattle.move_table.specs.Entries.{placeOf}
 use Rattle.shelves.specs.Views.{viewAnswer, viewNumber}
-use Rattle.capi.specs.Figures.{noFigures, callsFigures, advanceFigures, addressFigures, holderFigures, viewFigures, loadFigures}
+use Rattle.capi.specs.Figures.{noFigures, callsFigures, advanceFigures, addressFigures, holderFigures, viewFigures, loadFigures, tableMoveFigures}
 use Rattle.capi.specs.Words.{stateWords, wordsOf, stateFrom, areState}
 
 pub record Left : Type 0 where
@@ -126,3 +127,7 @@ loadLeft words scenes figures =
 -- "1: state not sound", asked alone
 abbrev pub soundnessLeft : (words : List ℕ) → Left
 soundnessLeft words = lookUpLeft 0 (cond (sound (stateFrom words)) 0 1) [] words []
+
+-- Document 02, W9. No state is lent, and every number is taken.
+unfoldable pub tableMoveLeft : (m n j : ℕ) (figures : List ℕ) → Left
+tableMoveLeft m n j figures = cond (eqb (length figures) 2) (lookedUp 0 (tableMoveFigures (placeOf m n j)) []) (untouched [] figures [])

@@ -2,6 +2,7 @@
 use Prim.Native.Nat.{ℕ}
 use mathlib.Core.List.{List, [], _∷_, _++_}
 use mathlib.Core.Option.{Option, none, some}
+use lib.ListN.{getD}
 use Rattle.layout.specs.declared.Part.{Part}
 use Rattle.layout.specs.declared.Part.the-variants.{Head, Body, Tail}
 use Rattle.layout.specs.declared.Reason.{Reason}
@@ -17,6 +18,9 @@ use Rattle.volume.specs.declared.HolderAnswer.{HolderAnswer}
 use Rattle.volume.specs.Answers.{callsTold, blockCopied, partCopied, partTold, blockTold}
 use Rattle.scene_load.specs.declared.Load.{Load}
 use Rattle.scene_load.specs.Loads.{placeTold}
+use Rattle.move_table.specs.declared.Place.{Place}
+use Rattle.move_table.specs.declared.Place.the-variants.{At, NoMark}
+use Rattle.move_table.specs.Entries.{entries}
 use Rattle.shelves.specs.declared.ViewAnswer.{ViewAnswer}
 use Rattle.shelves.specs.declared.ViewAnswer.the-variants as view
 
@@ -78,3 +82,8 @@ viewFigures (view.Second at) = 2 ∷ at ∷ []
 -- of load: the place, and how many blocks each disk serves
 abbrev pub loadFigures : (load : Load) → List ℕ
 loadFigures load = placeTold (load .answer) ∷ load .served
+
+-- of the table of moves: the offset of a mark's entry and its disk, which is not 0; or 0 for both where there is no such mark
+unfoldable pub tableMoveFigures : (place : Place) → List ℕ
+tableMoveFigures (At at) = at ∷ getD entries at 0 ∷ []
+tableMoveFigures NoMark = 0 ∷ 0 ∷ []

@@ -16,8 +16,10 @@ use Rattle.promise.specs.Calls.{Call}
 use Rattle.promise.specs.Lists.{callOutcome}
 use Rattle.scene_load.specs.declared.Scene.{Scene}
 use Rattle.scene_load.specs.Loads.{placeTold, loadOf, loadNumber}
+use Rattle.move_table.specs.Entries.{diskOfMark, offset}
+use Rattle.move_table.specs.Tables.{IsMark}
 use Rattle.shelves.specs.Views.{viewAnswer, viewNumber, viewOf}
-use Rattle.capi.specs.Exported.{Left, wrongLength, lengthsFit, stateFits, formatLeft, restartLeft, growLeft, growBeyondDoublingLeft, copyLeft, checkpointLeft, advanceLeft, writeLeft, readLeft, flushedLeft, addressLeft, holderLeft, viewLeft, loadLeft}
+use Rattle.capi.specs.Exported.{Left, wrongLength, lengthsFit, stateFits, formatLeft, restartLeft, growLeft, growBeyondDoublingLeft, copyLeft, checkpointLeft, advanceLeft, writeLeft, readLeft, flushedLeft, addressLeft, holderLeft, viewLeft, loadLeft, tableMoveLeft}
 use Rattle.capi.specs.Words.{stateWords, wordsOf, stateFrom, mostPending}
 
 -- the lengths that the types of the code give the arrays of a state
@@ -96,3 +98,7 @@ pub record CapiLaws : Type 0 where
       left .number ≡ 0
       → take (stateFrom words .size) (drop (getD (left .figures) 1 0) (shelfNamed (getD (left .figures) 0 0) first second))
       ≡ viewOf (stateFrom words) first second k x)
+  -- the table of moves tells of a mark the offset of its entry and its disk, which is not 0, and of no mark zeros
+  pub table-move-told : (m n j : ℕ) (figures : List ℕ) → length figures ≡ 2 → IsMark m n j
+      → tableMoveLeft m n j figures .figures ≡ offset m n j ∷ diskOfMark m n j ∷ []
+  pub table-move-none : (m n j : ℕ) (figures : List ℕ) → length figures ≡ 2 → (IsMark m n j → ⊥) → tableMoveLeft m n j figures .figures ≡ 0 ∷ 0 ∷ []

@@ -11,6 +11,7 @@ mod loads;
 mod lookups;
 mod pieces;
 mod states;
+mod tables;
 mod words;
 
 // The number where the lent words are no state's or the lent figures have the wrong length.
@@ -33,3 +34,5 @@ const HOLDER_FIGURES: usize = 1;
 const VIEW_FIGURES: usize = 2;
 
 const LOAD_FIGURES: usize = 17;
+
+const TABLE_MOVE_FIGURES: usize = 2;
