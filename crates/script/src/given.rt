@@ -59,10 +59,12 @@ pub const VIEW: usize = 26;
 
 pub const MOVES: usize = 27;
 
-pub const NOTHING: usize = 28;
+pub const TABLE_MOVE: usize = 28;
+
+pub const NOTHING: usize = 29;
 
 // The word `view`, with the lengths of the shelves.
-pub const VIEW_OF_LENGTHS: usize = 29;
+pub const VIEW_OF_LENGTHS: usize = 30;
 
 // A call with its numbers; NOTHING where no call has the word, or not so many numbers follow it.
 pub struct Given {
@@ -104,8 +106,9 @@ fn wanted(k: usize) -> usize {
         2,
         2,
         1,
+        3,
     ];
-    if k < 28 {
+    if k < 29 {
         return counts[k];
     }
     0
@@ -115,7 +118,7 @@ fn call_of(line: &[u8], count: usize) -> usize {
     let k = word_number(
         line,
         b"format restart sector grow grow-beyond-doubling copy checkpoint advance flushed write saves read reads \
-address holder addresses chart chart-of-record state medium cache record put bytes keep back view moves ",
+address holder addresses chart chart-of-record state medium cache record put bytes keep back view moves table-move ",
     );
     // Text may follow the number of `bytes`.
     if k == BYTES {

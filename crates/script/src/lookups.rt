@@ -1,4 +1,4 @@
-// Address and holder, of one block or spot, and of many blocks.
+// Address and holder, of one block or spot, and of many blocks; and the table of moves.
 use super::answers::show_address;
 use super::answers::show_holder;
 use layout::Block;
@@ -6,6 +6,8 @@ use layout::Part;
 use layout::Reason;
 use layout::Row;
 use layout::Spot;
+use move_table::Place;
+use printing::labelled;
 use printing::next_number;
 use printing::text;
 use volume::AddressAnswer;
@@ -99,4 +101,16 @@ pub fn addresses(v: Volume, end: usize) {
 // How many blocks below `end` were moved by 0 growths, by 1, and so on up to 7. A block that is refused is not counted.
 pub fn moves(v: Volume, end: usize) {
     show_counts(v, end, UNMOVED, 15);
+}
+
+// The table's entry for a mark of the growth from m disks by n.
+pub fn table_move(m: usize, n: usize, mark: usize) {
+    let place = move_table::offset(m, n, mark);
+    match place {
+        Place::At(at) => {
+            labelled(b": offset", at);
+            labelled(b", disk", move_table::disk_at(at));
+        }
+        Place::NoMark => text(b": no such mark"),
+    }
 }

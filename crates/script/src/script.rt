@@ -27,6 +27,7 @@ use super::given::READS;
 use super::given::RECORD;
 use super::given::SAVES;
 use super::given::STATE;
+use super::given::TABLE_MOVE;
 use super::given::VIEW;
 use super::given::VIEW_OF_LENGTHS;
 use super::given::WRITE;
@@ -38,6 +39,7 @@ use super::lookups::address;
 use super::lookups::addresses;
 use super::lookups::holder;
 use super::lookups::moves;
+use super::lookups::table_move;
 use super::run::Run;
 use super::run::keep;
 use super::run::start;
@@ -62,6 +64,7 @@ fn look(v: Volume, given: Given) {
         HOLDER => holder(v, given.a, given.b),
         ADDRESSES => addresses(v, given.a),
         MOVES => moves(v, given.a),
+        TABLE_MOVE => table_move(given.a, given.b, given.c),
         _ => text(b": no such line, or not so many numbers"),
     }
 }
