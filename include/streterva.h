@@ -2,13 +2,14 @@
  * Streterva: a RAID-0 volume (striping without parity) that takes more disks while it is in use.
  *
  * Link with libcapi.a (x86-64). "Document 01" is the specification, and "document 02" that of load, flushed, view, the
- * number of moves and the limit to doubling; numbers and words here are their own: a block is an address in the volume,
- * a row is a position on one disk, a spot is a disk and a row.
+ * number of moves, the limit to doubling and the table of moves; numbers and words here are their own: a block is an
+ * address in the volume, a row is a position on one disk, a spot is a disk and a row.
  *
  * Answers. Every function returns 0 when it accepts the call, or else the number of the refusal (enum
  * streterva_refusal). Tests are made in the order given at each function, and the first that fails gives the number. A
  * refused call changes nothing in the medium, the state and the piece, with one exception: format and restart, refused,
- * set the state to zeros. It sets every figure to 0, all but the place that load tells with 17.
+ * set the state to zeros. It sets every figure to 0, all but the place that load tells with 17. All functions but
+ * streterva_table_move take a state.
  *
  * Slices. A buffer is lent for the call as a pointer and, directly after it, the number of its elements: bytes for a
  * medium or a piece, words of 64 bits for a state or figures, scenes for a list of them. The pointer must be valid for
@@ -70,6 +71,10 @@
  * growth: it is grow without that test, and "grow" in this comment means either. A volume that has such a step in its
  * history, finished or under way, is restarted and completed by the same calls as any other. The next streterva_grow on
  * it takes up to twice its newest count.
+ *
+ * Table of moves. For each growth from m disks by n more and each mark of it the table has the new disk of that moving
+ * block. The whole table is in streterva_moves.h, for firmware without this library; it also says which block has which
+ * mark. streterva_table_move tells one entry. It takes numbers alone, neither a state nor a medium.
  *
  * Pending stores. Drives with a write cache may keep stores and put them down in any order, so a store is pending until
  * the caller tells by streterva_flushed that all earlier stores are down. On such drives:
@@ -135,6 +140,7 @@ extern "C" {
 #define STRETERVA_ADDRESS_FIGURES 6
 #define STRETERVA_HOLDER_FIGURES 1
 #define STRETERVA_LOAD_FIGURES 17
+#define STRETERVA_TABLE_MOVE_FIGURES 2
 
 /* The most scenes in a list. */
 #define STRETERVA_MOST_SCENES 65536
@@ -246,6 +252,12 @@ enum streterva_part { STRETERVA_HEAD = 1, STRETERVA_BODY = 2, STRETERVA_TAIL = 3
 enum streterva_load_figure {
     STRETERVA_LOAD_PLACE = 0, /* refused with 17: the place of the first such scene, counted from 0; else 0 */
     STRETERVA_LOAD_SERVED = 1 /* at STRETERVA_LOAD_SERVED + d: the blocks that disk d serves, 0 if there is none */
+};
+
+/* Places of the figures of table move. */
+enum streterva_table_move_figure {
+    STRETERVA_TABLE_MOVE_OFFSET = 0, /* the offset of the entry in the table, counted from 0 */
+    STRETERVA_TABLE_MOVE_DISK = 1    /* the entry, which is the new disk: 1 to 15; 0 where there is no such mark */
 };
 
 /*
@@ -391,6 +403,15 @@ uint64_t streterva_holder(const uint64_t *state, size_t state_words, uint64_t di
  */
 uint64_t streterva_load(const uint64_t *state, size_t state_words, const streterva_scene *scenes, size_t scenes_count,
                         uint64_t *figures, size_t figures_words);
+
+/*
+ * Table move: tells the entry of the table of moves for `mark` of the growth from m disks by n more; see "Table of
+ * moves". The arguments may be any numbers. Where there is no such mark both figures are 0: m or n is 0, m + n is above
+ * 16 (also where the sum needs more than 64 bits), or mark is not below m * n.
+ * Refuses: nothing but a wrong length of the figures.
+ * Figures (2): enum streterva_table_move_figure.
+ */
+uint64_t streterva_table_move(uint64_t m, uint64_t n, uint64_t mark, uint64_t *figures, size_t figures_words);
 
 /* Soundness: 0 when the state is sound, 1 when it is not, 100 when it has not 16 words or the last is above 3. */
 uint64_t streterva_soundness(const uint64_t *state, size_t state_words);

@@ -15,6 +15,7 @@ pub const LAST_WINDOW: &str = "growing, last window";
 pub const CACHED: &str = "t = 7, cached";
 pub const LARGE: &str = "t = 7, large";
 pub const MOVING: &str = "growing, large";
+pub const ANY_MARK: &str = "any mark";
 
 /// The usual history.
 pub const COUNTS: [u64; 8] = [2, 4, 6, 8, 10, 12, 14, 16];
@@ -42,6 +43,11 @@ pub fn lookup_label(call: &'static str, case: &'static str, s: u64) -> Label {
         s,
         compares_s: false,
     }
+}
+
+/// The label of a row without a volume, where neither Z nor s matters.
+pub fn table_label(call: &'static str, case: &'static str) -> Label {
+    lookup_label(call, case, 0)
 }
 
 /// The label of a row that compares values of s.

@@ -2,7 +2,7 @@
 //! than another call.
 
 use crate::cases::*;
-use crate::list::{address, flushed, holder, recording, soundness, view};
+use crate::list::{address, flushed, holder, recording, soundness, table_move, view};
 use crate::media::Shared;
 use crate::medium::Medium;
 use crate::moves::{self, Moves};
@@ -97,6 +97,8 @@ fn lookups() -> Vec<Counted> {
         counted(shown(GROWING, growing, 14 * s), 0.91).no_more_than("address"),
         counted(held(GROWN, grown, 16 * s), 1.03),
         counted(held(GROWING, growing, 14 * s), 0.98),
+        // The library puts the whole table on the stack at each call; the reference works the disk out.
+        counted(table_move(table_label("table_move", ANY_MARK), calls), 9.02),
     ]
 }
 

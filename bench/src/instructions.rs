@@ -2,7 +2,7 @@
 
 use crate::counted::{self, Counted};
 use crate::row::{Label, Side};
-use crate::table::grouped;
+use crate::table::{grouped, told};
 use std::path::{Path, PathBuf};
 use std::process::Command;
 use std::{env, fs, io};
@@ -118,7 +118,7 @@ fn line(counted: &Counted, library: u64, reference: u64) -> bool {
     let cells = [
         call.to_string(),
         case.to_string(),
-        if z == 0 { "-".to_string() } else { grouped(z) },
+        told(z),
         grouped(library / counted.calls as u64),
         grouped(reference / counted.calls as u64),
         format!("{ratio:.3}"),

@@ -2,7 +2,7 @@
 
 use crate::cases::*;
 use crate::compared;
-use crate::lookup::{Address, Flushed, Holder, Soundness, View};
+use crate::lookup::{Address, Flushed, Holder, Soundness, TableMove, View};
 use crate::media::{Media, Shared, CACHED_BYTES, LARGE_BYTES};
 use crate::moves::{self, Moves};
 use crate::order;
@@ -107,6 +107,17 @@ pub fn holder(label: Label, words: Words, blocks: Range<u64>, calls: usize) -> B
     })
 }
 
+/// The call table_move, for marks drawn from those of all growths.
+pub fn table_move(label: Label, calls: usize) -> Box<dyn Row> {
+    let mut all = Vec::new();
+    for (m, n) in (1..16).flat_map(|m| (1..=16 - m).map(move |n| (m, n))) {
+        all.extend((0..m * n).map(|mark| [m, n, mark]));
+    }
+    let drawn = order::drawn(calls, all.len() as u64);
+    let marks = drawn.into_iter().map(|i| all[i as usize]).collect();
+    Box::new(TableMove { label, marks })
+}
+
 fn lookups() -> Vec<Box<dyn Row>> {
     let s = LOOKUP_ROWS;
     let formatted = volume::grown(512, s, &[16]);
@@ -135,6 +146,7 @@ fn lookups() -> Vec<Box<dyn Row>> {
         held(GROWN, 0..16 * s),
         held(ADDED, 14 * s..16 * s),
         held(NOT_ADDED, 0..14 * s),
+        table_move(table_label("table_move", ANY_MARK), LOOKUPS),
     ]
 }
 

@@ -1,4 +1,4 @@
-//! Calls without a medium: soundness, flushed, address, view, holder.
+//! Calls without a medium: soundness, flushed, address, view, holder, table_move.
 
 use crate::row::{timed, Label, Row, Side, SLICE};
 use crate::volume::{self, Words, PENDING};
@@ -178,6 +178,42 @@ impl Row for Holder {
                     let answer = fast::holder(black_box(&state), disk, DiskRow(row));
                     black_box(&answer);
                     refused |= answer.is_err() as u64;
+                }
+                refused
+            }),
+            Side::Memcpy => None,
+        }
+    }
+}
+
+/// Times table_move for marks in a given order.
+pub struct TableMove {
+    pub label: Label,
+    /// m, n and a mark below m * n.
+    pub marks: Vec<[u64; 3]>,
+}
+
+impl Row for TableMove {
+    fn label(&self) -> Label {
+        self.label
+    }
+
+    fn sample(&mut self, side: Side, _: usize) -> Option<f64> {
+        match side {
+            Side::Library => timed(0..self.marks.len(), SLICE, |slice| {
+                let (mut figures, mut refused) = ([0; raw::TABLE_MOVE_FIGURES], 0);
+                for &[m, n, mark] in &self.marks[slice] {
+                    refused |= raw::table_move(black_box(m), n, mark, &mut figures);
+                    refused |= (black_box(&figures)[1] == 0) as u64;
+                }
+                refused
+            }),
+            Side::Reference => timed(0..self.marks.len(), SLICE, |slice| {
+                let mut refused = 0;
+                for &[m, n, mark] in &self.marks[slice] {
+                    let answer = fast::table_move(black_box(m), n, mark);
+                    black_box(&answer);
+                    refused |= answer.is_none() as u64;
                 }
                 refused
             }),

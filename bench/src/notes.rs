@@ -23,6 +23,7 @@ pub fn print() {
          Added blocks are those of the last growth, not added all others. \
          Growing is the last growth of the first, half way; for calls with a medium, the last of {MOVE_COUNTS:?}. \
          For view the first shelf has half of the disks, or all of them. \
+         Any mark is drawn from those of all growths. \
          The reference makes the same checks.\n"
     );
 }

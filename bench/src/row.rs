@@ -14,7 +14,7 @@ pub struct Label {
     pub case: &'static str,
     /// Bytes in a block; 0 where they don't matter.
     pub z: u64,
-    /// Rows on each disk.
+    /// Rows on each disk; 0 where they don't matter.
     pub s: u64,
     /// One of the rows that compare values of s.
     pub compares_s: bool,

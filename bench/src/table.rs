@@ -18,11 +18,8 @@ fn print_line(line: &Line) {
     let cells = [
         label.call.to_string(),
         label.case.to_string(),
-        match label.z {
-            0 => "-".to_string(),
-            z => grouped(z),
-        },
-        grouped(label.s),
+        told(label.z),
+        told(label.s),
         time(Some(library)),
         time(reference),
         ratio(reference.map(|time| library / time)),
@@ -30,6 +27,14 @@ fn print_line(line: &Line) {
         ratio(memcpy.map(|time| time / library)),
     ];
     println!("| {} |", cells.join(" | "));
+}
+
+/// A number of a label, which is 0 where it doesn't matter.
+pub fn told(number: u64) -> String {
+    match number {
+        0 => "-".to_string(),
+        _ => grouped(number),
+    }
 }
 
 fn time(time: Option<f64>) -> String {

@@ -6,6 +6,7 @@
  */
 #define _DEFAULT_SOURCE
 #include "streterva.h"
+#include "streterva_moves.h"
 
 #include <stdio.h>
 #include <stdlib.h>
@@ -226,6 +227,7 @@ static void null_pointers(void)
     expect("view", streterva_view(NULL, 0, medium_bytes, 0, OLD_DISKS, 0, figures, 2), STRETERVA_WRONG_LENGTH);
     expect("view", streterva_view(words, n, medium_bytes, 0, OLD_DISKS, 0, NULL, 0), STRETERVA_WRONG_LENGTH);
     expect("address", streterva_address(words, n, 0, NULL, 0), STRETERVA_WRONG_LENGTH);
+    expect("table_move", streterva_table_move(3, 2, 0, NULL, 0), STRETERVA_WRONG_LENGTH);
     expect("load", streterva_load(words, n, NULL, 0, figures, STRETERVA_LOAD_FIGURES), 0);
     expect("the state", (uint64_t)memcmp(&kept, &state, sizeof kept), 0);
 }
@@ -582,6 +584,78 @@ static void growth_to_twice(void)
     expect("the state", (uint64_t)memcmp(&grown, &state, sizeof grown), 0);
 }
 
+/* ---- the table of moves */
+
+/* Accepted with these figures; the next one is not touched. */
+static void table_tells(uint64_t m, uint64_t n, uint64_t mark, uint64_t offset, uint64_t disk)
+{
+    memset(figures, 0x77, sizeof figures);
+    expect("table_move", streterva_table_move(m, n, mark, figures, STRETERVA_TABLE_MOVE_FIGURES), 0);
+    expect("the offset of an entry", figures[STRETERVA_TABLE_MOVE_OFFSET], offset);
+    expect("the disk of an entry", figures[STRETERVA_TABLE_MOVE_DISK], disk);
+    expect("the figure after them", figures[STRETERVA_TABLE_MOVE_FIGURES], UINT64_C(0x7777777777777777));
+}
+
+/* Every mark of every pair, in the order of the header's table, whose offset is counted here too. */
+static void table_entries(void)
+{
+    uint64_t offset = 0;
+    for (uint32_t disks = 2; disks <= STRETERVA_MOST_DISKS; disks++)
+        for (uint32_t m = 1; m < disks; m++) {
+            const uint32_t n = disks - m;
+            for (uint32_t mark = 0; mark < m * n; mark++, offset++) {
+                expect("the header's offset", streterva_moves_offset(m, n, mark), offset);
+                table_tells(m, n, mark, offset, streterva_moves[offset]);
+            }
+        }
+    expect("the entries", offset, STRETERVA_MOVES_COUNT);
+}
+
+/* Figures of 0 where there is no such mark, also where sums and products need more than 64 bits. */
+static void table_has_no_such_mark(void)
+{
+    static const uint64_t numbers[] = {
+        0, 1, 2, 3, 8, 9, 15, 16, 17, 64, 225, UINT32_MAX, UINT64_C(1) << 32, (UINT64_C(1) << 32) + 3,
+        UINT64_C(1) << 63, UINT64_MAX - 15, UINT64_MAX - 1, UINT64_MAX,
+    };
+    const size_t count = sizeof numbers / sizeof numbers[0];
+    for (size_t i = 0; i < count * count * count; i++) {
+        const uint64_t m = numbers[i % count], n = numbers[i / count % count], mark = numbers[i / count / count];
+        const int grows = m >= 1 && n >= 1 && m < STRETERVA_MOST_DISKS && n <= STRETERVA_MOST_DISKS - m;
+        if (!grows || mark >= m * n)
+            table_tells(m, n, mark, 0, 0);
+    }
+    for (uint64_t m = 1; m < STRETERVA_MOST_DISKS; m++) {
+        table_tells(m, STRETERVA_MOST_DISKS + 1 - m, 0, 0, 0);
+        for (uint64_t n = 1; n <= STRETERVA_MOST_DISKS - m; n++)
+            table_tells(m, n, m * n, 0, 0);
+    }
+}
+
+/* Any number of figures but two: 100, and none is touched, also where there is no such mark. */
+static void table_wrong_lengths(void)
+{
+    memset(figures, 0x77, sizeof figures);
+    for (size_t words = 0; words <= STRETERVA_LOAD_FIGURES; words++)
+        if (words != STRETERVA_TABLE_MOVE_FIGURES) {
+            expect("table_move", streterva_table_move(3, 2, 0, figures, words), STRETERVA_WRONG_LENGTH);
+            expect("table_move", streterva_table_move(0, 0, 0, figures, words), STRETERVA_WRONG_LENGTH);
+        }
+    for (size_t i = 0; i < STRETERVA_LOAD_FIGURES; i++)
+        expect("a figure", figures[i], UINT64_C(0x7777777777777777));
+}
+
+/* No page of the medium is open. First the header's example, from 3 disks to 5. */
+static void table_of_moves(void)
+{
+    static const uint64_t example[] = {3, 3, 4, 3, 4, 4};
+    for (uint64_t mark = 0; mark < 6; mark++)
+        table_tells(3, 2, mark, 25 + mark, example[mark]);
+    table_entries();
+    table_has_no_such_mark();
+    table_wrong_lengths();
+}
+
 /* The bytes of a medium, also where they would not fit into 64 bits. */
 static void medium_sizes(void)
 {
@@ -617,6 +691,7 @@ int main(void)
 {
     map_pages();
     medium_sizes();
+    table_of_moves();
     open_record(PROT_READ | PROT_WRITE);
     expect("format", format(medium_bytes, SIZE, OLD_DISKS), 0);
     close_all();

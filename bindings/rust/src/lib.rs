@@ -1,13 +1,13 @@
 //! Bindings to Streterva: a RAID-0 volume (striping without parity) that takes more disks while it is in use.
 //!
 //! The library behind it, `libcapi.a`, is proved against its specification, "document 01", and "document 02" for
-//! [`State::load`], [`State::flushed`], [`State::view`], [`Address::moves`] and [`Refusal::BeyondDoubling`]; the words
-//! and the numbers of refusals here are those documents'. A *block* is an address in the volume, a *row* is a position
-//! on one disk, a *spot* is a disk and a row.
+//! [`State::load`], [`State::flushed`], [`State::view`], [`Address::moves`], [`Refusal::BeyondDoubling`] and
+//! [`table_move`]; the words and the numbers of refusals here are those documents'. A *block* is an address in the
+//! volume, a *row* is a position on one disk, a *spot* is a disk and a row.
 //!
 //! The caller keeps two things: the medium, a slice of bytes with the record and all disks, and the [`State`], plain
 //! data. Both are lent to each call, to view the medium as two shelves. A call that is refused changes neither and
-//! gives a [`Refusal`], load a [`LoadRefusal`].
+//! gives a [`Refusal`], load a [`LoadRefusal`]. One function, [`table_move`], is on numbers alone and refuses nothing.
 //!
 //! ```
 //! use streterva::{Block, State, Step};
@@ -92,12 +92,14 @@ pub mod raw;
 
 mod refusal;
 mod state;
+mod table;
 #[cfg(test)]
 mod tests;
 
 pub use raw::Scene;
 pub use refusal::{LoadRefusal, Refusal};
 pub use state::State;
+pub use table::{table_move, TableMove};
 
 /// An address in the volume.
 #[derive(Clone, Copy, Debug, PartialEq, Eq, PartialOrd, Ord, Hash)]

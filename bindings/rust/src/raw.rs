@@ -50,6 +50,9 @@ pub const HOLDER_FIGURES: usize = 1;
 /// Figures of [`load`]: with 17 the place of the scene, else 0; the blocks that disks 0 to 15 serve.
 pub const LOAD_FIGURES: usize = 17;
 
+/// Figures of [`table_move`]: the offset of the entry; the new disk. Both are 0 where there is no such mark.
+pub const TABLE_MOVE_FIGURES: usize = 2;
+
 /// The most scenes in a list.
 pub const MOST_SCENES: usize = 65_536;
 
@@ -190,6 +193,14 @@ extern "C" {
         state_words: usize,
         scenes: *const Scene,
         scenes_count: usize,
+        figures: *mut u64,
+        figures_words: usize,
+    ) -> u64;
+
+    fn streterva_table_move(
+        m: u64,
+        n: u64,
+        mark: u64,
         figures: *mut u64,
         figures_words: usize,
     ) -> u64;
@@ -425,6 +436,13 @@ pub fn load(state: &[u64], scenes: &[Scene], figures: &mut [u64]) -> u64 {
             figures.len(),
         )
     }
+}
+
+/// Tells the entry of the table of moves for a mark of the growth from m disks by n more. It takes no state, and any
+/// numbers: refuses nothing.
+pub fn table_move(m: u64, n: u64, mark: u64, figures: &mut [u64]) -> u64 {
+    // SAFETY: the pointer goes with the length of its slice, borrowed for the call; all else are numbers.
+    unsafe { streterva_table_move(m, n, mark, figures.as_mut_ptr(), figures.len()) }
 }
 
 /// 0 when the state is sound, 1 when it is not.

@@ -5,6 +5,7 @@ mod doubling;
 mod moves;
 mod pending;
 mod racks;
+mod table;
 mod view;
 
 use crate::raw;

@@ -6,8 +6,10 @@ use reference::sample::Random;
 use reference::spot::{Block, Part, Place, Row, Why};
 use reference::state::State;
 use reference::store::{Advanced, Next};
+use reference::table::{entries, table_move, Entry};
 use reference::view::{view, Shelf, Shelves};
 use reference::{lookup, store};
+use std::sync::LazyLock;
 
 /// A call's arguments other than state and medium.
 #[derive(Clone, Copy, PartialEq, Eq, Debug)]
@@ -26,10 +28,11 @@ pub enum Call {
     Soundness,
     Flushed,
     View { block: u64, shelves: Shelves },
+    TableMove { m: u64, n: u64, mark: u64 },
 }
 
 /// The names of the calls, in the order of `Call::kind`.
-pub const KINDS: [&str; 14] = [
+pub const KINDS: [&str; 15] = [
     "format",
     "restart",
     "grow",
@@ -44,6 +47,7 @@ pub const KINDS: [&str; 14] = [
     "soundness",
     "flushed",
     "view",
+    "table_move",
 ];
 
 /// A piece to write: random bytes from a seed.
@@ -77,12 +81,13 @@ impl Call {
             Call::Soundness => 11,
             Call::Flushed => 12,
             Call::View { .. } => 13,
+            Call::TableMove { .. } => 14,
         }
     }
 
     /// How many figures the call answers with.
     pub fn figures(&self) -> usize {
-        [0, 1, 1, 1, 1, 1, 4, 0, 0, 6, 1, 0, 0, 2][self.kind()]
+        [0, 1, 1, 1, 1, 1, 4, 0, 0, 6, 1, 0, 0, 2, 2][self.kind()]
     }
 
     /// Bytes of the piece.
@@ -101,9 +106,14 @@ impl Call {
         }
     }
 
+    /// Whether the call is lent a state.
+    pub fn takes_state(&self) -> bool {
+        !matches!(self, Call::TableMove { .. })
+    }
+
     /// Whether the call reads the state it is lent.
     pub fn reads_state(&self) -> bool {
-        !matches!(self, Call::Format { .. } | Call::Restart)
+        self.takes_state() && !matches!(self, Call::Format { .. } | Call::Restart)
     }
 
     /// Whether an accepted call reports the advance calls left.
@@ -143,6 +153,7 @@ pub fn by_library(call: &Call, lent: Lent) -> u64 {
             let (first, second) = (shelves.first as usize, shelves.second as usize);
             library::view(state, first, second, shelves.k, block, figures)
         }
+        Call::TableMove { m, n, mark } => library::table_move(m, n, mark, figures),
     }
 }
 
@@ -160,6 +171,10 @@ pub fn by_reference(call: &Call, lent: Lent) -> u64 {
         Call::Format { .. } | Call::Restart => begun(call, lent),
         Call::Address { .. } | Call::Holder { .. } | Call::Soundness | Call::View { .. } => {
             looked_up(call, &state, lent.figures)
+        }
+        Call::TableMove { m, n, mark } => {
+            lent.figures.copy_from_slice(&entry_figures(*m, *n, *mark));
+            Ok(())
         }
         _ => made(call, state, lent),
     };
@@ -246,6 +261,17 @@ fn shelf_figure(shelf: Shelf) -> u64 {
     match shelf {
         Shelf::First => 1,
         Shelf::Second => 2,
+    }
+}
+
+/// The entries of the printed table, worked out once.
+static TABLE: LazyLock<Vec<Entry>> = LazyLock::new(entries);
+
+/// The offset and the disk of an entry; zeros when there is no such mark.
+fn entry_figures(m: u64, n: u64, mark: u64) -> [u64; 2] {
+    match table_move(&TABLE, m, n, mark) {
+        Some((offset, disk)) => [offset, disk],
+        None => [0, 0],
     }
 }
 

@@ -3,7 +3,7 @@
 use crate::call::{Call, KINDS, NO_STATE};
 
 /// The refusals that each call has, in the order of `KINDS`; 100 comes with all.
-const NUMBERS: [&[usize]; 14] = [
+const NUMBERS: [&[usize]; 15] = [
     &[8, 2],
     &[2, 13],
     &[1, 6, 9, 8, 20, 2, 19, 18],
@@ -18,6 +18,7 @@ const NUMBERS: [&[usize]; 14] = [
     &[1],
     &[1],
     &[1, 8, 2, 3],
+    &[],
 ];
 
 /// How the names of cuts begin.
@@ -142,6 +143,10 @@ events! {
     ViewShortGrowing: "view refused with 2 during a growth",
     ViewNotOpenGrowing: "view refused with 3 during a growth",
     ViewEveryK: "views with every k from 0 to N[t] + 1",
+    TableEntry: "table_move told an entry",
+    TableNoMark: "table_move told that there is no such mark",
+    TableWrapped: "table_move with m + n beyond 64 bits",
+    TableSwept: "table_move with all small numbers",
 }
 
 #[derive(Clone)]
@@ -192,6 +197,10 @@ impl Counts {
                 (_, 1) => Event::MovedHead,
                 (_, 2) => Event::MovedBody,
                 _ => Event::MovedTail,
+            }),
+            (Call::TableMove { .. }, 0) => self.event(match figures[1] {
+                0 => Event::TableNoMark,
+                _ => Event::TableEntry,
             }),
             _ => {}
         }

@@ -4,7 +4,7 @@ use crate::call::{by_library, Call, Lent, Piece, FIGURES, KINDS, NO_STATE};
 use crate::counts::{Counts, Event};
 use crate::pair::{same, Changed, Difference, Pair};
 use crate::report::Step;
-use crate::views;
+use crate::{tables, views};
 use reference::limits::{DISKS, RECORD};
 use reference::record;
 use reference::sample::{damage, damaged_record, sound_state, Random};
@@ -98,7 +98,8 @@ fn call_of(random: &mut Random, kind: usize, state: &State) -> Call {
         },
         11 => Call::Soundness,
         12 => Call::Flushed,
-        _ => views::any(random, state, block),
+        13 => views::any(random, state, block),
+        _ => tables::any(random),
     }
 }
 
@@ -201,7 +202,8 @@ pub fn lengths(
             log.clear();
             log.push(Step::new(call, lent));
             let right = call.figures();
-            for words in [0, WORDS - 1, WORDS + 1] {
+            let wrong = [0, WORDS - 1, WORDS + 1].into_iter();
+            for words in wrong.filter(|_| call.takes_state()) {
                 wrong_length(&call, &state, words, right, medium, counts)?;
                 counts.event(Event::WrongState);
             }

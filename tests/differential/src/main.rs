@@ -14,6 +14,7 @@ mod lookups;
 mod model;
 mod pair;
 mod report;
+mod tables;
 mod views;
 
 // The library under test, through the bindings.
@@ -139,6 +140,7 @@ fn task(
         0 => return big::run(&mut random, log, counts),
         1 => return damage::lengths(&mut random, log, counts),
         2..=4 => return damage::one_byte(&mut random, number - 2, log, counts),
+        5 => return tables::sweep(&mut random, log, counts),
         _ => {}
     }
     match number % 64 {

@@ -1,5 +1,5 @@
-//! The growing striped volume, written from document 01 and from W4 to W7 of
-//! document 02 alone.
+//! The growing striped volume, written from document 01 and from W4 to W7 and
+//! W9 of document 02 alone.
 //!
 //! Everything but `fast` is plain: definitions are followed word for word and
 //! searches and counts go over the blocks themselves. `fast` has the same
@@ -16,6 +16,7 @@ pub mod sample;
 pub mod spot;
 pub mod state;
 pub mod store;
+pub mod table;
 pub mod tally;
 pub mod view;
 pub mod window;

@@ -64,6 +64,28 @@ impl Random {
     }
 }
 
+/// m, n and a mark for the printed table of moves: those of an entry, or with
+/// some of the numbers near them or extreme.
+pub fn table_arguments(random: &mut Random) -> [u64; 3] {
+    let disks = random.range(2, limits::DISKS);
+    let m = random.range(1, disks - 1);
+    let n = disks - m;
+    let mut arguments = [m, n, random.below(m * n)];
+    if random.percent(50) {
+        return arguments;
+    }
+    for argument in &mut arguments {
+        if random.percent(40) {
+            *argument = random.odd_number(*argument);
+        }
+    }
+    if random.percent(30) {
+        // With a large m the sum wraps.
+        arguments[1] = disks.wrapping_sub(arguments[0]);
+    }
+    arguments
+}
+
 /// A state of 512-byte blocks at rest.
 pub fn at_rest(counts: &[u64], s: u64) -> State {
     let mut state = State {

@@ -2,12 +2,12 @@
 
 use reference::limits::RECORD;
 use reference::refusal::{Refusal, BEYOND_DOUBLING, BLOCKS_PENDING, RECORD_PENDING};
-use reference::sample::{damage, damaged_record, sound_state, Random};
+use reference::sample::{damage, damaged_record, sound_state, table_arguments, Random};
 use reference::spot::{Block, Row};
 use reference::state::State;
 use reference::store::{Advanced, Next};
 use reference::view::Shelves;
-use reference::{fast, lookup, record, store, view};
+use reference::{fast, lookup, record, store, table, view};
 
 const ROUNDS: u64 = 2_000;
 
@@ -106,6 +106,29 @@ fn views() {
     }
     let often = |number: &usize| seen[*number] > 1_000;
     assert!([0, 1, 2, 3, 8].iter().all(often), "{seen:?}");
+}
+
+/// Small numbers, all of them, and random ones.
+#[test]
+fn table_moves() {
+    let entries = table::entries();
+    let mut found = [0; 2];
+    let mut compare = |m, n, mark| {
+        let plain = table::table_move(&entries, m, n, mark);
+        assert_eq!(fast::table_move(m, n, mark), plain, "{m} {n} {mark}");
+        found[plain.is_some() as usize] += 1;
+    };
+    for (m, n) in (0..=18).flat_map(|m| (0..=18).map(move |n| (m, n))) {
+        for mark in 0..=m * n + 1 {
+            compare(m, n, mark);
+        }
+    }
+    let mut random = Random::new(9);
+    for _ in 0..20 * ROUNDS {
+        let [m, n, mark] = table_arguments(&mut random);
+        compare(m, n, mark);
+    }
+    assert!(found.iter().all(|&count| count > 10_000), "{found:?}");
 }
 
 #[test]

@@ -13,7 +13,7 @@ use crate::state::{Pending, State};
 use crate::store::{Advanced, Next};
 use crate::view::{Shelf, Shelves, View};
 use check::{examine, Run};
-use layout::Layout;
+use layout::{target, Layout};
 
 pub fn sound(state: &State) -> bool {
     examine(state).is_ok()
@@ -69,6 +69,21 @@ pub fn view(state: &State, shelves: &Shelves, x: Block) -> Result<View, Refusal>
     };
     let byte = before + disk * disk_bytes + row.0 * state.z;
     Ok(View { shelf, byte })
+}
+
+/// How many entries of the printed table come before that of a mark, and its
+/// disk.
+pub fn table_move(m: u64, n: u64, mark: u64) -> Option<(u64, u64)> {
+    if m == 0 || n == 0 || m >= limits::DISKS || n > limits::DISKS - m || mark >= m * n {
+        return None;
+    }
+    let (m, n, mark) = (m as u32, n as u32, mark as u32);
+    let k = m + n;
+    let fewer_disks = (k + 1) * k * (k - 1) * (k - 2) / 24;
+    let smaller_m = k * m * (m - 1) / 2 - m * (m - 1) * (2 * m - 1) / 6;
+    let d0 = mark / n;
+    let (disk, _) = target(m, n, d0, d0 + mark % n);
+    Some(((fewer_disks + smaller_m + mark) as u64, disk as u64))
 }
 
 pub fn format(medium: &mut [u8], z: u64, s: u64, disks: u64) -> Result<State, Refusal> {
