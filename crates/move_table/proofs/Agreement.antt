@@ -1,7 +1,7 @@
 -- Address by a table of moves agrees with document 01's formula.
-use Prim.Native.Nat.{ℕ, _+_, _-_, _*_, _/_, _%_, _≤_, _<_}
+use Prim.Native.Nat.{ℕ, _-_, _*_, _≤_, _<_}
 use mathlib.Core.Path.{_≡_, refl, sym, _∙_, ap}
-use mathlib.Core.Bool.{true, false, cond}
+use mathlib.Core.Bool.{true, cond}
 use mathlib.Core.List.{List, [], _∷_}
 use mathlib.Core.Logic.{⊎-elim}
 use native.Mathlib.Nat.{zero-mul, not-suc-le-zero}
@@ -9,9 +9,9 @@ use native.Mathlib.Omega.{arith}
 use lib.Dec.{ltb}
 use lib.ListN.{getD}
 use borrow.Author.Tests.{ltb-true}
-use Rattle.base.proofs.Booleans.{and-left, and-right, by-test}
+use Rattle.base.proofs.Booleans.{and-left, by-test}
 use Rattle.layout.specs.declared.Spot.{Spot}
-use Rattle.layout.specs.Growth.{newDisk, diskAfter, movesFrom, oldBlockSpot, addedSpot, spotAfter}
+use Rattle.layout.specs.Growth.{diskAfter, movesFrom, oldBlockSpot, addedSpot, spotAfter}
 use Rattle.layout.specs.History.{diskCount, earlier, oldCount, addedCount, rising, spotOf}
 use Rattle.layout.specs.Windows.{markOfSpot, oldSpot, moving, markOf}
 use Rattle.layout.specs.Limits.{Grows, Limits, mostDisks}

@@ -1,5 +1,5 @@
 -- The examples and the counterexamples of the table of moves, by computation.
-use Prim.Native.Nat.{ℕ, suc, _-_, _*_, _<_}
+use Prim.Native.Nat.{ℕ, suc, _-_, _<_}
 use mathlib.Core.Path.{_≡_, refl, sym, _∙_, ap}
 use mathlib.Core.Bool.{false}
 use mathlib.Core.List.{List, [], _∷_, _++_}
@@ -10,10 +10,10 @@ use Rattle.layout.specs.declared.Spot.{Spot}
 use Rattle.layout.specs.Growth.{moves, partOf, newDisk, diskAfter, movesFrom, oldBlockSpot, spotAfter}
 use Rattle.layout.specs.History.{diskCount, earlier, oldCount, addedCount, rising, spotOf}
 use Rattle.layout.specs.Windows.{markOfSpot, oldSpot, moving, markOf}
-use Rattle.layout.specs.Tally.{Tally, Mode, notGrowing, liveSpotOf, growthsOf}
+use Rattle.layout.specs.Tally.{Tally, notGrowing, liveSpotOf, growthsOf}
 use Rattle.layout.specs.Limits.{Limits, mostDisks}
 use Rattle.move_table.specs.Entries.{diskOfMark, entriesOfPair, entriesOfSum, entries, entryCount, marksOfSum, offset, hasMark, placeOf, diskByTable, spotByTable}
-use Rattle.move_table.specs.Tables.{IsMoveTable, AddressAgrees}
+use Rattle.move_table.specs.Tables.{IsMoveTable}
 use Rattle.move_table.specs.Cases.{Examples, Counterexamples}
 use Rattle.move_table.proofs.PlacesCode.{mark-true}
 use Rattle.move_table.proofs.OnlyTable.{only-numbers-law}

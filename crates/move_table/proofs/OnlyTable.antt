@@ -6,7 +6,7 @@ use mathlib.Core.Logic.{⊎-elim}
 use native.Mathlib.Nat.{not-suc-le-zero, le-of-suc-le-suc, eq-or-lt-of-le}
 use native.Mathlib.Omega.{arith}
 use lib.Dec.{ltb}
-use lib.ListN.{length, getD}
+use lib.ListN.{getD}
 use lib.Seq.{ext-getD}
 use borrow.Author.Tests.{ltb-true, ltb-false}
 use Rattle.base.proofs.Booleans.{by-test}
@@ -37,34 +37,34 @@ module _ (numbers others : List ℕ) (place other : (m n j : ℕ) → ℕ) (one 
 
 module _ (numbers : List ℕ) (place : (m n j : ℕ) → ℕ) (is : IsMoveTable numbers place) where
   -- of the marks whose offsets are below k
-  abbrev Below : ℕ → Type 0
-  Below k = (m n j : ℕ) → IsMark m n j → offset m n j < k → place m n j ≡ offset m n j
+  abbrev PlacedBelow : ℕ → Type 0
+  PlacedBelow k = (m n j : ℕ) → IsMark m n j → offset m n j < k → place m n j ≡ offset m n j
 
   -- the mark before one whose offset is k+1 has place k, so that this one's is not less
-  not-less : (k : ℕ) → Below k → (m n j : ℕ) → IsMark m n j → offset m n j ≡ k → k ≤ place m n j
+  not-less : (k : ℕ) → PlacedBelow k → (m n j : ℕ) → IsMark m n j → offset m n j ≡ k → k ≤ place m n j
   not-less zero lower m n j a e = omega arith
   not-less (suc k) lower m n j a e =
       let (p, q, i, b, at) = table-law .each-place k (omega (arith, table-law .within m n j a)) in
       omega (arith, lower p q i b (omega arith), same-order entries numbers offset place table-law is p q i m n j b a (omega arith))
 
   -- a mark at place k has an offset below that of one whose place is greater, and then k is its offset
-  not-more : (k : ℕ) → Below k → (m n j : ℕ) → IsMark m n j → offset m n j ≡ k → k < place m n j → ⊥
+  not-more : (k : ℕ) → PlacedBelow k → (m n j : ℕ) → IsMark m n j → offset m n j ≡ k → k < place m n j → ⊥
   not-more k lower m n j a e more =
       let (p, q, i, b, at) = is .each-place k (omega (arith, is .within m n j a)) in
       let less : offset p q i < offset m n j = same-order numbers entries place offset is table-law p q i m n j b a (omega arith) in
       omega (arith, lower p q i b (omega arith))
 
-  below : (k : ℕ) → Below k
-  below zero m n j a h = absurd (not-suc-le-zero h)
-  below (suc k) m n j a h =
+  placed-below : (k : ℕ) → PlacedBelow k
+  placed-below zero m n j a h = absurd (not-suc-le-zero h)
+  placed-below (suc k) m n j a h =
       ⊎-elim
       (λ (e : offset m n j ≡ k).
-      by-test (ltb k (place m n j)) (λ t. absurd (not-more k (below k) m n j a e (ltb-true k (place m n j) t)))
-      (λ t. let most : place m n j ≤ k = ltb-false k (place m n j) t in omega (arith, not-less k (below k) m n j a e)))
-      (below k m n j a) (eq-or-lt-of-le (le-of-suc-le-suc h))
+      by-test (ltb k (place m n j)) (λ t. absurd (not-more k (placed-below k) m n j a e (ltb-true k (place m n j) t)))
+      (λ t. let most : place m n j ≤ k = ltb-false k (place m n j) t in omega (arith, not-less k (placed-below k) m n j a e)))
+      (placed-below k m n j a) (eq-or-lt-of-le (le-of-suc-le-suc h))
 
   pub only-places-law : (m n j : ℕ) → IsMark m n j → place m n j ≡ offset m n j
-  only-places-law m n j a = below (suc (offset m n j)) m n j a (omega arith)
+  only-places-law m n j a = placed-below (suc (offset m n j)) m n j a (omega arith)
 
   pub only-numbers-law : numbers ≡ entries
   only-numbers-law =

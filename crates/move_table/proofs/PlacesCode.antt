@@ -1,16 +1,15 @@
 -- What the code of the table's places needs.
-use Prim.Native.Nat.{ℕ, suc, _+_, _-_, _*_, _/_, _≤_, _<_}
-use mathlib.Core.Path.{_≡_, refl, _∙_, ap}
-use mathlib.Core.Bool.{Bool, true, false, cond, _&&_}
-use native.Mathlib.Nat.{mul-le-mul, add-zero}
+use Prim.Native.Nat.{ℕ, suc, _+_, _-_, _*_, _≤_}
+use mathlib.Core.Path.{_≡_, refl}
+use mathlib.Core.Bool.{Bool, true, _&&_}
+use native.Mathlib.Nat.{mul-le-mul}
 use native.Mathlib.Omega.{arith}
 use lib.Dec.{leb, ltb, eqb}
 use borrow.Author.Tests.{leb-true, le-leb, ltb-true, lt-ltb, eqb-true}
 use Rattle.base.specs.Below.{every, sum}
-use Rattle.base.proofs.Booleans.{and-left, and-right, and-both, by-test, clash}
+use Rattle.base.proofs.Booleans.{and-left, and-right, and-both, by-test}
 use Rattle.base.proofs.Counting.{every-use}
 use Rattle.layout.specs.Limits.{Grows, mostDisks}
-use Rattle.move_table.specs.declared.Place.{Place}
 use Rattle.move_table.specs.declared.Place.the-variants.{At, NoMark}
 use Rattle.move_table.specs.Entries.{marksOfSum, offset, offsetFormula, hasMark, placeOf}
 use Rattle.move_table.specs.Tables.{IsMark}

@@ -1,5 +1,5 @@
 -- Document 02, W9: what a table of moves is, and what address by one is to agree with.
-use Prim.Native.Nat.{ℕ, _+_, _*_, _≤_, _<_}
+use Prim.Native.Nat.{ℕ, _+_, _*_, _<_}
 use mathlib.Core.Path.{_≡_}
 use mathlib.Core.Bool.{true}
 use mathlib.Core.List.{List}
@@ -8,7 +8,7 @@ use Rattle.layout.specs.History.{oldCount, addedCount, spotOf}
 use Rattle.layout.specs.Windows.{moving, markOf}
 use Rattle.layout.specs.Tally.{Tally, isRunning, liveSpotOf, growthsOf}
 use Rattle.layout.specs.Limits.{Grows, Limits}
-use Rattle.move_table.specs.Entries.{diskOfMark, entries, entryCount, offset, offsetFormula, spotByTable}
+use Rattle.move_table.specs.Entries.{diskOfMark, entryCount, spotByTable}
 
 -- j is a mark of a growth from m disks by n within the limits, "m + n at most 16"
 pub record IsMark (m n j : ℕ) : Type 0 where

@@ -1,18 +1,16 @@
+-- `offset` meets its contract.
 use Prim.Native.Nat.{_+_}
 use mathlib.Core.Path.{_≡_, sym, _∙_, ap}
 use native.Mathlib.Omega.{arith}
+use borrow.Author.Needs.{needs}
 use Rattle.layout.proofs.WindowsCode.{marks-most}
 use Rattle.move_table.specs.declared.Place.the-variants.{At}
 use Rattle.move_table.specs.Entries.{offset}
 use Rattle.move_table.specs.Tables.{IsMark}
-use Rattle.move_table.proofs.PlacesCode.{at-place, no-place}
 use Rattle.move_table.proofs.EntryPlaces.{size-law, within-law}
-use borrow.Author.Needs.{needs}
+use Rattle.move_table.proofs.PlacesCode.{at-place, no-place}
 use Rattle.move_table.proofs.places.offset.Statement.{statement}
 use Rattle.move_table.proofs.places.offset.Tie as tie
-use Rattle.move_table.proofs.places.offset.Reads as reads
-use Rattle.move_table.proofs.places.offset.Lts as lts
-use Rattle.move_table.proofs.places.first_of_pair.Reads as first-of-pair-reads
 
 returns : tie.Need-returns
 returns c = sym (no-place _ _ _ (λ h. omega (arith, h .pair .old)))
@@ -23,27 +21,20 @@ returns-2 c = sym (no-place _ _ _ (λ h. omega (arith, h .pair .added)))
 returns-3 : tie.Need-returns-3
 returns-3 c = sym (no-place _ _ _ (λ h. omega (arith, h .pair .added, h .pair .most)))
 
-sub-if4 : tie.Need-sub-if4
-sub-if4 c = search needs
-
 returns-4 : tie.Need-returns-4
 returns-4 c = sym (no-place _ _ _ (λ h. omega (arith, h .pair .most)))
 
 mul-if5 : tie.Need-mul-if5
-mul-if5 c = omega (arith, marks-most (c .before .before .before .before .args .m) (c .before .before .before .before .args .n) (omega arith))
+mul-if5 c = let v = c .before .before .before .before .args in omega (arith, marks-most (v .m) (v .n) (omega arith))
 
 returns-5 : tie.Need-returns-5
 returns-5 c = sym (no-place _ _ _ (λ h. omega (arith, h .below)))
 
-first-of-pair-requires : tie.Need-first-of-pair-requires
-first-of-pair-requires c κs = search needs
-
-mark : (c : lts.Else5 (first-of-pair-reads.Asked, first-of-pair-reads.Learnt) reads.Pre reads.Post)
-    → let v = c .before .before .before .before .before .args in
-    IsMark (v .m) (v .n) (v .j)
+-- all tests are passed: there is such a mark
+mark : (c : tie.Else5) → let v = c .before .before .before .before .before .args in IsMark (v .m) (v .n) (v .j)
 mark c = record { pair = search needs; below = search needs }
 
-start : (c : lts.After-first-of-pair (first-of-pair-reads.Asked, first-of-pair-reads.Learnt) reads.Pre reads.Post)
+start : (c : tie.After-first-of-pair)
     → let v = c .before .before .before .before .before .before .args in
     c .first-of-pair .result + v .j ≡ offset (v .m) (v .n) (v .j)
 unfolding offset
@@ -62,10 +53,10 @@ offset-spec =
     returns
     returns-2
     returns-3
-    sub-if4
+    (λ c. search needs)
     returns-4
     mul-if5
     returns-5
-    first-of-pair-requires
+    (λ c κs. search needs)
     add-t6
     returns-6)
