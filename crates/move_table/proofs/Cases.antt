@@ -2,7 +2,7 @@
 use Prim.Native.Nat.{ℕ, suc, _-_, _<_}
 use mathlib.Core.Path.{_≡_, refl, sym, _∙_, ap}
 use mathlib.Core.Bool.{false}
-use mathlib.Core.List.{List, [], _∷_, _++_}
+use mathlib.Core.List.{List, [], _∷_}
 use native.Mathlib.Omega.{arith}
 use lib.ListN.{length, getD, set}
 use Rattle.base.specs.Below.{sum, table, joined}
@@ -16,6 +16,7 @@ use Rattle.move_table.specs.Entries.{diskOfMark, entriesOfPair, entriesO
 use Rattle.move_table.specs.Tables.{IsMoveTable}
 use Rattle.move_table.specs.Cases.{Examples, Counterexamples}
 use Rattle.move_table.proofs.PlacesCode.{mark-true}
+use Rattle.move_table.proofs.EntryPlaces.{table-law}
 use Rattle.move_table.proofs.OnlyTable.{only-numbers-law}
 
 -- unfolded, it opens what the computations below share
@@ -69,7 +70,11 @@ counterexamples-law =
     record {
       one-changed = λ place. other-entry (set entries 25 4) place 25 4 3 refl refl (λ e. omega arith);
       one-off = λ is. let h : 3_060 < 3_060 = is .within 15 1 14 (mark-true 15 1 14 refl) in omega arith;
-      one-more = other-length (entries ++ (1 ∷ [])) offset 3_061 refl (λ e. omega arith);
+      one-more =
+          λ is.
+          let (m, n, j, a, at) = is .each-place 3_060 (omega arith) in
+          let h : offset m n j < 3_060 = table-law .within m n j a in
+          omega (arith, h, at);
       sums-fall = λ numbers is. let h : 3_059 < 3_058 = is .sum-rises 1 1 0 1 2 0 (mark-true 1 1 0 refl) (mark-true 1 2 0 refl) (omega arith) in omega arith;
       swapped-places = λ numbers is. let h : 3 < 1 = is .old-rises 1 2 0 2 1 0 (mark-true 1 2 0 refl) (mark-true 2 1 0 refl) refl (omega arith) in omega arith;
       swapped-numbers = λ place. other-entry (joined (λ k. joined (λ m. entriesOfPair (k - m) m) k) (suc mostDisks)) place 1 2 1 refl refl (λ e. omega arith);

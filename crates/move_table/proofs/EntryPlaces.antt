@@ -109,12 +109,11 @@ MarkAt k at = (m : ℕ) × (n : ℕ) × (j : ℕ) × IsMark m n j × (m + n ≡ 
 mark-at : (k m j at : ℕ) → k ≤ mostDisks → m < k → j < m * (k - m) → sum (λ i. i * (k - i)) m + j ≡ at → MarkAt k at
 mark-at k m j at most h below e =
     let split : m + (k - m) ≡ k = omega arith in
-    let positive : 0 < m = ℕ-pos m below in
-    (m, k - m, j, record { pair = record { old = positive; added = omega arith; most = omega arith }; below = below }, split, rw split e)
+    (m, k - m, j, record { pair = record { old = some-old m below; added = omega arith; most = omega arith }; below = below }, split, rw split e)
   where
-    ℕ-pos : (a : ℕ) → j < a * (k - m) → 0 < a
-    ℕ-pos zero l = absurd (not-suc-le-zero (rw zero-mul at l))
-    ℕ-pos (suc a) l = omega arith
+    some-old : (a : ℕ) → j < a * (k - m) → 0 < a
+    some-old zero l = absurd (not-suc-le-zero (rw zero-mul at l))
+    some-old (suc a) l = omega arith
 
 mark-of-sum : (k at : ℕ) → k ≤ mostDisks → at < marksOfSum k → MarkAt k at
 unfolding marksOfSum
@@ -127,14 +126,21 @@ each-place-law k h =
     let (m, n, j, a, same, place) = mark-of-sum s r (omega arith) hr in
     (m, n, j, a, add-assoc (sum marksOfSum (m + n)) (sum (λ i. i * (m + n - i)) m) j ∙ rw (place, same) e)
 
--- every entry is below 16, and so is what is told where the table has ended
+-- ---- every entry is a disk from 1 to 15, and past the end 0 is told
+
+pub entry-some-law : (k : ℕ) → k < entryCount → (0 < getD entries k 0) × (getD entries k 0 < mostDisks)
+entry-some-law k h =
+    let (m, n, j, a, at) = each-place-law k (rw size-law h) in
+    let disk = added-disk-law m n j a in
+    rw (← at, disk-law m n j a) (omega (arith, disk .0, a .pair .old), omega (arith, disk .1, a .pair .most))
+
+pub past-end-law : (k : ℕ) → entryCount ≤ k → getD entries k 0 ≡ 0
+past-end-law k h = List·getD-eq-default entries 0 (rw size-law h)
+
 pub entry-most : (k : ℕ) → getD entries k 0 < mostDisks
 entry-most k =
-    by-test (ltb k (length entries))
-    (λ e.
-    let (m, n, j, a, at) = each-place-law k (ltb-true k (length entries) e) in
-    rw (← at, disk-law m n j a) (omega (arith, added-disk-law m n j a .1, a .pair .most)))
-    (λ e. rw (List·getD-eq-default entries 0 (ltb-false k (length entries) e)) (omega arith))
+    by-test (ltb k entryCount) (λ e. entry-some-law k (ltb-true k entryCount e) .1)
+    (λ e. rw (past-end-law k (ltb-false k entryCount e)) (omega arith))
 
 pub table-law : IsMoveTable entries offset
 table-law =

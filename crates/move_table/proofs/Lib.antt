@@ -1,4 +1,5 @@
 pub mod EntryPlaces
+pub mod OffsetFormula
 pub mod PlacesCode
 pub mod Agreement
 pub mod OnlyTable

@@ -1,17 +1,15 @@
 -- What the code of the table's places needs.
-use Prim.Native.Nat.{ℕ, suc, _+_, _-_, _*_, _≤_}
-use mathlib.Core.Path.{_≡_, refl}
-use mathlib.Core.Bool.{Bool, true, _&&_}
+use Prim.Native.Nat.{ℕ, _+_, _-_, _*_, _≤_}
+use mathlib.Core.Path.{_≡_}
+use mathlib.Core.Bool.{true, _&&_}
 use native.Mathlib.Nat.{mul-le-mul}
 use native.Mathlib.Omega.{arith}
-use lib.Dec.{leb, ltb, eqb}
-use borrow.Author.Tests.{leb-true, le-leb, ltb-true, lt-ltb, eqb-true}
-use Rattle.base.specs.Below.{every, sum}
+use lib.Dec.{leb, ltb}
+use borrow.Author.Tests.{leb-true, le-leb, ltb-true, lt-ltb}
 use Rattle.base.proofs.Booleans.{and-left, and-right, and-both, by-test}
-use Rattle.base.proofs.Counting.{every-use}
 use Rattle.layout.specs.Limits.{Grows, mostDisks}
 use Rattle.move_table.specs.declared.Place.the-variants.{At, NoMark}
-use Rattle.move_table.specs.Entries.{marksOfSum, offset, offsetFormula, hasMark, placeOf}
+use Rattle.move_table.specs.Entries.{offset, hasMark, placeOf}
 use Rattle.move_table.specs.Tables.{IsMark}
 
 -- ---- which marks there are
@@ -47,29 +45,8 @@ module _ (m n j : ℕ) where
   unfolding placeOf
   no-place none = by-test (hasMark m n j) (λ e. absurd (none (mark-true e))) (λ e. rw e)
 
--- ---- the formula
+-- ---- no product wraps
 
-same-start : (m n : ℕ) → Bool
-same-start m n = eqb (offset m n 0) (offsetFormula m n 0)
-
--- one computed test over all pairs
-formula-computed : every (λ m. every (same-start m) (suc mostDisks)) (suc mostDisks) ≡ true
-unfolding every same-start offset offsetFormula sum marksOfSum
-formula-computed = refl
-
-pub formula-start : (m n : ℕ) → Grows m n → offset m n 0 ≡ offsetFormula m n 0
-unfolding same-start
-formula-start m n g =
-    eqb-true (offset m n 0) (offsetFormula m n 0)
-    (every-use (same-start m) (suc mostDisks)
-    (every-use (λ m. every (same-start m) (suc mostDisks)) (suc mostDisks) formula-computed m (omega (arith, g .most, g .added)))
-    n (omega (arith, g .most)))
-
-pub formula-law : (m n j : ℕ) → IsMark m n j → offset m n j ≡ offsetFormula m n j
-unfolding offset offsetFormula
-formula-law m n j h = omega (arith, formula-start m n (h .pair))
-
--- no product wraps
 module _ (m n : ℕ) (g : Grows m n) where
   abbrev k : ℕ
   k = m + n
@@ -86,5 +63,5 @@ module _ (m n : ℕ) (g : Grows m n) where
   pub old-most : m * (m - 1) ≤ 16 * 15
   old-most = mul-le-mul {n₂ = 16} {m₂ = 15} (omega (arith, g .most)) (omega (arith, g .most))
 
-  pub sum-most : m * (m - 1) * (m + 3 * n + 1) ≤ 16 * 15 * 64
-  sum-most = mul-le-mul {m₂ = 64} old-most (omega (arith, g .most))
+  pub last-most : m * (m - 1) * (m + 3 * n + 1) ≤ 16 * 15 * 64
+  last-most = mul-le-mul {m₂ = 64} old-most (omega (arith, g .most))

@@ -2,17 +2,16 @@
 use mathlib.Core.Path.{refl, sym}
 use native.Mathlib.Nat.{lt-of-lt-of-le}
 use native.Mathlib.Omega.{arith}
-use lib.ListN.{List·getD-eq-default}
 use borrow.Author.Needs.{needs}
 use Rattle.base.specs.Below.{table, joined}
 use Rattle.layout.specs.Growth.{partOf, newDisk}
 use Rattle.move_table.specs.Entries.{diskOfMark, entriesOfPair, entriesOfSum, entries}
-use Rattle.move_table.proofs.EntryPlaces.{size-law, entry-most}
+use Rattle.move_table.proofs.EntryPlaces.{past-end-law, entry-most}
 use Rattle.move_table.proofs.places.disk_at.Statement.{statement}
 use Rattle.move_table.proofs.places.disk_at.Tie as tie
 
 returns : tie.Need-returns
-returns c = sym (List·getD-eq-default entries 0 (omega (arith, size-law)))
+returns c = sym (past-end-law _ (c .if1 .taken))
 
 array-read-result : tie.Need-array-read-result
 array-read-result c = search needs

@@ -2,7 +2,8 @@
 use native.Mathlib.Omega.{arith}
 use borrow.Author.Needs.{needs}
 use Rattle.move_table.specs.Entries.{offsetFormula}
-use Rattle.move_table.proofs.PlacesCode.{two-most, three-most, four-most, old-most, sum-most, formula-start}
+use Rattle.move_table.proofs.OffsetFormula.{formula-start}
+use Rattle.move_table.proofs.PlacesCode.{two-most, three-most, four-most, old-most, last-most}
 use Rattle.move_table.proofs.places.first_of_pair.Statement.{statement}
 use Rattle.move_table.proofs.places.first_of_pair.Tie as tie
 
@@ -26,6 +27,6 @@ first-of-pair-spec =
     (λ c. search needs)
     (λ c. search needs)
     (λ c. search needs)
-    (λ c. omega (arith, sum-most _ _ (c .pre)))
-    (λ c. omega (arith, four-most _ _ (c .pre), sum-most _ _ (c .pre)))
+    (λ c. omega (arith, last-most _ _ (c .pre)))
+    (λ c. omega (arith, four-most _ _ (c .pre), last-most _ _ (c .pre)))
     returns)
