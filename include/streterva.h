@@ -8,8 +8,7 @@
  * Answers. Every function returns 0 when it accepts the call, or else the number of the refusal (enum
  * streterva_refusal). Tests are made in the order given at each function, and the first that fails gives the number. A
  * refused call changes nothing in the medium, the state and the piece, with one exception: format and restart, refused,
- * set the state to zeros. It sets every figure to 0, all but the place that load tells with 17. All functions but
- * streterva_table_move take a state.
+ * set the state to zeros. It sets every figure to 0, all but the place that load tells with 17.
  *
  * Slices. A buffer is lent for the call as a pointer and, directly after it, the number of its elements: bytes for a
  * medium or a piece, words of 64 bits for a state or figures, scenes for a list of them. The pointer must be valid for
@@ -74,7 +73,8 @@
  *
  * Table of moves. For each growth from m disks by n more and each mark of it the table has the new disk of that moving
  * block. The whole table is in streterva_moves.h, for firmware without this library; it also says which block has which
- * mark. streterva_table_move tells one entry. It takes numbers alone, neither a state nor a medium.
+ * mark. streterva_table_move tells one entry. It takes numbers alone, neither a state nor a medium; every other function
+ * of the library takes a state.
  *
  * Pending stores. Drives with a write cache may keep stores and put them down in any order, so a store is pending until
  * the caller tells by streterva_flushed that all earlier stores are down. On such drives:

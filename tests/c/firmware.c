@@ -7,7 +7,7 @@ uint32_t offset_of(uint32_t m, uint32_t n, uint32_t mark)
     return streterva_moves_offset(m, n, mark);
 }
 
-uint32_t disk_after(uint32_t m, uint32_t n, uint32_t disk, uint64_t row)
+uint32_t disk_after(uint32_t m, uint32_t n, uint32_t disk, uint32_t row)
 {
     return streterva_moves_disk(m, n, disk, row);
 }

@@ -56,14 +56,15 @@ static void old_blocks(uint32_t m, uint32_t n, uint64_t rows, uint64_t count)
     }
 }
 
-/* The last whole window of 32 bits: the same disks as in the first window. */
+/* The last rows that 32 bits have: the same disks as in those rows of the first window. */
 static void largest_rows(uint32_t m, uint32_t n)
 {
-    const uint32_t size = m + n, first = (UINT32_MAX / size - 1) * size;
     for (uint32_t disk = 0; disk < m; disk++)
-        for (uint32_t row = 0; row < size; row++)
-            expect("the disk in a large row", streterva_moves_disk(m, n, disk, first + row),
-                   streterva_moves_disk(m, n, disk, row));
+        for (uint32_t back = 0; back < m + n; back++) {
+            const uint32_t row = UINT32_MAX - back;
+            expect("the disk in a large row", streterva_moves_disk(m, n, disk, row),
+                   streterva_moves_disk(m, n, disk, row % (m + n)));
+        }
 }
 
 int main(void)

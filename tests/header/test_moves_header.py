@@ -4,6 +4,7 @@ import pathlib
 import re
 import subprocess
 import sys
+import tempfile
 import unittest
 
 ROOT = pathlib.Path(__file__).resolve().parents[2]
@@ -68,10 +69,46 @@ class Refused(unittest.TestCase):
             self.refused(PRINTED + more, 'line 3061 is too much; the table has 3,060 lines.')
 
     def test_arguments(self):
-        for argument in ('', '--help', 'crates/moves/stdout'):
-            status, header, sentence = run(PRINTED, argument)
+        for arguments in (['--help'], ['-'], ['one', 'two']):
+            status, header, sentence = run(PRINTED, *arguments)
             self.assertEqual((status, header), (2, b''))
             self.assertRegex(sentence, r'\Ausage: .*\n\Z')
+
+
+class Written(unittest.TestCase):
+    def setUp(self):
+        folder = tempfile.TemporaryDirectory()
+        self.addCleanup(folder.cleanup)
+        self.folder = pathlib.Path(folder.name)
+        self.file = self.folder / 'moves.h'
+
+    def names(self):
+        return [path.name for path in self.folder.iterdir()]
+
+    def test_file_is_written_whole(self):
+        for before in (None, b'old'):
+            if before:
+                self.file.write_bytes(before)
+            self.assertEqual(run(PRINTED, self.file), (0, b'', ''))
+            self.assertEqual(self.file.read_bytes(), HEADER.read_bytes())
+            self.assertEqual(self.names(), ['moves.h'])
+
+    def test_refused_input_leaves_the_file(self):
+        self.file.write_bytes(b'old')
+        for text in (b'', PRINTED[:-1], PRINTED + b'1\n', with_line(5, b'16\n')):
+            status, header, sentence = run(text, self.file)
+            self.assertEqual((status, header), (1, b''))
+            self.assertRegex(sentence, r'\Amoves_header: line .*\n\Z')
+            self.assertEqual(self.file.read_bytes(), b'old')
+            self.assertEqual(self.names(), ['moves.h'])
+
+    def test_file_that_cannot_be_written(self):
+        (self.folder / 'moves.h').mkdir()
+        for path in (self.file, self.folder / 'none' / 'moves.h'):
+            status, header, sentence = run(PRINTED, path)
+            self.assertEqual((status, header), (1, b''))
+            self.assertRegex(sentence, r'\Amoves_header: the header cannot be written: .*\.\n\Z')
+        self.assertEqual(self.names(), ['moves.h'])
 
 
 if __name__ == '__main__':

@@ -1,5 +1,6 @@
 -- What each exported function leaves: the number that it returns, the lent words of the state, the lent figures, its store and the lent
--- piece. It is the outcome of the state that the words hold: of the call that demand 3 speaks of, of format or a look-up, of a view or of a load. The table of moves needs no state.
+-- piece. It is the outcome of the state that the words hold: of the call that demand 3 speaks of, of format or a look-up, of a view or of a load.
+-- The table of moves needs no state.
 use Prim.Native.Nat.{ℕ}
 use mathlib.Core.Bool.{Bool, cond, _&&_}
 use mathlib.Core.List.{List, []}

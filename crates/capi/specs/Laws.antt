@@ -98,7 +98,7 @@ pub record CapiLaws : Type 0 where
       left .number ≡ 0
       → take (stateFrom words .size) (drop (getD (left .figures) 1 0) (shelfNamed (getD (left .figures) 0 0) first second))
       ≡ viewOf (stateFrom words) first second k x)
-  -- the table of moves tells of a mark the offset of its entry and its disk, which is not 0, and of no mark zeros
+  -- the table of moves tells of a mark the offset of its entry and its disk, and of no mark zeros
   pub table-move-told : (m n j : ℕ) (figures : List ℕ) → length figures ≡ 2 → IsMark m n j
       → tableMoveLeft m n j figures .figures ≡ offset m n j ∷ diskOfMark m n j ∷ []
   pub table-move-none : (m n j : ℕ) (figures : List ℕ) → length figures ≡ 2 → (IsMark m n j → ⊥) → tableMoveLeft m n j figures .figures ≡ 0 ∷ 0 ∷ []

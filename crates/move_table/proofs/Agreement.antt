@@ -9,7 +9,7 @@ use native.Mathlib.Omega.{arith}
 use lib.Dec.{ltb}
 use lib.ListN.{getD}
 use borrow.Author.Tests.{ltb-true}
-use Rattle.base.proofs.Booleans.{and-left, by-test}
+use Rattle.base.proofs.Booleans.{by-test}
 use Rattle.layout.specs.declared.Spot.{Spot}
 use Rattle.layout.specs.Growth.{diskAfter, movesFrom, oldBlockSpot, addedSpot, spotAfter}
 use Rattle.layout.specs.History.{diskCount, earlier, oldCount, addedCount, rising, spotOf}
@@ -19,7 +19,8 @@ use Rattle.layout.specs.Tally.{Tally, isRunning, liveSpotOf, growthsOf}
 use Rattle.layout.proofs.Histories.{not-rising, rising-up, rising-earlier, rising-some, rising-before}
 use Rattle.layout.proofs.MarkSpots.{mark-below, mark-disk, mark-row}
 use Rattle.layout.proofs.Spots.{same-spot}
-use Rattle.layout.proofs.NewestGrowth.{old-within, old-block, moving-old, moving-moves}
+use Rattle.layout.proofs.NewestGrowth.{old-within, old-block, moving-moves}
+use Rattle.layout.proofs.NextBlocks.{moving-old}
 use Rattle.layout.proofs.Theorems.{disks-sum, look-ups}
 use Rattle.move_table.specs.Entries.{diskOfMark, diskByTable, spotByTable}
 use Rattle.move_table.specs.Tables.{IsMark, IsMoveTable, AddressAgrees}
@@ -28,17 +29,18 @@ use Rattle.move_table.specs.Tables.{IsMark, IsMoveTable, AddressAgrees}
 
 -- the disk of a moving block's mark is its disk after the growth
 module _ (m n : ℕ) (g : Grows m n) (p : Spot) (old : p .disk < m) (mv : movesFrom m n p ≡ true) where
-  pub its-mark : IsMark m n (markOfSpot m n p)
+  its-mark : IsMark m n (markOfSpot m n p)
   its-mark = record { pair = g; below = mark-below m n (g .old) (g .added) p old mv }
 
-  pub mark-agrees : diskOfMark m n (markOfSpot m n p) ≡ oldBlockSpot m n p .disk
+  mark-agrees : diskOfMark m n (markOfSpot m n p) ≡ oldBlockSpot m n p .disk
   unfolding diskOfMark oldBlockSpot diskAfter movesFrom
   mark-agrees = rw (mark-row m n (g .old) (g .added) p old mv, mark-disk m n (g .old) (g .added) p old mv, mv)
 
--- no block of a history without a growth moves
-no-old : (s c x : ℕ) → moving s (c ∷ []) x ≡ true → ⊥
-unfolding moving oldCount earlier diskCount
-no-old s c x e = not-suc-le-zero (rw zero-mul at (ltb-true x (0 * s) (and-left (ltb x (0 * s)) _ e)))
+-- a growth of a history within the limits
+growth : (c m : ℕ) (h : List ℕ) → rising (c ∷ m ∷ h) ≡ true → c ≤ mostDisks → Grows m (c - m)
+growth c m h r most =
+    let up : m < c = rising-up c m h r in
+    record { old = rising-some m h (rising-earlier c m h r); added = omega arith; most = omega arith }
 
 module _ (numbers : List ℕ) (place : (m n j : ℕ) → ℕ) (is : IsMoveTable numbers place) where
   moved-agrees : (m n : ℕ) → Grows m n → (p : Spot) → p .disk < m → movesFrom m n p ≡ true
@@ -63,17 +65,12 @@ module _ (numbers : List ℕ) (place : (m n j : ℕ) → ℕ) (is : IsMoveTable 
 
   -- ---- a history
 
-  step : (c m : ℕ) (h : List ℕ) → rising (c ∷ m ∷ h) ≡ true → c ≤ mostDisks → Grows m (c - m)
-  step c m h r most =
-      let up : m < c = rising-up c m h r in
-      record { old = rising-some m h (rising-earlier c m h r); added = omega arith; most = omega arith }
-
   spot-agrees : (s : ℕ) (h : List ℕ) (x : ℕ) → rising h ≡ true → diskCount h ≤ mostDisks → spotByTable numbers place s h x ≡ spotOf s h x
   unfolding spotByTable spotOf diskCount
   spot-agrees s [] x r most = refl
   spot-agrees s (c ∷ []) x r most = refl
   spot-agrees s (c ∷ m ∷ h) x r most =
-      growth-agrees m (c - m) s x (spotOf s (m ∷ h) x) (spotByTable numbers place s (m ∷ h) x) (step c m h r most)
+      growth-agrees m (c - m) s x (spotOf s (m ∷ h) x) (spotByTable numbers place s (m ∷ h) x) (growth c m h r most)
       (spot-agrees s (m ∷ h) x (rising-earlier c m h r) (omega (arith, rising-up c m h r)))
       (λ k. old-within s c m h r x k .disk)
 
@@ -81,11 +78,11 @@ module _ (numbers : List ℕ) (place : (m n j : ℕ) → ℕ) (is : IsMoveTable 
       → getD numbers (place (oldCount h) (addedCount h) (markOf s h x)) 0 ≡ spotOf s h x .disk
   unfolding oldCount addedCount earlier diskCount markOf oldSpot
   moving-agrees s [] x l e = absurd (not-rising (l .rise))
-  moving-agrees s (c ∷ []) x l e = absurd (no-old s c x e)
+  moving-agrees s (c ∷ []) x l e = absurd (not-suc-le-zero (rw zero-mul at (moving-old s (c ∷ []) x e)))
   moving-agrees s (c ∷ m ∷ h) x l e =
       let r = l .rise in
-      let k : x < m * s = moving-old s c m h r x e in
-      moved-agrees m (c - m) (step c m h r (l .disks-most)) (spotOf s (m ∷ h) x) (old-within s c m h r x k .disk) (moving-moves s c m h r x e)
+      let k : x < m * s = moving-old s (c ∷ m ∷ h) x e in
+      moved-agrees m (c - m) (growth c m h r (l .disks-most)) (spotOf s (m ∷ h) x) (old-within s c m h r x k .disk) (moving-moves s c m h r x e)
       ∙ ap (λ (p : Spot). p .disk) (sym (old-block s c m h r x k))
 
   module _ (t : Tally) (x : ℕ) (l : Limits (t .rows) (t .counts)) where
@@ -101,7 +98,7 @@ module _ (numbers : List ℕ) (place : (m n j : ℕ) → ℕ) (is : IsMoveTable 
         through (earlier (t .counts)) e (rising-before (t .counts) (l .rise) g)
         (omega (arith, disks-sum (t .rows) (t .counts) (l .rise) g, l .disks-most))
 
-    pub live-agrees : (isRunning (t .mode) ≡ true → 0 < oldCount (t .counts)) → spotByTable numbers place (t .rows) (growthsOf t x) x ≡ liveSpotOf t x
+    live-agrees : (isRunning (t .mode) ≡ true → 0 < oldCount (t .counts)) → spotByTable numbers place (t .rows) (growthsOf t x) x ≡ liveSpotOf t x
     live-agrees g =
         let known = look-ups t (l .rise) g in
         by-test (isRunning (t .mode))

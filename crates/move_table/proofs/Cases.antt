@@ -1,16 +1,17 @@
 -- The examples and the counterexamples of the table of moves, by computation.
 use Prim.Native.Nat.{ℕ, suc, _-_, _<_}
 use mathlib.Core.Path.{_≡_, refl, sym, _∙_, ap}
-use mathlib.Core.Bool.{false}
 use mathlib.Core.List.{List, [], _∷_}
 use native.Mathlib.Omega.{arith}
+use lib.Dec.{eqb}
 use lib.ListN.{length, getD, set}
 use Rattle.base.specs.Below.{sum, table, joined}
 use Rattle.layout.specs.declared.Spot.{Spot}
-use Rattle.layout.specs.Growth.{moves, partOf, newDisk, diskAfter, movesFrom, oldBlockSpot, spotAfter}
+use Rattle.layout.specs.Growth.{minusMod, moves, partOf, newDisk, diskAfter, movesFrom, oldBlockSpot, addedDisk, addedSpot, spotAfter}
 use Rattle.layout.specs.History.{diskCount, earlier, oldCount, addedCount, rising, spotOf}
-use Rattle.layout.specs.Windows.{markOfSpot, oldSpot, moving, markOf}
-use Rattle.layout.specs.Tally.{Tally, notGrowing, liveSpotOf, growthsOf}
+use Rattle.layout.specs.Windows.{windowOfRow, markOfSpot, oldSpot, moving, windowOf, markOf}
+use Rattle.layout.specs.Live.{atNewSpot, liveSpot}
+use Rattle.layout.specs.Tally.{Tally, growing, recordedBy, movedBlocks, liveSpotOf, growthsOf}
 use Rattle.layout.specs.Limits.{Limits, mostDisks}
 use Rattle.move_table.specs.Entries.{diskOfMark, entriesOfPair, entriesOfSum, entries, entryCount, marksOfSum, offset, hasMark, placeOf, diskByTable, spotByTable}
 use Rattle.move_table.specs.Tables.{IsMoveTable}
@@ -21,7 +22,7 @@ use Rattle.move_table.proofs.OnlyTable.{only-numbers-law}
 
 -- unfolded, it opens what the computations below share
 unfoldable opened : Unit {0}
-unfolding entries entriesOfSum entriesOfPair diskOfMark marksOfSum offset hasMark placeOf newDisk partOf table joined sum
+unfolding entries entriesOfSum entriesOfPair diskOfMark marksOfSum offset hasMark placeOf spotByTable diskByTable markOfSpot movesFrom moves newDisk partOf addedSpot addedDisk minusMod table joined sum
 opened = tt
 
 pub examples-law : Examples
@@ -34,6 +35,10 @@ examples-law =
       three-to-five = refl;
       two-to-five-place = refl;
       two-to-five = refl;
+      moves = refl;
+      stays = refl;
+      moves-later = refl;
+      added-later = refl;
       no-old = refl;
       no-added = refl;
       too-many-disks = refl;
@@ -61,11 +66,12 @@ threeToFive : Limits 5 (5 ∷ 3 ∷ [])
 unfolding rising diskCount
 threeToFive = record { rise = refl; disks-most = omega arith; growths-most = omega arith; rows-least = omega arith; rows-most = omega arith }
 
-finished : Tally
-finished = record { rows = 5; counts = 5 ∷ 3 ∷ []; mode = notGrowing; window = 0; copied = λ x. false; recorded = λ x. false }
+-- block 3 is recorded
+underWay : Tally
+underWay = record { rows = 5; counts = 5 ∷ 3 ∷ []; mode = growing; window = 0; copied = eqb 3; recorded = eqb 3 }
 
 pub counterexamples-law : Counterexamples
-unfolding opened finished spotByTable diskByTable moving markOf oldSpot markOfSpot movesFrom moves spotOf spotAfter oldBlockSpot diskAfter oldCount addedCount earlier diskCount liveSpotOf growthsOf
+unfolding opened underWay moving markOf oldSpot spotOf spotAfter oldBlockSpot diskAfter oldCount addedCount earlier diskCount liveSpotOf growthsOf atNewSpot liveSpot movedBlocks recordedBy windowOf windowOfRow
 counterexamples-law =
     record {
       one-changed = λ place. other-entry (set entries 25 4) place 25 4 3 refl refl (λ e. omega arith);
@@ -80,7 +86,7 @@ counterexamples-law =
       swapped-numbers = λ place. other-entry (joined (λ k. joined (λ m. entriesOfPair (k - m) m) k) (suc mostDisks)) place 1 2 1 refl refl (λ e. omega arith);
       marks-fall = λ numbers is. let h : 2 < 1 = is .mark-rises 1 2 0 1 (mark-true 1 2 0 refl) (mark-true 1 2 1 refl) (omega arith) in omega arith;
       too-few = λ place. other-length (joined entriesOfSum mostDisks) place 2_380 refl (λ e. omega arith);
-      changed-elsewhere = λ agrees. let e : _≡_ {A = ℕ} 4 3 = agrees .moving-block 5 (5 ∷ 3 ∷ []) 0 threeToFive refl in omega (arith, e);
-      swapped-elsewhere = λ agrees. let e : _≡_ {A = ℕ} 2 3 = ap disk (agrees .every-block 5 (5 ∷ 3 ∷ []) 0 threeToFive) in omega (arith, e);
-      one-off-elsewhere = λ agrees. let e : _≡_ {A = ℕ} 4 3 = ap disk (agrees .live-block finished 3 threeToFive (λ r. omega arith)) in omega (arith, e);
+      changed-disagrees = λ agrees. let e : _≡_ {A = ℕ} 4 3 = agrees .moving-block 5 (5 ∷ 3 ∷ []) 0 threeToFive refl in omega (arith, e);
+      swapped-disagrees = λ agrees. let e : _≡_ {A = ℕ} 2 3 = ap disk (agrees .every-block 5 (5 ∷ 3 ∷ []) 0 threeToFive) in omega (arith, e);
+      one-off-disagrees = λ agrees. let e : _≡_ {A = ℕ} 4 3 = ap disk (agrees .live-block underWay 3 threeToFive (λ r. omega arith)) in omega (arith, e);
     }

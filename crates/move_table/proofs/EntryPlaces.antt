@@ -86,23 +86,23 @@ module _ (m n j : ℕ) (h : IsMark m n j) where
 -- ---- order
 
 module _ (m n j p q i : ℕ) (a : IsMark m n j) (b : IsMark p q i) where
-  pub sum-rises-law : m + n < p + q → offset m n j < offset p q i
+  sum-rises-law : m + n < p + q → offset m n j < offset p q i
   unfolding offset
   sum-rises-law h = omega (arith, sum-within marksOfSum (p + q) (m + n) (placeInSum m n j) h (in-sum m n j a))
 
-  pub old-rises-law : m + n ≡ p + q → m < p → offset m n j < offset p q i
+  old-rises-law : m + n ≡ p + q → m < p → offset m n j < offset p q i
   unfolding offset
   old-rises-law e h =
       let g : p + q - m ≡ n = omega arith in
       rw e (omega (arith, sum-within (λ i. i * (p + q - i)) p m j h (rw g (a .below))))
 
-pub mark-rises-law : (m n j i : ℕ) → j < i → offset m n j < offset m n i
+mark-rises-law : (m n j i : ℕ) → j < i → offset m n j < offset m n i
 unfolding offset
 mark-rises-law m n j i h = omega arith
 
 -- ---- no place is left
 
--- j of the entries with old count m, among those of the sum k
+-- a mark of the sum k whose place among the entries of that sum is `at`
 abbrev MarkAt : (k at : ℕ) → Type 0
 MarkAt k at = (m : ℕ) × (n : ℕ) × (j : ℕ) × IsMark m n j × (m + n ≡ k) × (placeInSum m n j ≡ at)
 
@@ -119,12 +119,12 @@ mark-of-sum : (k at : ℕ) → k ≤ mostDisks → at < marksOfSum k → MarkAt 
 unfolding marksOfSum
 mark-of-sum k at most h = let (m, j, hm, hj, e) = sum-place (λ i. i * (k - i)) k at h in mark-at k m j at most hm hj e
 
-pub each-place-law : (k : ℕ) → k < length entries → (m : ℕ) × (n : ℕ) × (j : ℕ) × IsMark m n j × (offset m n j ≡ k)
+each-place-law : (k : ℕ) → k < length entries → (m : ℕ) × (n : ℕ) × (j : ℕ) × IsMark m n j × (offset m n j ≡ k)
 unfolding offset
 each-place-law k h =
     let (s, r, hs, hr, e) = sum-place marksOfSum (suc mostDisks) k (rw length-entries at h) in
     let (m, n, j, a, same, place) = mark-of-sum s r (omega arith) hr in
-    (m, n, j, a, add-assoc (sum marksOfSum (m + n)) (sum (λ i. i * (m + n - i)) m) j ∙ rw (place, same) e)
+    (m, n, j, a, omega (arith, place, ap (sum marksOfSum) same, e))
 
 -- ---- every entry is a disk from 1 to 15, and past the end 0 is told
 

@@ -9,16 +9,10 @@ use lib.Dec.{ltb}
 use lib.ListN.{getD}
 use lib.Seq.{ext-getD}
 use borrow.Author.Tests.{ltb-true, ltb-false}
-use Rattle.base.proofs.Booleans.{by-test}
+use Rattle.base.proofs.Booleans.{by-test, compared}
 use Rattle.move_table.specs.Entries.{entries, offset}
 use Rattle.move_table.specs.Tables.{IsMark, IsMoveTable}
 use Rattle.move_table.proofs.EntryPlaces.{table-law}
-
--- less, equal or greater
-compared : {P : Type 0} (a b : ℕ) → (a < b → P) → (a ≡ b → P) → (b < a → P) → P
-compared a b less same more =
-    by-test (ltb a b) (λ e. less (ltb-true a b e))
-    (λ e. by-test (ltb b a) (λ f. more (ltb-true b a f)) (λ f. let u : b ≤ a = ltb-false a b e in let v : a ≤ b = ltb-false b a f in same (omega arith)))
 
 -- two tables have their marks in one order
 module _ (numbers others : List ℕ) (place other : (m n j : ℕ) → ℕ) (one : IsMoveTable numbers place) (two : IsMoveTable others other) where
@@ -26,8 +20,8 @@ module _ (numbers others : List ℕ) (place other : (m n j : ℕ) → ℕ) (one 
   same-pair m n j i a b h =
       compared j i (two .mark-rises m n j i a b) (λ e. absurd (omega (arith, (rw e at h)))) (λ l. absurd (omega (arith, one .mark-rises m n i j b a l)))
 
-  same-order : (m n j p q i : ℕ) → IsMark m n j → IsMark p q i → place m n j < place p q i → other m n j < other p q i
-  same-order m n j p q i a b h =
+  order-kept : (m n j p q i : ℕ) → IsMark m n j → IsMark p q i → place m n j < place p q i → other m n j < other p q i
+  order-kept m n j p q i a b h =
       compared (m + n) (p + q) (two .sum-rises m n j p q i a b)
       (λ e.
       compared m p (two .old-rises m n j p q i a b e)
@@ -45,13 +39,13 @@ module _ (numbers : List ℕ) (place : (m n j : ℕ) → ℕ) (is : IsMoveTable 
   not-less zero lower m n j a e = omega arith
   not-less (suc k) lower m n j a e =
       let (p, q, i, b, at) = table-law .each-place k (omega (arith, table-law .within m n j a)) in
-      omega (arith, lower p q i b (omega arith), same-order entries numbers offset place table-law is p q i m n j b a (omega arith))
+      omega (arith, lower p q i b (omega arith), order-kept entries numbers offset place table-law is p q i m n j b a (omega arith))
 
   -- a mark at place k has an offset below that of one whose place is greater, and then k is its offset
   not-more : (k : ℕ) → PlacedBelow k → (m n j : ℕ) → IsMark m n j → offset m n j ≡ k → k < place m n j → ⊥
   not-more k lower m n j a e more =
       let (p, q, i, b, at) = is .each-place k (omega (arith, is .within m n j a)) in
-      let less : offset p q i < offset m n j = same-order numbers entries place offset is table-law p q i m n j b a (omega arith) in
+      let less : offset p q i < offset m n j = order-kept numbers entries place offset is table-law p q i m n j b a (omega arith) in
       omega (arith, lower p q i b (omega arith))
 
   placed-below : (k : ℕ) → PlacedBelow k

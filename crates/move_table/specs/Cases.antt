@@ -4,14 +4,18 @@ use mathlib.Core.Path.{_≡_}
 use mathlib.Core.List.{List, [], _∷_, _++_}
 use lib.ListN.{getD, set}
 use Rattle.base.specs.Below.{table, joined}
+use Rattle.layout.specs.declared.Spot.{Spot}
 use Rattle.layout.specs.Limits.{mostDisks}
 use Rattle.move_table.specs.declared.Place.the-variants.{At, NoMark}
-use Rattle.move_table.specs.Entries.{entriesOfPair, entriesOfSum, entries, offset, placeOf}
+use Rattle.move_table.specs.Entries.{entriesOfPair, entriesOfSum, entries, offset, placeOf, spotByTable}
 use Rattle.move_table.specs.Tables.{IsMoveTable, AddressAgrees}
 
 -- c entries from a place on
 abbrev pub entriesFrom : (at c : ℕ) → List ℕ
 entriesFrom at c = table (λ j. getD entries (at + j) 0) c
+
+abbrev pub at : (d b : ℕ) → Spot
+at d b = record { disk = d; row = record { 0 = b } }
 
 pub record Examples : Type 0 where
   -- the first pair, 1 and 1, has one mark; the last, 15 and 1, has 15
@@ -23,6 +27,12 @@ pub record Examples : Type 0 where
   -- from 2 disks to 5, the pair before: six marks too
   pub two-to-five-place : placeOf 2 3 0 ≡ At 19
   pub two-to-five : entriesFrom 19 6 ≡ 2 ∷ 2 ∷ 3 ∷ 3 ∷ 4 ∷ 4 ∷ []
+  -- `AddressAgrees`, at document 01's cases L2, L5, L8 and L9: a block that moves and one that stays, and after another growth one that moves
+  -- once more and one that is added
+  pub moves : spotByTable entries offset 5 (5 ∷ 3 ∷ []) 4 ≡ at 4 1
+  pub stays : spotByTable entries offset 5 (5 ∷ 3 ∷ []) 12 ≡ at 0 4
+  pub moves-later : spotByTable entries offset 5 (6 ∷ 5 ∷ 3 ∷ []) 16 ≡ at 5 0
+  pub added-later : spotByTable entries offset 5 (6 ∷ 5 ∷ 3 ∷ []) 25 ≡ at 0 0
   -- no old disk, no added disk, 17 disks, and a mark too many
   pub no-old : placeOf 0 5 0 ≡ NoMark
   pub no-added : placeOf 5 0 0 ≡ NoMark
@@ -47,8 +57,8 @@ pub record Counterexamples : Type 0 where
   -- `size`: m + n at most 15
   pub too-few : (place : (m n j : ℕ) → ℕ) → IsMoveTable (joined entriesOfSum mostDisks) place → ⊥
   -- `moving-block`: one entry changed
-  pub changed-elsewhere : AddressAgrees (set entries 25 4) offset → ⊥
+  pub changed-disagrees : AddressAgrees (set entries 25 4) offset → ⊥
   -- `every-block`: m and n swapped
-  pub swapped-elsewhere : AddressAgrees entries (λ m n j. offset n m j) → ⊥
-  -- `live-block`: each place one more
-  pub one-off-elsewhere : AddressAgrees entries (λ m n j. suc (offset m n j)) → ⊥
+  pub swapped-disagrees : AddressAgrees entries (λ m n j. offset n m j) → ⊥
+  -- `live-block`: each place one more, at a block that is recorded in a growth under way
+  pub one-off-disagrees : AddressAgrees entries (λ m n j. suc (offset m n j)) → ⊥

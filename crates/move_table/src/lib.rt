@@ -7,7 +7,10 @@ mod table;
 pub use places::disk_at;
 pub use places::offset;
 
-// Where the entry of a mark is in the table, counted from 0; or that there is no such mark.
+// How many entries the table has.
+pub const ENTRY_COUNT: usize = 3_060;
+
+// Where the entry of a mark is in the table: at an offset, counted from 0; or that there is no such mark.
 pub enum Place {
     At(usize),
     NoMark,

@@ -3,14 +3,16 @@ ghost use mathlib.Core.Path.{_≡_};
 ghost use lib.ListN.{getD};
 ghost use Rattle.layout.specs.Limits.{Grows};
 ghost use Rattle.move_table.specs.Entries.{entries, offset, placeOf};
+use super::ENTRY_COUNT;
 use super::Place;
 use super::table::MOVES;
+use volume::Volume;
 
 // The entry at a place, which is a disk; 0, which no entry is, where the table has ended.
 pub fn disk_at(at: usize) -> usize
     ensures { λ r. ⌜ r ≡ getD entries at 0 ⌝ }
 {
-    if 3_060 <= at {
+    if ENTRY_COUNT <= at {
         return 0;
     }
     MOVES[at] as usize
@@ -35,10 +37,10 @@ pub fn offset(m: usize, n: usize, j: usize) -> Place
     if n < 1 {
         return Place::NoMark;
     }
-    if 16 <= m {
+    if Volume::MOST_DISKS <= m {
         return Place::NoMark;
     }
-    if 16 - m < n {
+    if Volume::MOST_DISKS - m < n {
         return Place::NoMark;
     }
     if m * n <= j {

@@ -1,6 +1,8 @@
+use super::ENTRY_COUNT;
+
 // The printed table of moves, document 02, W9: the new disk for each mark of each pair m, n with m + n at most 16. Order is m + n rising,
 // then m rising, then mark rising. Each pair's first entry names it.
-pub const MOVES: [u8; 3_060] = [
+pub const MOVES: [u8; ENTRY_COUNT] = [
     1, // m 1, n 1
     1, // m 1, n 2
     2,

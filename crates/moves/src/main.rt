@@ -5,7 +5,7 @@ use printing::text;
 
 fn main() {
     let mut at = 0;
-    while at < 3_060 {
+    while at < move_table::ENTRY_COUNT {
         number(move_table::disk_at(at));
         text(b"\n");
         at += 1;

@@ -202,10 +202,11 @@ pub fn lengths(
             log.clear();
             log.push(Step::new(call, lent));
             let right = call.figures();
-            let wrong = [0, WORDS - 1, WORDS + 1].into_iter();
-            for words in wrong.filter(|_| call.takes_state()) {
-                wrong_length(&call, &state, words, right, medium, counts)?;
-                counts.event(Event::WrongState);
+            if call.takes_state() {
+                for words in [0, WORDS - 1, WORDS + 1] {
+                    wrong_length(&call, &state, words, right, medium, counts)?;
+                    counts.event(Event::WrongState);
+                }
             }
             if right == 0 {
                 continue;

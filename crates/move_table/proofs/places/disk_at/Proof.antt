@@ -1,6 +1,5 @@
--- The one test over the whole table: the array is `entries`, number by number.
+-- `disk_at` meets its contract. `returns-2` is the one check over the whole table: the array is `entries`, number by number.
 use mathlib.Core.Path.{refl, sym}
-use native.Mathlib.Nat.{lt-of-lt-of-le}
 use native.Mathlib.Omega.{arith}
 use borrow.Author.Needs.{needs}
 use Rattle.base.specs.Below.{table, joined}
@@ -16,13 +15,13 @@ returns c = sym (past-end-law _ (c .if1 .taken))
 array-read-result : tie.Need-array-read-result
 array-read-result c = search needs
 
-cast-result : tie.Need-cast-result
-unfolding entries entriesOfSum entriesOfPair diskOfMark newDisk partOf table joined
-cast-result c = record { fits = lt-of-lt-of-le (entry-most (c .before .args .at)) (omega arith) }
-
+-- the check
 returns-2 : tie.Need-returns-2
 unfolding entries entriesOfSum entriesOfPair diskOfMark newDisk partOf table joined
 returns-2 c = refl
+
+cast-result : tie.Need-cast-result
+cast-result c = record { fits = omega (arith, returns-2 c, entry-most (c .before .args .at)) }
 
 pub disk-at-spec : {M : Type 1} → statement M
 disk-at-spec = tie.close (tie.spec returns array-read-result cast-result returns-2)
