@@ -73,8 +73,8 @@
  *
  * Table of moves. For each growth from m disks by n more and each mark of it the table has the new disk of that moving
  * block. The whole table is in streterva_moves.h, for firmware without this library; it also says which block has which
- * mark. streterva_table_move tells one entry. It takes numbers alone, neither a state nor a medium; every other function
- * of the library takes a state.
+ * mark. streterva_table_move tells one entry. It takes numbers alone, neither a state nor a medium; every other
+ * function of the library takes a state.
  *
  * Pending stores. Drives with a write cache may keep stores and put them down in any order, so a store is pending until
  * the caller tells by streterva_flushed that all earlier stores are down. On such drives:

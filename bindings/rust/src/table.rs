@@ -12,10 +12,10 @@ pub struct TableMove {
 /// Tells the entry of the table of moves for a mark of the growth from `old` disks by `added` more, or `None` where
 /// there is no such mark: a number of disks is 0, both together are above 16, or the mark is not below `old * added`.
 ///
-/// The mark is that of a moving block of a window, as in [`State::copied`](crate::State::copied). For an old
-/// block on disk `d`, below `old`, in row `b`, with `b1 = b % (old + added)`, it is `d * added + (b1 - d)`; the block
-/// moves where `d <= b1` and `b1 < d + added`. The table has the pairs by `old + added` rising, those of one sum by `old` rising,
-/// and the marks of a pair in their order: 3,060 entries.
+/// The mark is that of a moving block of a window, as in [`State::copied`](crate::State::copied). An old block on disk
+/// `d`, below `old`, in row `b` moves where `d <= b1` and `b1 < d + added`, with `b1 = b % (old + added)`; its mark is
+/// then `d * added + (b1 - d)`. The table has the pairs by `old + added` rising, those of one sum by `old` rising, and
+/// the marks of a pair in their order: 3,060 entries.
 ///
 /// ```
 /// use streterva::{table_move, TableMove};

@@ -22,8 +22,8 @@ use Rattle.layout.proofs.Spots.{same-spot}
 use Rattle.layout.proofs.NewestGrowth.{old-within, old-block, moving-moves}
 use Rattle.layout.proofs.NextBlocks.{moving-old}
 use Rattle.layout.proofs.Theorems.{disks-sum, look-ups}
-use Rattle.move_table.specs.Entries.{diskOfMark, diskByTable, spotByTable}
-use Rattle.move_table.specs.Tables.{IsMark, IsMoveTable, AddressAgrees}
+use Rattle.move_table.specs.Entries.{diskOfMark}
+use Rattle.move_table.specs.Tables.{IsMark, IsMoveTable, AddressAgrees, diskByTable, spotByTable}
 
 -- ---- one growth
 

@@ -3,7 +3,6 @@ use Prim.Native.Nat.{ℕ, suc, _-_, _<_}
 use mathlib.Core.Path.{_≡_, refl, sym, _∙_, ap}
 use mathlib.Core.List.{List, [], _∷_}
 use native.Mathlib.Omega.{arith}
-use lib.Dec.{eqb}
 use lib.ListN.{length, getD, set}
 use Rattle.base.specs.Below.{sum, table, joined}
 use Rattle.layout.specs.declared.Spot.{Spot}
@@ -11,18 +10,18 @@ use Rattle.layout.specs.Growth.{minusMod, moves, partOf, newDisk, diskAfter, mo
 use Rattle.layout.specs.History.{diskCount, earlier, oldCount, addedCount, rising, spotOf}
 use Rattle.layout.specs.Windows.{windowOfRow, markOfSpot, oldSpot, moving, windowOf, markOf}
 use Rattle.layout.specs.Live.{atNewSpot, liveSpot}
-use Rattle.layout.specs.Tally.{Tally, growing, recordedBy, movedBlocks, liveSpotOf, growthsOf}
+use Rattle.layout.specs.Tally.{recordedBy, movedBlocks, liveSpotOf, growthsOf}
 use Rattle.layout.specs.Limits.{Limits, mostDisks}
-use Rattle.move_table.specs.Entries.{diskOfMark, entriesOfPair, entriesOfSum, entries, entryCount, marksOfSum, offset, hasMark, placeOf, diskByTable, spotByTable}
-use Rattle.move_table.specs.Tables.{IsMoveTable}
-use Rattle.move_table.specs.Cases.{Examples, Counterexamples}
+use Rattle.move_table.specs.Entries.{diskOfMark, entriesOfPair, entriesOfSum, entries, entryCount, marksOfSum, offset, hasMark, placeOf}
+use Rattle.move_table.specs.Tables.{IsMoveTable, diskByTable, spotByTable}
+use Rattle.move_table.specs.Cases.{underWay, Examples, Counterexamples}
 use Rattle.move_table.proofs.PlacesCode.{mark-true}
 use Rattle.move_table.proofs.EntryPlaces.{table-law}
 use Rattle.move_table.proofs.OnlyTable.{only-numbers-law}
 
 -- unfolded, it opens what the computations below share
 unfoldable opened : Unit {0}
-unfolding entries entriesOfSum entriesOfPair diskOfMark marksOfSum offset hasMark placeOf spotByTable diskByTable markOfSpot movesFrom moves newDisk partOf addedSpot addedDisk minusMod table joined sum
+unfolding entries entriesOfSum entriesOfPair diskOfMark marksOfSum offset hasMark placeOf spotByTable diskByTable markOfSpot movesFrom moves newDisk partOf addedSpot addedDisk minusMod underWay moving markOf oldSpot spotOf spotAfter oldBlockSpot diskAfter oldCount addedCount earlier diskCount liveSpotOf growthsOf atNewSpot liveSpot movedBlocks recordedBy windowOf windowOfRow table joined sum
 opened = tt
 
 pub examples-law : Examples
@@ -35,10 +34,14 @@ examples-law =
       three-to-five = refl;
       two-to-five-place = refl;
       two-to-five = refl;
+      its-mark = refl;
+      its-number = refl;
       moves = refl;
       stays = refl;
       moves-later = refl;
       added-later = refl;
+      recorded-live = refl;
+      unrecorded-live = refl;
       no-old = refl;
       no-added = refl;
       too-many-disks = refl;
@@ -66,12 +69,8 @@ threeToFive : Limits 5 (5 ∷ 3 ∷ [])
 unfolding rising diskCount
 threeToFive = record { rise = refl; disks-most = omega arith; growths-most = omega arith; rows-least = omega arith; rows-most = omega arith }
 
--- block 3 is recorded
-underWay : Tally
-underWay = record { rows = 5; counts = 5 ∷ 3 ∷ []; mode = growing; window = 0; copied = eqb 3; recorded = eqb 3 }
-
 pub counterexamples-law : Counterexamples
-unfolding opened underWay moving markOf oldSpot spotOf spotAfter oldBlockSpot diskAfter oldCount addedCount earlier diskCount liveSpotOf growthsOf atNewSpot liveSpot movedBlocks recordedBy windowOf windowOfRow
+unfolding opened
 counterexamples-law =
     record {
       one-changed = λ place. other-entry (set entries 25 4) place 25 4 3 refl refl (λ e. omega arith);
@@ -89,4 +88,5 @@ counterexamples-law =
       changed-disagrees = λ agrees. let e : _≡_ {A = ℕ} 4 3 = agrees .moving-block 5 (5 ∷ 3 ∷ []) 0 threeToFive refl in omega (arith, e);
       swapped-disagrees = λ agrees. let e : _≡_ {A = ℕ} 2 3 = ap disk (agrees .every-block 5 (5 ∷ 3 ∷ []) 0 threeToFive) in omega (arith, e);
       one-off-disagrees = λ agrees. let e : _≡_ {A = ℕ} 4 3 = ap disk (agrees .live-block underWay 3 threeToFive (λ r. omega arith)) in omega (arith, e);
+      step-too-early = λ told. let e : _≡_ {A = ℕ} 3 0 = ap disk told in omega (arith, e);
     }

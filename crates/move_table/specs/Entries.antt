@@ -2,13 +2,10 @@
 -- then mark rising". m and n are those of a growth, from m disks by n more.
 use Prim.Native.Nat.{ℕ, suc, _+_, _-_, _*_, _/_, _%_}
 use mathlib.Core.Bool.{Bool, cond, _&&_}
-use mathlib.Core.List.{List, [], _∷_}
+use mathlib.Core.List.{List}
 use lib.Dec.{leb, ltb}
-use lib.ListN.{getD}
 use Rattle.base.specs.Below.{sum, table, joined}
-use Rattle.layout.specs.declared.Spot.{Spot}
-use Rattle.layout.specs.Growth.{newDisk, movesFrom, addedSpot}
-use Rattle.layout.specs.Windows.{markOfSpot}
+use Rattle.layout.specs.Growth.{newDisk}
 use Rattle.layout.specs.Limits.{mostDisks}
 use Rattle.move_table.specs.declared.Place.{Place}
 use Rattle.move_table.specs.declared.Place.the-variants.{At, NoMark}
@@ -57,17 +54,3 @@ hasMark m n j = leb 1 m && leb 1 n && leb (m + n) mostDisks && ltb j (m * n)
 
 unfoldable pub placeOf : (m n j : ℕ) → Place
 placeOf m n j = cond (hasMark m n j) (At (offset m n j)) NoMark
-
--- ---- address by a table: document 01's, but that the new disk of a moving block is taken from a list of numbers, at the place told for its mark
-module _ (numbers : List ℕ) (place : (m n j : ℕ) → ℕ) where
-  -- the disk of an old block after a growth, p being its spot before
-  unfoldable pub diskByTable : (m n : ℕ) (p : Spot) → ℕ
-  diskByTable m n p = cond (movesFrom m n p) (getD numbers (place m n (markOfSpot m n p)) 0) (p .disk)
-
-  -- the spot of block x
-  unfoldable pub spotByTable : (s : ℕ) (h : List ℕ) (x : ℕ) → Spot
-  spotByTable s [] x = record { disk = 0; row = record { 0 = 0 } }
-  spotByTable s (c ∷ []) x = record { disk = x % c; row = record { 0 = x / c } }
-  spotByTable s (c ∷ m ∷ h) x =
-      let p = spotByTable s (m ∷ h) x in
-      cond (ltb x (m * s)) (record { disk = diskByTable m (c - m) p; row = p .row }) (addedSpot m (c - m) (x - m * s))

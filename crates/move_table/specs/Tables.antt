@@ -1,14 +1,17 @@
--- Document 02, W9: what a table of moves is, and what address by one is to agree with.
-use Prim.Native.Nat.{ℕ, _+_, _*_, _<_}
+-- Document 02, W9: what a table of moves is, address by such a table, and what it is to agree with.
+use Prim.Native.Nat.{ℕ, _+_, _-_, _*_, _/_, _%_, _<_}
 use mathlib.Core.Path.{_≡_}
-use mathlib.Core.Bool.{true}
-use mathlib.Core.List.{List}
+use mathlib.Core.Bool.{true, cond}
+use mathlib.Core.List.{List, [], _∷_}
+use lib.Dec.{ltb}
 use lib.ListN.{length, getD}
+use Rattle.layout.specs.declared.Spot.{Spot}
+use Rattle.layout.specs.Growth.{movesFrom, addedSpot}
 use Rattle.layout.specs.History.{oldCount, addedCount, spotOf}
-use Rattle.layout.specs.Windows.{moving, markOf}
+use Rattle.layout.specs.Windows.{markOfSpot, moving, markOf}
 use Rattle.layout.specs.Tally.{Tally, isRunning, liveSpotOf, growthsOf}
 use Rattle.layout.specs.Limits.{Grows, Limits}
-use Rattle.move_table.specs.Entries.{diskOfMark, entryCount, spotByTable}
+use Rattle.move_table.specs.Entries.{diskOfMark, entryCount}
 
 -- j is a mark of a growth from m disks by n within the limits, "m + n at most 16"
 pub record IsMark (m n j : ℕ) : Type 0 where
@@ -28,6 +31,21 @@ pub record IsMoveTable (numbers : List ℕ) (place : (m n j : ℕ) → ℕ) : Ty
   pub mark-rises : (m n j i : ℕ) → IsMark m n j → IsMark m n i → j < i → place m n j < place m n i
   -- "that makes 3,060 entries"
   pub size : length numbers ≡ entryCount
+
+-- ---- address by a table: document 01's, but that the new disk of a moving block is taken from a list of numbers, at the place of its mark
+
+module _ (numbers : List ℕ) (place : (m n j : ℕ) → ℕ) where
+  -- the disk of an old block after a growth, p being its spot before
+  unfoldable pub diskByTable : (m n : ℕ) (p : Spot) → ℕ
+  diskByTable m n p = cond (movesFrom m n p) (getD numbers (place m n (markOfSpot m n p)) 0) (p .disk)
+
+  -- the spot of block x
+  unfoldable pub spotByTable : (s : ℕ) (h : List ℕ) (x : ℕ) → Spot
+  spotByTable s [] x = record { disk = 0; row = record { 0 = 0 } }
+  spotByTable s (c ∷ []) x = record { disk = x % c; row = record { 0 = x / c } }
+  spotByTable s (c ∷ m ∷ h) x =
+      let p = spotByTable s (m ∷ h) x in
+      cond (ltb x (m * s)) (record { disk = diskByTable m (c - m) p; row = p .row }) (addedSpot m (c - m) (x - m * s))
 
 -- "Address may use it, and agrees with the formula for every block."
 pub record AddressAgrees (numbers : List ℕ) (place : (m n j : ℕ) → ℕ) : Type 0 where
