@@ -1,0 +1,89 @@
+//! What ends the command, its exit status and its sentence.
+
+use std::fmt;
+use std::io;
+
+use serde_json::json;
+use streterva::{LoadRefusal, Refusal};
+use streterva_store::Error;
+
+/// What the command itself finds wrong.
+#[derive(Debug)]
+pub enum Failure {
+    /// An argument does not fit, which only the command sees.
+    Usage(String),
+    /// A file that is read has something else in it than it should.
+    Input(String),
+    /// Check found so many faults.
+    Faults(u64),
+    /// Ctrl-C, or a request to end.
+    Interrupted,
+}
+
+impl fmt::Display for Failure {
+    fn fmt(&self, f: &mut fmt::Formatter<'_>) -> fmt::Result {
+        match self {
+            Failure::Usage(sentence) | Failure::Input(sentence) => f.write_str(sentence),
+            Failure::Faults(1) => f.write_str("1 fault found"),
+            Failure::Faults(number) => write!(f, "{number} faults found"),
+            Failure::Interrupted => f.write_str("ended early; what was done is kept"),
+        }
+    }
+}
+
+impl std::error::Error for Failure {}
+
+/// The exit status.
+pub fn status(error: &anyhow::Error) -> u8 {
+    if let Some(failure) = error.downcast_ref::<Failure>() {
+        return match failure {
+            Failure::Usage(_) => 2,
+            Failure::Input(_) => 3,
+            Failure::Faults(_) => 4,
+            Failure::Interrupted => 130,
+        };
+    }
+    match error.downcast_ref::<Error>() {
+        Some(Error::Refused { .. } | Error::Declined(_)) => 1,
+        Some(Error::TooShort { .. }) => 5,
+        Some(Error::NoVolume { .. }) => 6,
+        Some(Error::Locked { .. }) => 7,
+        Some(Error::File { .. }) => 3,
+        None if refusal(error).is_some() => 1,
+        None => 3,
+    }
+}
+
+/// The number of documents 01 and 02, where there is one.
+fn refusal(error: &anyhow::Error) -> Option<u64> {
+    if let Some(refusal) = error.downcast_ref::<Refusal>() {
+        return Some(refusal.number());
+    }
+    if let Some(refusal) = error.downcast_ref::<LoadRefusal>() {
+        return Some(refusal.number());
+    }
+    match error.downcast_ref::<Error>() {
+        Some(Error::Refused { refusal, .. }) => Some(refusal.number()),
+        Some(Error::NoVolume { .. }) => Some(Refusal::NoRecord.number()),
+        Some(Error::TooShort { .. }) => Some(Refusal::MediumTooShort.number()),
+        _ => None,
+    }
+}
+
+/// Whether the reader of what is printed has gone away.
+pub fn nobody_reads(error: &anyhow::Error) -> bool {
+    let kind = error.downcast_ref::<io::Error>().map(io::Error::kind);
+    kind == Some(io::ErrorKind::BrokenPipe)
+}
+
+/// The error for standard error.
+pub fn told(error: &anyhow::Error, as_json: bool) -> String {
+    let sentence = match error.downcast_ref::<LoadRefusal>() {
+        Some(refusal) => format!("refused with {}: {refusal}", refusal.number()),
+        None => format!("{error:#}"),
+    };
+    if !as_json {
+        return format!("streterva: {sentence}");
+    }
+    json!({"error": {"status": status(error), "refusal": refusal(error), "sentence": sentence}}).to_string()
+}

@@ -1,0 +1,1 @@
+pub fn run(_: &crate::args::Report, _: bool) -> anyhow::Result<()> { Ok(()) }
