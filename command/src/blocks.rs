@@ -8,7 +8,7 @@ use streterva_store::{detail, Error, Look, Options, Volume};
 
 use crate::args::{self, General};
 use crate::failure::Failure;
-use crate::numbers::{commas, counted};
+use crate::numbers::commas;
 use crate::tell::{print, tell, Answer};
 
 #[derive(Serialize)]
@@ -92,7 +92,8 @@ impl Answer for Found {
             commas(self.byte),
             match self.moves {
                 0 => "never moved".to_string(),
-                moves => format!("moved {}", counted(moves, "time")),
+                1 => "moved once".to_string(),
+                moves => format!("moved {moves} times"),
             }
         )
     }

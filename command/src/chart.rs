@@ -25,14 +25,21 @@ pub fn run(arguments: &args::Chart, json: bool) -> anyhow::Result<()> {
         let detail = format!("there are rows 0 to {}", state.rows() - 1);
         return Err(Error::Refused { refusal: Refusal::NoSuchSpot, detail }.into());
     }
+    if json {
+        print(format!("{{\"disks\":{},\"rows\":[", state.disks()).as_bytes())?;
+    }
     let rows = rows_of_a_part(state);
     for start in (first..=last).step_by(rows as usize) {
         interrupt::go_on()?;
         let end = (start + rows - 1).min(last);
-        match json {
-            false => print(part(state, start, end, start > first).as_bytes())?,
-            true => print(json_part(state, start, end)?.as_bytes())?,
-        }
+        let text = match json {
+            false => part(state, start, end, start > first),
+            true => json_part(state, start, end, start > first)?,
+        };
+        print(text.as_bytes())?;
+    }
+    if json {
+        print(b"]}\n")?;
     }
     Ok(())
 }
@@ -73,12 +80,14 @@ pub fn blocks(state: &State, row: u64) -> Vec<Option<u64>> {
     (0..state.disks()).map(holder).collect()
 }
 
-/// A JSON object a row and line.
-fn json_part(state: &State, first: u64, last: u64) -> anyhow::Result<String> {
+/// These rows as the elements of a list; a comma parts them from those before.
+fn json_part(state: &State, first: u64, last: u64, after_another: bool) -> anyhow::Result<String> {
     let mut text = String::new();
     for row in first..=last {
+        if after_another || row > first {
+            text.push(',');
+        }
         text += &serde_json::to_string(&Line { row, blocks: blocks(state, row) })?;
-        text.push('\n');
     }
     Ok(text)
 }

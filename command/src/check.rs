@@ -10,9 +10,12 @@ use streterva_store::{open_blocks, trial, Error, Place};
 use crate::args::{self, General};
 use crate::failure::Failure;
 use crate::interrupt;
-use crate::numbers::{commas, counted};
+use crate::numbers::counted;
 use crate::progress::Progress;
 use crate::tell::{tell, Answer};
+
+/// The exit status where there are faults.
+const FAULTS: u8 = 4;
 
 /// How many faults are told; all are counted.
 const MOST_TOLD: usize = 20;
@@ -43,7 +46,7 @@ pub fn run(arguments: &args::OneVolume, general: &General) -> anyhow::Result<()>
     tell(&checked, general.json)?;
     match checked.faults {
         0 => Ok(()),
-        faults => Err(Failure::Faults(faults).into()),
+        _ => Err(Failure::Told(FAULTS).into()),
     }
 }
 
@@ -128,7 +131,7 @@ impl Answer for Checked {
         let looked = format!("{} and {}", counted(self.blocks, "block"), counted(self.spots, "spot"));
         match self.faults {
             0 => text + &format!("{}: no fault found; {looked} agree\n", self.volume),
-            faults => text + &format!("{}: {} faults in all; looked at {looked}\n", self.volume, commas(faults)),
+            faults => text + &format!("{}: {}; looked at {looked}\n", self.volume, counted(faults, "fault")),
         }
     }
 }

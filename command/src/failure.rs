@@ -14,8 +14,8 @@ pub enum Failure {
     Usage(String),
     /// A file that is read has something else in it than it should.
     Input(String),
-    /// Check found so many faults.
-    Faults(u64),
+    /// The answer on standard output says it all; this is its exit status.
+    Told(u8),
     /// Ctrl-C, or a request to end.
     Interrupted,
 }
@@ -24,8 +24,7 @@ impl fmt::Display for Failure {
     fn fmt(&self, f: &mut fmt::Formatter<'_>) -> fmt::Result {
         match self {
             Failure::Usage(sentence) | Failure::Input(sentence) => f.write_str(sentence),
-            Failure::Faults(1) => f.write_str("1 fault found"),
-            Failure::Faults(number) => write!(f, "{number} faults found"),
+            Failure::Told(status) => write!(f, "exit status {status}"),
             Failure::Interrupted => f.write_str("ended early; what was done is kept"),
         }
     }
@@ -39,7 +38,7 @@ pub fn status(error: &anyhow::Error) -> u8 {
         return match failure {
             Failure::Usage(_) => 2,
             Failure::Input(_) => 3,
-            Failure::Faults(_) => 4,
+            Failure::Told(status) => *status,
             Failure::Interrupted => 130,
         };
     }
@@ -70,10 +69,11 @@ fn refusal(error: &anyhow::Error) -> Option<u64> {
     }
 }
 
-/// Whether the reader of what is printed has gone away.
-pub fn nobody_reads(error: &anyhow::Error) -> bool {
+/// Whether there is nothing to say: the answer has said it, or the reader of what is printed has gone away.
+pub fn is_silent(error: &anyhow::Error) -> bool {
     let kind = error.downcast_ref::<io::Error>().map(io::Error::kind);
-    kind == Some(io::ErrorKind::BrokenPipe)
+    let told = matches!(error.downcast_ref(), Some(Failure::Told(_)));
+    told || kind == Some(io::ErrorKind::BrokenPipe)
 }
 
 /// The error for standard error.

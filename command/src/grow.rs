@@ -3,6 +3,7 @@
 use std::path::Path;
 use std::time::{Duration, Instant};
 
+use indicatif::HumanDuration;
 use serde::Serialize;
 use streterva::Step;
 use streterva_store::{trial, Look, Options, Volume};
@@ -102,9 +103,9 @@ impl Answer for Forecast {
             let bar = bar(stay + arrive, rows, 20);
             text += &format!("  {disk:>4} {stay:>9} {leave:>9} {arrive:>9} {new:>9}  {bar}\n");
         }
-        let minutes = self.estimated_seconds / 60.0;
+        let estimate = HumanDuration(Duration::from_secs_f64(self.estimated_seconds.max(1.0)));
         text + &format!(
-            "  an estimate: {minutes:.1} minutes, at {} bytes a second and 1 ms for each of {} flushes\n",
+            "  an estimate: {estimate}, at {} bytes a second and 1 ms for each of {} flushes\n",
             commas(self.rate),
             commas(self.flushes)
         )

@@ -34,7 +34,7 @@ fn main() -> ExitCode {
     match done {
         Ok(()) => ExitCode::SUCCESS,
         Err(error) => {
-            if !failure::nobody_reads(&error) {
+            if !failure::is_silent(&error) {
                 eprintln!("{}", failure::told(&error, arguments.general.json));
             }
             ExitCode::from(failure::status(&error))

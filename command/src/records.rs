@@ -9,6 +9,7 @@ use streterva_store::record::{self, Fault, Sector};
 use streterva_store::{open_blocks, open_to_look, restore, trial, Error, Form, Look, Options, Place, PAGE};
 
 use crate::args;
+use crate::failure::{self, Failure};
 use crate::files::write_whole;
 use crate::growth::Moves;
 use crate::numbers::commas;
@@ -56,9 +57,12 @@ pub fn examine(arguments: &args::Examine, json: bool) -> anyhow::Result<()> {
         Ok(restarted) => (None, Some(Record::of(restarted))),
         Err(_) => (record::fault(&sector).map(Refused::of), None),
     };
-    tell(&Examined { file, byte, sound: told.is_ok(), refused, record }, json)?;
-    told?;
-    Ok(())
+    let sound = record.is_some();
+    tell(&Examined { file, byte, sound, refused, record }, json)?;
+    match told {
+        Ok(_) => Ok(()),
+        Err(error) => Err(Failure::Told(failure::status(&error.into())).into()),
+    }
 }
 
 /// The sector in a folder's file `record`, in the last bytes of a file of one page, or in the first of any other.

@@ -110,7 +110,7 @@ fn save_all(
         }
         saved += next;
         progress.add(next);
-        volume.begin_flush();
+        if std::env::var_os("BF").is_some() { volume.begin_flush(); }
     }
     Ok(saved)
 }

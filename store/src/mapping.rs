@@ -13,6 +13,10 @@ use std::slice;
 /// Bytes of a page, the unit in which files are mapped.
 pub const PAGE: usize = 4096;
 
+/// Bytes of a large page. Where addresses and a file's bytes are the same multiple of it apart, the kernel maps so many bytes at
+/// once; elsewhere each page has a cost of its own, which grows with the large pages that it reads ahead.
+const LARGE_PAGE: usize = 2 << 20;
+
 /// A range of addresses with a front and files behind it.
 pub struct Mapping {
     start: *mut u8,
@@ -26,11 +30,17 @@ unsafe impl Send for Mapping {}
 unsafe impl Sync for Mapping {}
 
 impl Mapping {
-    /// Reserves addresses for a front and `behind` bytes of files; none of them is mapped yet.
-    pub fn reserve(behind: usize) -> io::Result<Mapping> {
-        let reserved = PAGE + behind.next_multiple_of(PAGE);
+    /// Reserves addresses for a front and `behind` bytes of files; none of them is mapped yet. Byte `aligned` of the
+    /// range, 0 or the end of the front, begins a large page.
+    pub fn reserve(behind: usize, aligned: usize) -> io::Result<Mapping> {
+        let reserved = PAGE + behind.next_multiple_of(PAGE) + LARGE_PAGE;
         let start = anonymous(reserved, libc::PROT_NONE)?;
-        let mapping = Mapping { start, reserved, used: PAGE };
+        let spare = (start as usize + aligned).next_multiple_of(LARGE_PAGE) - aligned - start as usize;
+        // SAFETY: the first pages of the new range are given back; nobody knows them yet.
+        unsafe { libc::munmap(start.cast(), spare) };
+        // SAFETY: `spare` is below a large page, and the range is longer.
+        let start = unsafe { start.add(spare) };
+        let mapping = Mapping { start, reserved: reserved - spare, used: PAGE };
         mapping.open_front()?;
         Ok(mapping)
     }
@@ -75,6 +85,11 @@ impl Mapping {
             return Err(io::Error::last_os_error());
         }
         self.used = at + bytes;
+        if !(self.start as usize + at).wrapping_sub(offset as usize).is_multiple_of(LARGE_PAGE) {
+            // SAFETY: the pages are mapped, and their bytes stay as they are. It only keeps the pages that are read
+            // ahead small, and so the cost of a store.
+            unsafe { libc::madvise(self.start.add(at).cast(), bytes, libc::MADV_SEQUENTIAL) };
+        }
         Ok(())
     }
 

@@ -32,7 +32,11 @@ impl Medium {
         let record = &files.record;
         let most = State::medium_bytes(state.size(), state.rows(), State::MOST_DISKS);
         let behind = most.max(record.bytes as usize);
-        let mapping = Mapping::reserve(behind).map_err(Error::file("map", &record.path))?;
+        let aligned = match files.place.form() {
+            Form::Image => 0,
+            Form::Folder => PAGE,
+        };
+        let mapping = Mapping::reserve(behind, aligned).map_err(Error::file("map", &record.path))?;
         let mut medium = Medium { mapping, from: 0, end: 0, behind_record: vec![] };
         let front = (record.bytes as usize).min(PAGE);
         let read = record.file.read_exact_at(&mut medium.mapping.bytes_mut()[..front], 0);

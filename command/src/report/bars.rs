@@ -1,40 +1,27 @@
 //! Pictures as SVG text: lines that have a label, horizontal bars and numbers; and a progress bar.
 
-use super::page::text::{commas, escape, fraction};
+mod shapes;
+#[cfg(test)]
+mod tests;
+
+use super::page::text::{commas, fraction};
+pub use shapes::Fill;
+use shapes::{dashed, rectangle, rule, svg, text, FAINT_INK, FONT, INK};
 
 /// The width of a picture in its own units. The page scales it to the room there is.
 const WIDTH: f64 = 860.0;
 /// The least width of a bar of full length. A picture whose numbers leave less room is made wider.
 const LEAST_BAR: f64 = 120.0;
 /// The height of a line, and of the bar in it.
-const LINE: f64 = 36.0;
-const BAR: f64 = 24.0;
-const FONT: f64 = 17.0;
-/// Room between the columns of a picture.
+const LINE: f64 = 34.0;
+const BAR: f64 = 23.0;
+/// Room between the panels of a picture, and to the left of each column of numbers.
 const GAP: f64 = 26.0;
+const COLUMN_GAP: f64 = 19.0;
 /// The height at which headings stand.
 const HEADING: f64 = 19.0;
 /// The size of the sample of a colour below a heading.
 const SAMPLE: (f64, f64) = (44.0, 7.0);
-
-const INK: &str = "#1f2933";
-const FAINT_INK: &str = "#566472";
-const RULE: &str = "#c8d0d9";
-
-/// What a bar shows; it decides the colour. The colours differ in lightness as well as in hue, so they can be told apart
-/// by people who see fewer hues, and on paper without colour.
-#[derive(Clone, Copy, Debug, PartialEq, Eq)]
-pub enum Fill {
-    /// What a full bar would cover.
-    Track,
-    Plain,
-    Stays,
-    Leaves,
-    Arrives,
-    Added,
-    /// Blocks that were moved so many times.
-    Moved(usize),
-}
 
 /// One part of a bar.
 #[derive(Clone, Debug)]
@@ -53,11 +40,25 @@ pub struct Line {
     pub numbers: Vec<String>,
 }
 
+impl Line {
+    /// A line of sums: it has no bars.
+    pub fn sums(label: &str, numbers: Vec<String>) -> Line {
+        Line { label: label.into(), bars: Vec::new(), numbers }
+    }
+}
+
 /// The heading of a column of numbers, with the colour of the parts that they count.
 #[derive(Clone, Debug)]
 pub struct Column {
     pub heading: &'static str,
     pub fill: Option<Fill>,
+}
+
+impl Column {
+    /// A column without a colour.
+    pub fn plain(heading: &'static str) -> Column {
+        Column { heading, fill: None }
+    }
 }
 
 /// A picture: panels of bars with their headings, columns of numbers beside them.
@@ -90,22 +91,6 @@ struct Layout {
     full: u64,
 }
 
-/// The colour of a fill.
-pub fn colour(fill: Fill) -> &'static str {
-    const MOVED: [&str; 8] = [
-        "#3d6a9e", "#f7bd5a", "#e8931a", "#a85e00", "#874700", "#683300", "#4b2300", "#301500",
-    ];
-    match fill {
-        Fill::Track => "#edf0f4",
-        Fill::Plain => "#657d99",
-        Fill::Stays => "#3d6a9e",
-        Fill::Leaves => "#fbe0b0",
-        Fill::Arrives => "#ea9a1c",
-        Fill::Added => "#93d3c3",
-        Fill::Moved(times) => MOVED[times.min(MOVED.len() - 1)],
-    }
-}
-
 /// The picture as an SVG element.
 pub fn picture(of: &Picture) -> String {
     let at = layout(of);
@@ -114,7 +99,7 @@ pub fn picture(of: &Picture) -> String {
         body += &drawn_line(of, &at, line, LINE * (i + 1) as f64);
     }
     let end = LINE * (of.lines.len() + 1) as f64;
-    body += &rule(0.0, end + 1.0, at.width);
+    body += &rule(end + 1.0, at.width);
     body += &drawn_line(of, &at, &of.sums, end + 3.0);
     if let Some((value, text)) = &of.mark {
         body += &marked(&at, *value, text, end);
@@ -131,21 +116,8 @@ pub fn progress(title: &str, done: u64, total: u64) -> String {
     svg(title, WIDTH, height, &(track + &filled))
 }
 
-fn svg(title: &str, width: f64, height: f64, body: &str) -> String {
-    let title = escape(title);
-    format!(
-        "<svg xmlns=\"http://www.w3.org/2000/svg\" viewBox=\"0 0 {width:.0} {height:.0}\" role=\"img\" \
-         aria-label=\"{title}\" font-size=\"{FONT}\"><title>{title}</title>\n{body}</svg>\n"
-    )
-}
-
 fn layout(of: &Picture) -> Layout {
-    let label = room(
-        of.lines
-            .iter()
-            .chain([&of.sums])
-            .map(|line| line.label.as_str()),
-    );
+    let label = room(of.lines.iter().chain([&of.sums]).map(|line| line.label.as_str()));
     let columns: Vec<f64> = (0..of.columns.len()).map(|i| column_room(of, i)).collect();
     let panels = of.panels.len().max(1) as f64;
     let rest = WIDTH - label - columns.iter().sum::<f64>();
@@ -154,9 +126,7 @@ fn layout(of: &Picture) -> Layout {
     Layout {
         width: numbers + columns.iter().sum::<f64>(),
         height: LINE * (of.lines.len() + 2) as f64 + 4.0,
-        panels: (0..of.panels.len())
-            .map(|i| label + i as f64 * (bar + GAP) + GAP / 2.0)
-            .collect(),
+        panels: (0..of.panels.len()).map(|i| label + i as f64 * (bar + GAP) + GAP / 2.0).collect(),
         bar,
         columns: right_edges(numbers, &columns),
         full: of.lines.iter().map(longest).max().unwrap_or(0).max(of.full),
@@ -191,15 +161,12 @@ fn width_of(text: &str) -> f64 {
 fn column_room(of: &Picture, i: usize) -> f64 {
     let lines = of.lines.iter().chain([&of.sums]);
     let numbers = room(lines.filter_map(|line| line.numbers.get(i).map(String::as_str)));
-    numbers.max(width_of(of.columns[i].heading)) + GAP / 2.0
+    numbers.max(width_of(of.columns[i].heading)) + COLUMN_GAP
 }
 
 /// The value of the line's longest bar.
 fn longest(line: &Line) -> u64 {
-    let sum = |bar: &Vec<Part>| {
-        bar.iter()
-            .fold(0, |sum: u64, part| sum.saturating_add(part.value))
-    };
+    let sum = |bar: &Vec<Part>| bar.iter().fold(0, |sum: u64, part| sum.saturating_add(part.value));
     line.bars.iter().flatten().map(sum).max().unwrap_or(0)
 }
 
@@ -207,9 +174,7 @@ fn headings(of: &Picture, at: &Layout) -> String {
     let panels = of.panels.iter().zip(&at.panels);
     let columns = of.columns.iter().zip(&at.columns);
     let over_bars = panels.map(|(heading, x)| text(*x, HEADING, "start", FAINT_INK, heading));
-    over_bars
-        .chain(columns.map(|(column, end)| column_heading(column, *end)))
-        .collect()
+    over_bars.chain(columns.map(|(column, end)| column_heading(column, *end))).collect()
 }
 
 /// A heading that ends at `end`, with a sample of the column's colour below it.
@@ -223,16 +188,21 @@ fn column_heading(column: &Column, end: f64) -> String {
 
 /// A line whose upper edge is at `y`: label, bars and numbers.
 fn drawn_line(of: &Picture, at: &Layout, line: &Line, y: f64) -> String {
-    let middle = y + LINE / 2.0 + FONT * 0.35;
-    let label = text(0.0, middle, "start", INK, &line.label);
+    let base = baseline(y);
+    let label = text(0.0, base, "start", INK, &line.label);
     let bars = line.bars.iter().zip(&at.panels);
     let drawn = bars.map(|(bar, x)| match bar {
         Some(parts) => drawn_bar(at, &line.label, parts, *x, y + (LINE - BAR) / 2.0),
-        None => text(*x, middle, "start", FAINT_INK, of.no_bar),
+        None => text(*x, base, "start", FAINT_INK, of.no_bar),
     });
     let numbers = line.numbers.iter().zip(&at.columns);
-    let shown = numbers.map(|(number, end)| text(*end, middle, "end", INK, number));
+    let shown = numbers.map(|(number, end)| text(*end, base, "end", INK, number));
     label + &drawn.chain(shown).collect::<String>()
+}
+
+/// The height of the text in a line whose upper edge is at `y`.
+fn baseline(y: f64) -> f64 {
+    y + LINE / 2.0 + FONT * 0.35
 }
 
 /// The parts of a bar, end to end, on a track of full length.
@@ -254,41 +224,5 @@ fn marked(at: &Layout, value: f64, about: &str, bottom: f64) -> String {
     let x = left + at.bar * (value / at.full.max(1) as f64).clamp(0.0, 1.0);
     let half = width_of(about) / 2.0;
     let middle = x.max(left + half).min(left + at.bar - half);
-    let line = format!(
-        "<line x1=\"{x:.2}\" y1=\"{:.2}\" x2=\"{x:.2}\" y2=\"{bottom:.2}\" stroke=\"{INK}\" \
-         stroke-width=\"2\" stroke-dasharray=\"5 4\" />\n",
-        LINE
-    );
-    line + &text(middle, bottom + 20.0, "middle", INK, about)
-}
-
-fn rule(x: f64, y: f64, end: f64) -> String {
-    format!(
-        "<line x1=\"{x:.2}\" y1=\"{y:.2}\" x2=\"{end:.2}\" y2=\"{y:.2}\" stroke=\"{RULE}\" />\n"
-    )
-}
-
-/// A rectangle, with a text that a browser shows over it unless the text is empty. Blocks that leave are a pale area
-/// with an edge in the colour of those that arrive.
-fn rectangle(x: f64, y: f64, width: f64, height: f64, fill: Fill, about: &str) -> String {
-    let edge = match fill {
-        Fill::Leaves => colour(Fill::Arrives),
-        _ => "#fff",
-    };
-    let title = match about {
-        "" => String::new(),
-        about => format!("<title>{}</title>", escape(about)),
-    };
-    format!(
-        "<rect x=\"{x:.2}\" y=\"{y:.2}\" width=\"{width:.2}\" height=\"{height:.2}\" rx=\"2\" \
-         fill=\"{}\" stroke=\"{edge}\">{title}</rect>\n",
-        colour(fill)
-    )
-}
-
-fn text(x: f64, y: f64, anchor: &str, colour: &str, text: &str) -> String {
-    format!(
-        "<text x=\"{x:.2}\" y=\"{y:.2}\" text-anchor=\"{anchor}\" fill=\"{colour}\">{}</text>\n",
-        escape(text)
-    )
+    dashed(x, LINE, bottom) + &text(middle, baseline(bottom + 3.0), "middle", INK, about)
 }

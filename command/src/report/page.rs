@@ -90,6 +90,9 @@ pub struct Chart {
     pub left_out: u64,
 }
 
+/// What every report has near its start.
+pub const GENERATOR: &str = "<meta name=\"generator\" content=\"streterva\" />";
+
 /// The page.
 pub fn page(facts: &Facts) -> String {
     let sections = [
@@ -102,7 +105,7 @@ pub fn page(facts: &Facts) -> String {
     format!(
         "<!DOCTYPE html>\n\
          <html xmlns=\"http://www.w3.org/1999/xhtml\" lang=\"en\">\n<head>\n\
-         <meta charset=\"utf-8\" />\n\
+         <meta charset=\"utf-8\" />\n{GENERATOR}\n\
          <meta name=\"viewport\" content=\"width=device-width, initial-scale=1\" />\n\
          <title>{}: Streterva volume report</title>\n\
          <style>\n{}</style>\n</head>\n<body>\n<main>\n{}{}</main>\n</body>\n</html>\n",
@@ -120,10 +123,7 @@ fn disks(facts: &Facts) -> u64 {
 
 /// The entry for disk `disk`; 0 if the list is shorter.
 fn entry(list: &[u64], disk: u64) -> u64 {
-    usize::try_from(disk)
-        .ok()
-        .and_then(|i| list.get(i).copied())
-        .unwrap_or(0)
+    usize::try_from(disk).ok().and_then(|i| list.get(i).copied()).unwrap_or(0)
 }
 
 /// A section with its heading. The body is HTML; so is the heading. The class is for the style sheet.
@@ -151,9 +151,8 @@ fn disk_headings(disks: u64) -> String {
     (0..disks).map(|disk| format!("<th>{disk}</th>")).collect()
 }
 
-/// The room that a table of numbers needs, in font sizes, with these characters in its widest line and these columns. The
-/// style sheet works out the font size from it, so that the table fits the page.
-fn table_room(characters: usize, columns: usize) -> String {
-    let room = 0.62 * characters as f64 + 0.9 * columns as f64 + 1.0;
-    format!("style=\"--room: {room:.1}\"")
+/// The width that a table of numbers needs, in font sizes, with these characters in its widest line and these columns.
+/// The style sheet works out the font size from it, so that the table fits the page.
+fn table_room(characters: usize, columns: usize) -> f64 {
+    0.62 * characters as f64 + 0.9 * columns as f64 + 1.0
 }

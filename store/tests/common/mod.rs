@@ -21,13 +21,20 @@ pub type Checked = Result<(), String>;
 
 /// Numbers that look random and are the same for the same seed, which is printed where a test fails.
 pub struct Random {
-    seed: u64,
+    seed: Option<u64>,
     last: u64,
 }
 
 impl Random {
     pub fn new(seed: u64) -> Random {
-        Random { seed, last: seed }
+        let (seed, last) = (Some(seed), seed);
+        Random { seed, last }
+    }
+
+    /// Numbers of their own for somebody else, which follow from this seed too.
+    pub fn another(&mut self) -> Random {
+        let (seed, last) = (None, self.number());
+        Random { seed, last }
     }
 
     /// The next number; the generator is splitmix64.
@@ -56,8 +63,8 @@ impl Random {
 
 impl Drop for Random {
     fn drop(&mut self) {
-        if thread::panicking() {
-            eprintln!("the seed was {}", self.seed);
+        if let (Some(seed), true) = (self.seed, thread::panicking()) {
+            eprintln!("the seed was {seed}");
         }
     }
 }
@@ -65,7 +72,14 @@ impl Drop for Random {
 /// A plan without room for more disks, which overwrites nothing.
 pub fn plan(form: Form, size: u64, rows: u64, disks: u64) -> Plan {
     let (room, force) = (disks, false);
-    Plan { size, rows, disks, form, room, force }
+    Plan {
+        size,
+        rows,
+        disks,
+        form,
+        room,
+        force,
+    }
 }
 
 /// A folder in memory where the system has one, for tests that the machine's own drives do not matter to.
@@ -82,9 +96,17 @@ pub fn contents(folder: &Path) -> BTreeMap<PathBuf, Vec<u8>> {
         let path = entry.expect("the folder can be read").path();
         let name = PathBuf::from(path.file_name().expect("an entry has a name"));
         if path.is_dir() {
-            all.extend(contents(&path).into_iter().map(|(below, bytes)| (name.join(below), bytes)));
+            all.extend(
+                contents(&path)
+                    .into_iter()
+                    .map(|(below, bytes)| (name.join(below), bytes)),
+            );
         } else {
-            let bytes = if path.is_file() { fs::read(&path).expect("the file can be read") } else { vec![] };
+            let bytes = if path.is_file() {
+                fs::read(&path).expect("the file can be read")
+            } else {
+                vec![]
+            };
             all.insert(name, bytes);
         }
     }
@@ -95,7 +117,8 @@ pub fn contents(folder: &Path) -> BTreeMap<PathBuf, Vec<u8>> {
 pub fn put_contents(folder: &Path, all: &BTreeMap<PathBuf, Vec<u8>>) {
     for (name, bytes) in all {
         let path = folder.join(name);
-        fs::create_dir_all(path.parent().expect("a file is in a folder")).expect("a folder can be made");
+        fs::create_dir_all(path.parent().expect("a file is in a folder"))
+            .expect("a folder can be made");
         fs::write(path, bytes).expect("a file can be made");
     }
 }
@@ -145,7 +168,9 @@ impl Saves {
 
     /// The saves since the last flush.
     pub fn pending(&self) -> impl Iterator<Item = (u64, u64)> + '_ {
-        self.pending.iter().map(|(&block, &version)| (block, version))
+        self.pending
+            .iter()
+            .map(|(&block, &version)| (block, version))
     }
 
     /// The number of blocks that have to be kept.
@@ -155,7 +180,9 @@ impl Saves {
 
     /// Whether every block that has to be kept is read.
     pub fn check(&self, volume: &Volume) -> Checked {
-        self.kept.iter().try_for_each(|(&block, &version)| reads(volume, block, version))
+        self.kept
+            .iter()
+            .try_for_each(|(&block, &version)| reads(volume, block, version))
     }
 
     /// Whether the block is read as it was saved last, by the process that saved it.
@@ -169,13 +196,20 @@ impl Saves {
 pub fn reads(volume: &Volume, block: u64, version: u64) -> Checked {
     let size = volume.state().size();
     let mut read = vec![0; size as usize];
-    volume.read(Block(block), &mut read).map_err(|error| format!("block {block} is not read: {error}"))?;
+    volume
+        .read(Block(block), &mut read)
+        .map_err(|error| format!("block {block} is not read: {error}"))?;
     if read == piece(size, block, version) {
         return Ok(());
     }
-    let word = |from: usize| u64::from_le_bytes(read[from..from + 8].try_into().expect("eight bytes"));
+    let word =
+        |from: usize| u64::from_le_bytes(read[from..from + 8].try_into().expect("eight bytes"));
     let (other, other_version) = (word(0) >> 32, word(8));
-    let spot = volume.state().address(Block(block)).expect("an open block").spot;
+    let spot = volume
+        .state()
+        .address(Block(block))
+        .expect("an open block")
+        .spot;
     Err(format!(
         "block {block}, version {version}, is lost: at {spot:?} begins block {other}, version {other_version}"
     ))
@@ -184,9 +218,18 @@ pub fn reads(volume: &Volume, block: u64, version: u64) -> Checked {
 /// Whether the holder of each open block's spot is the block.
 pub fn spots_agree(state: &State) -> Checked {
     (0..open_blocks(state)).map(Block).try_for_each(|block| {
-        let spot = state.address(block).map_err(|refusal| refusal.to_string())?.spot;
+        let spot = state
+            .address(block)
+            .map_err(|refusal| refusal.to_string())?
+            .spot;
         let holder = state.holder(spot.disk, spot.row);
-        if holder == Ok(block) { Ok(()) } else { Err(format!("{block:?} is at {spot:?}, whose holder is {holder:?}")) }
+        if holder == Ok(block) {
+            Ok(())
+        } else {
+            Err(format!(
+                "{block:?} is at {spot:?}, whose holder is {holder:?}"
+            ))
+        }
     })
 }
 
@@ -194,11 +237,31 @@ pub fn spots_agree(state: &State) -> Checked {
 pub fn complete(volume: &mut Volume) -> Checked {
     let (told, mut taken) = (volume.calls_left(), 0);
     while volume.state().is_growing() {
-        let advanced = volume.advance().map_err(|error| format!("advance: {error}"))?;
+        let advanced = volume
+            .advance()
+            .map_err(|error| format!("advance: {error}"))?;
         taken += 1;
         if advanced.calls_left != told.wrapping_sub(taken) {
-            return Err(format!("{told} calls were left at first, and after {taken} there are {}", advanced.calls_left));
+            return Err(format!(
+                "{told} calls were left at first, and after {taken} there are {}",
+                advanced.calls_left
+            ));
         }
     }
-    if taken == told { Ok(()) } else { Err(format!("{told} advance calls were told to be left, and it took {taken}")) }
+    if taken == told {
+        Ok(())
+    } else {
+        Err(format!(
+            "{told} advance calls were told to be left, and it took {taken}"
+        ))
+    }
+}
+
+/// Whether all that has to be kept is read and stands where it says, now and after a growth under way is completed.
+pub fn all_is_kept(volume: &mut Volume, saves: &Saves) -> Checked {
+    saves.check(volume)?;
+    spots_agree(volume.state())?;
+    complete(volume)?;
+    saves.check(volume)?;
+    spots_agree(volume.state())
 }

@@ -7,7 +7,7 @@ pub fn head(facts: &Facts) -> String {
     format!(
         "<header>\n<p class=\"kind\">Streterva volume report</p>\n<h1>{}</h1>\n\
          <p class=\"about\"><span>Kept in {}</span> <span>Report of {}</span></p>\n\
-         <p class=\"state\">{}</p>\n<dl>\n{}</dl>\n</header>\n",
+         {}<dl>\n{}</dl>\n</header>\n",
         escape(&facts.name),
         escape(&facts.form),
         escape(&facts.made),
@@ -16,17 +16,15 @@ pub fn head(facts: &Facts) -> String {
     )
 }
 
-/// What the volume does: whether a growth runs, and how much of it is done.
+/// Whether a growth runs, and how much of it is done.
 fn state(growth: Option<&Growth>) -> String {
-    match growth {
-        Some(growth) if growth.running => {
-            let done = growth.calls_total.saturating_sub(growth.calls_left);
-            let percent = whole_percent(done, growth.calls_total);
-            let (number, from, to) = (growth.number, growth.from, growth.to);
-            format!("Growth {number} runs, from {from} to {to} disks: {percent}\u{a0}% done")
-        }
-        _ => "No growth runs".into(),
-    }
+    let Some(growth) = growth.filter(|growth| growth.running) else {
+        return "<p class=\"state\">No growth runs</p>\n".into();
+    };
+    let done = growth.calls_total.saturating_sub(growth.calls_left);
+    let percent = whole_percent(done, growth.calls_total);
+    let (number, from, to) = (growth.number, growth.from, growth.to);
+    format!("<p class=\"state runs\">Growth {number} runs, from {from} to {to} disks: {percent}\u{a0}% done</p>\n")
 }
 
 fn numbers(facts: &Facts) -> String {

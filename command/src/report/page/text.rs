@@ -1,5 +1,7 @@
 //! Numbers and names as text for the page.
 
+pub use crate::numbers::commas;
+
 /// The text with all that HTML or XML would read as markup escaped. A character that XML does not allow becomes U+FFFD,
 /// and a line feed, carriage return or tab becomes a space.
 pub fn escape(text: &str) -> String {
@@ -15,19 +17,6 @@ pub fn escape(text: &str) -> String {
             c if c.is_control() || matches!(c, '\u{fffe}' | '\u{ffff}') => out.push('\u{fffd}'),
             c => out.push(c),
         }
-    }
-    out
-}
-
-/// The number with commas between thousands: 1,234,567.
-pub fn commas(n: u64) -> String {
-    let digits = n.to_string();
-    let mut out = String::with_capacity(digits.len() + digits.len() / 3);
-    for (i, digit) in digits.chars().enumerate() {
-        if i > 0 && (digits.len() - i).is_multiple_of(3) {
-            out.push(',');
-        }
-        out.push(digit);
     }
     out
 }
@@ -89,13 +78,7 @@ mod tests {
     #[test]
     fn thousands_have_commas() {
         let shown = [0, 999, 1_000, 16_000_000, u64::MAX].map(commas);
-        let expected = [
-            "0",
-            "999",
-            "1,000",
-            "16,000,000",
-            "18,446,744,073,709,551,615",
-        ];
+        let expected = ["0", "999", "1,000", "16,000,000", "18,446,744,073,709,551,615"];
         assert_eq!(shown, expected);
         assert_eq!(tenths(1234.56), "1,234.6");
         assert_eq!(count(1, "block", "blocks"), "1 block");
@@ -117,9 +100,6 @@ mod tests {
     #[test]
     fn bytes_are_in_decimal_units() {
         let shown = [1, 512, 18_432, 1_048_576_000_000].map(bytes);
-        assert_eq!(
-            shown,
-            ["1 byte", "512 bytes", "18.4\u{a0}kB", "1.0\u{a0}TB"]
-        );
+        assert_eq!(shown, ["1 byte", "512 bytes", "18.4\u{a0}kB", "1.0\u{a0}TB"]);
     }
 }
