@@ -5,6 +5,8 @@ mod blocks;
 mod chart;
 mod check;
 mod create;
+#[cfg(test)]
+mod documented;
 mod failure;
 mod files;
 mod grow;

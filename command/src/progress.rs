@@ -9,7 +9,7 @@ use crate::args::General;
 use crate::numbers::commas;
 
 const BETWEEN_DRAWS: Duration = Duration::from_millis(50);
-const BETWEEN_LINES: Duration = Duration::from_secs(2);
+const BETWEEN_LINES: Duration = Duration::from_secs(1);
 
 /// How far some work on blocks is.
 pub struct Progress {

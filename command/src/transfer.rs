@@ -3,6 +3,8 @@
 use std::fs::File;
 use std::io::{self, Read, Write};
 use std::path::Path;
+use std::sync::mpsc::{sync_channel, Receiver, SyncSender};
+use std::thread;
 use std::time::Instant;
 
 use anyhow::Context;
@@ -19,7 +21,13 @@ use crate::progress::Progress;
 use crate::tell::{tell, Answer};
 
 /// Bytes read from a file at a time, or the most whole blocks below it.
-const BUFFER_BYTES: u64 = 4 << 20;
+const PART_BYTES: u64 = 1 << 20;
+
+/// Parts that are read ahead of the saves.
+const PARTS_AHEAD: usize = 4;
+
+/// Bytes saved between two wishes to begin a flush.
+const BYTES_BETWEEN_FLUSHES: u64 = 64 << 20;
 
 #[derive(Serialize)]
 struct Transferred {
@@ -52,18 +60,18 @@ impl Answer for Transferred {
 }
 
 pub fn import(arguments: &args::Import, options: &Options, general: &General) -> anyhow::Result<()> {
-    let (mut file, bytes) = open_to_look(&arguments.file)?;
+    let (file, bytes) = open_to_look(&arguments.file)?;
     let mut volume = Volume::open(&arguments.volume, options)?;
     let start = Instant::now();
     let size = volume.state().size();
     let blocks = bytes.div_ceil(size);
     fits(&volume, arguments.first, blocks)?;
     let mut progress = Progress::new(general, "saved", blocks, size);
-    let saved = save_all(&mut volume, &mut file, arguments, blocks, &mut progress);
+    let saved = save_all(&mut volume, file, arguments.first, blocks, &mut progress);
     // What was stored before an error is kept too.
     volume.flush()?;
     progress.end();
-    let saved = saved?;
+    let saved = saved.with_context(|| format!("cannot import {}", arguments.file.display()))?;
     let told = Transferred {
         done: "saved",
         volume: arguments.volume.display().to_string(),
@@ -89,30 +97,56 @@ fn fits(volume: &Volume, first: u64, blocks: u64) -> Result<(), Error> {
     Err(Error::Refused { refusal: Refusal::BlockNotOpen, detail })
 }
 
-/// Saves the file's blocks and gives their number; fewer where the process is asked to end.
+/// Saves the file's blocks and gives their number; fewer where the process is asked to end. The file is read by a thread of its
+/// own, some parts ahead of the saves.
 fn save_all(
     volume: &mut Volume,
-    file: &mut File,
-    arguments: &args::Import,
+    file: File,
+    first: u64,
     blocks: u64,
     progress: &mut Progress,
 ) -> anyhow::Result<u64> {
     let size = volume.state().size();
-    let at_a_time = BUFFER_BYTES / size;
-    let mut buffer = vec![0; (at_a_time * size) as usize];
-    let mut saved = 0;
+    let (full, parts) = sync_channel(PARTS_AHEAD);
+    let (used, empty) = sync_channel(PARTS_AHEAD);
+    (0..PARTS_AHEAD).for_each(|_| used.send(vec![]).expect("the channel has room"));
+    thread::spawn(move || read_parts(file, blocks * size, size, &empty, &full));
+    let (mut saved, mut next_flush) = (0, BYTES_BETWEEN_FLUSHES);
     while saved < blocks && !interrupt::requested() {
-        let next = at_a_time.min(blocks - saved);
-        let part = &mut buffer[..(next * size) as usize];
-        fill(file, part, saved + next == blocks).with_context(|| format!("cannot read {}", arguments.file.display()))?;
-        for (piece, block) in part.chunks_exact(size as usize).zip(arguments.first + saved..) {
+        let part: Vec<u8> = parts.recv().expect("parts come until all are read")?;
+        for (piece, block) in part.chunks_exact(size as usize).zip(first + saved..) {
             volume.write(Block(block), piece)?;
         }
-        saved += next;
-        progress.add(next);
-        if std::env::var_os("BF").is_some() { volume.begin_flush(); }
+        saved += part.len() as u64 / size;
+        progress.add(part.len() as u64 / size);
+        // Nobody takes it once all is read.
+        drop(used.send(part));
+        if saved * size >= next_flush {
+            volume.begin_flush();
+            next_flush += BYTES_BETWEEN_FLUSHES;
+        }
     }
     Ok(saved)
+}
+
+/// Reads so many bytes of the file part by part, each into a vector that was used before, until nobody wants more.
+fn read_parts(
+    mut file: File,
+    bytes: u64,
+    size: u64,
+    empty: &Receiver<Vec<u8>>,
+    full: &SyncSender<io::Result<Vec<u8>>>,
+) {
+    let most = PART_BYTES / size * size;
+    let mut left = bytes;
+    while let (1.., Ok(mut part)) = (left, empty.recv()) {
+        part.resize(left.min(most) as usize, 0);
+        left -= part.len() as u64;
+        let read = fill(&mut file, &mut part, left == 0).map(|()| part);
+        if full.send(read).is_err() {
+            return;
+        }
+    }
 }
 
 /// Fills the bytes from the file; in the last part what the file does not have is zeros.

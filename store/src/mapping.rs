@@ -13,9 +13,8 @@ use std::slice;
 /// Bytes of a page, the unit in which files are mapped.
 pub const PAGE: usize = 4096;
 
-/// Bytes of a large page. Where addresses and a file's bytes are the same multiple of it apart, the kernel maps so many bytes at
-/// once; elsewhere each page has a cost of its own, which grows with the large pages that it reads ahead.
-const LARGE_PAGE: usize = 2 << 20;
+/// Bytes of a large page. Where addresses and a file's bytes are a multiple of it apart, the kernel can map so many at once.
+pub const LARGE_PAGE: usize = 2 << 20;
 
 /// A range of addresses with a front and files behind it.
 pub struct Mapping {
@@ -85,11 +84,6 @@ impl Mapping {
             return Err(io::Error::last_os_error());
         }
         self.used = at + bytes;
-        if !(self.start as usize + at).wrapping_sub(offset as usize).is_multiple_of(LARGE_PAGE) {
-            // SAFETY: the pages are mapped, and their bytes stay as they are. It only keeps the pages that are read
-            // ahead small, and so the cost of a store.
-            unsafe { libc::madvise(self.start.add(at).cast(), bytes, libc::MADV_SEQUENTIAL) };
-        }
         Ok(())
     }
 
@@ -135,6 +129,14 @@ pub fn allocate(file: &File, from: u64, bytes: u64) -> io::Result<()> {
         Err(error) if error.raw_os_error() == Some(libc::EOPNOTSUPP) => Ok(()),
         told => told,
     }
+}
+
+/// Asks the kernel to have these bytes of the file in memory, in pages of the smallest size. Where large pages cannot be mapped
+/// as such, the first store to each small page inside one costs many times as much.
+pub fn expect_stores(file: &File, from: u64, bytes: u64) {
+    let (from, bytes) = (from as libc::off_t, bytes as libc::off_t);
+    // SAFETY: a call on numbers alone. It is a wish: the bytes stay as they are.
+    unsafe { libc::posix_fadvise(file.as_raw_fd(), from, bytes, libc::POSIX_FADV_WILLNEED) };
 }
 
 /// Asks the kernel to begin writing what is stored in the file to its drive, and does not wait for it.

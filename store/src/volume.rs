@@ -1,4 +1,5 @@
 use std::fs;
+use std::ops::Range;
 use std::path::Path;
 use std::sync::Arc;
 use std::time::Duration;
@@ -120,9 +121,11 @@ impl Volume {
 
     /// Stores the piece as the block. It is kept from the next [`Volume::flush`] on.
     pub fn write(&mut self, block: Block, piece: &[u8]) -> Result<(), Error> {
+        if let Ok(address) = self.state.address(block) {
+            self.expect_stores(address.spot.disk, address.spot.row.0, 1);
+        }
         self.store(|state, medium| state.write(medium, block, piece))?;
-        let spot = self.state.address(block)?.spot;
-        self.stored_to |= 1 << spot.disk;
+        self.stored_to |= 1 << self.state.address(block)?.spot.disk;
         Ok(())
     }
 
@@ -143,10 +146,14 @@ impl Volume {
 
     /// Takes the growth one step. A copy is lost at the end of the process if no checkpoint records it.
     pub fn advance(&mut self) -> Result<Advanced, Error> {
+        if self.state.copied() == 0 {
+            let rows = self.state.disks();
+            self.added_disks().for_each(|disk| self.expect_stores(disk, self.state.window() * rows, rows));
+        }
         let advanced = self.store(|state, medium| state.advance(medium))?;
         self.calls_left = advanced.calls_left;
         if let Step::Copied { .. } = advanced.step {
-            self.stored_to |= self.added_disks();
+            self.stored_to_added_disks();
         }
         Ok(advanced)
     }
@@ -154,7 +161,7 @@ impl Volume {
     /// Copies one block of the window under way, and tells the advance calls left.
     pub fn copy(&mut self, block: Block) -> Result<u64, Error> {
         self.calls_left = self.store(|state, medium| state.copy(medium, block))?;
-        self.stored_to |= self.added_disks();
+        self.stored_to_added_disks();
         Ok(self.calls_left)
     }
 
@@ -232,10 +239,25 @@ impl Volume {
     }
 
     /// The disks that the newest growth adds; copies go to them alone.
-    fn added_disks(&self) -> u64 {
+    fn added_disks(&self) -> Range<u64> {
         let newest = self.state.growths() as usize;
         let old = newest.checked_sub(1).map_or(0, |before| self.state.counts()[before]);
-        (old..self.state.disks()).fold(0, |all, disk| all | 1 << disk)
+        old..self.state.disks()
+    }
+
+    fn stored_to_added_disks(&mut self) {
+        self.stored_to = self.added_disks().fold(self.stored_to, |all, disk| all | 1 << disk);
+    }
+
+    /// Prepares stores to these rows of a disk, where its file cannot be mapped in large pages. It only saves time.
+    fn expect_stores(&self, disk: u64, row: u64, rows: u64) {
+        let from_first_disk = disk * disk_bytes(&self.state);
+        if let Some(opened) = self.files.disks.get(disk as usize) {
+            if !from_first_disk.is_multiple_of(mapping::LARGE_PAGE as u64) {
+                let size = self.state.size();
+                mapping::expect_stores(&opened.file, row * size, rows * size);
+            }
+        }
     }
 
     fn make_room_in_image(&mut self, count: u64, lengthen: bool) -> Result<(), Error> {

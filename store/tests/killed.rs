@@ -1,7 +1,8 @@
 //! Processes that are killed in the middle of their work, again and again on one volume that goes on growing.
 //!
-//! This program runs itself as a child, which opens the volume, saves, grows and flushes until it is killed, and says what it
-//! does line by line. Each line is written before the child goes on, so that this one knows what has to be kept.
+//! This program runs itself as a child, which opens the volume, saves, grows and flushes until it is killed, and says
+//! what it does line by line. Each line is written before the child goes on, so that this one knows what has to be
+//! kept.
 
 mod common;
 
@@ -26,6 +27,7 @@ const VOLUME: &str = "STRETERVA_TEST_VOLUME";
 const SEED: &str = "STRETERVA_TEST_SEED";
 
 const SIZE: u64 = 512;
+const ROWS: u64 = 512;
 
 /// At least so many kills, on a volume that has begun at least so many growths in the end.
 const KILLS: u64 = 40;
@@ -36,13 +38,16 @@ const SIGKILL: i32 = 9;
 
 /// What a child says before it opens the volume.
 const OPENING: &str = "opening";
-/// A child is killed after fewer lines than this, so that a fast machine does not run through all growths in a few lives.
-const MOST_LINES: u64 = 600;
+/// The most advance calls of a child. Seven growths take at least seven times as many as there are rows, so that no
+/// machine is too fast.
+const MOST_ADVANCES: u64 = 125;
+/// A child is killed after about so many lines at most, while it has advance calls left more often than not.
+const MOST_LINES: u64 = 300;
 /// The end of a child that is not killed.
 const CHILD_ENDS: Duration = Duration::from_secs(20);
 
-/// Drives that do nothing. A killed process leaves all that it stored in the files, so that nothing is lost by it, and the
-/// kill falls into a store rather than into a flush.
+/// Drives that do nothing. A killed process leaves all that it stored in the files, so that nothing is lost by it, and
+/// the kill falls into a store rather than into a flush.
 struct NoDrives;
 
 impl Drives for NoDrives {
@@ -57,10 +62,7 @@ fn child() {
     let Some(path) = env::var_os(VOLUME) else {
         return;
     };
-    let seed = env::var(SEED)
-        .expect("a seed is given")
-        .parse()
-        .expect("the seed is a number");
+    let seed = env::var(SEED).expect("a seed is given").parse().expect("the seed is a number");
     // The runner of the tests has begun a line.
     say("");
     say(OPENING);
@@ -69,26 +71,18 @@ fn child() {
         options.drives = Arc::new(NoDrives);
     }
     let volume = Volume::open(Path::new(&path), &options).expect("the volume opens");
-    let (random, saves, version) = (Random::new(seed), Saves::default(), seed << 32);
-    let mut child = Child {
-        volume,
-        random,
-        saves,
-        version,
-    };
+    let mut child =
+        Child { volume, random: Random::new(seed), saves: Saves::default(), version: seed << 32, advances: 0 };
     let start = Instant::now();
     while start.elapsed() < CHILD_ENDS {
         child.step().expect("the call is accepted");
     }
 }
 
-/// Says a line to the parent. Without one the child ends.
+/// Says a line to the parent. Where nobody hears it, the child ends.
 fn say(line: &str) {
     let mut parent = io::stdout().lock();
-    if writeln!(parent, "{line}")
-        .and_then(|()| parent.flush())
-        .is_err()
-    {
+    if writeln!(parent, "{line}").and_then(|()| parent.flush()).is_err() {
         process::exit(1);
     }
 }
@@ -98,6 +92,7 @@ struct Child {
     random: Random,
     saves: Saves,
     version: u64,
+    advances: u64,
 }
 
 impl Child {
@@ -107,17 +102,18 @@ impl Child {
             0 => self.flush(),
             1..=5 => self.save(),
             6 => self.read(),
-            _ if growing => self.volume.advance().map(drop),
-            7 => self.grow(),
+            _ if growing && self.advances < MOST_ADVANCES => {
+                self.advances += 1;
+                self.volume.advance().map(drop)
+            }
+            7 if !growing => self.grow(),
             _ => self.save(),
         }
     }
 
     fn flush(&mut self) -> Result<(), Error> {
         self.volume.flush()?;
-        self.saves
-            .pending()
-            .for_each(|(block, version)| say(&format!("saved {block} {version}")));
+        self.saves.pending().for_each(|(block, version)| say(&format!("saved {block} {version}")));
         self.saves.flushed();
         Ok(())
     }
@@ -129,10 +125,7 @@ impl Child {
         self.saves.writing(block, self.version);
         let piece = piece(SIZE, block, self.version);
         match self.volume.write(Block(block), &piece) {
-            Err(Error::Refused {
-                refusal: Refusal::CopyNotRecorded,
-                ..
-            }) => {
+            Err(Error::Refused { refusal: Refusal::CopyNotRecorded, .. }) => {
                 self.volume.checkpoint()?;
                 self.volume.write(Block(block), &piece)
             }
@@ -142,9 +135,7 @@ impl Child {
 
     fn read(&mut self) -> Result<(), Error> {
         let block = self.random.below(self.volume.open_blocks());
-        self.saves
-            .check_newest(&self.volume, block)
-            .map_err(Error::Declined)
+        self.saves.check_newest(&self.volume, block).map_err(Error::Declined)
     }
 
     /// Begins the next growth, if there may be one.
@@ -173,11 +164,7 @@ struct Victim {
 impl fmt::Display for Victim {
     fn fmt(&self, f: &mut fmt::Formatter<'_>) -> fmt::Result {
         let (kills, growing, growths) = (self.kills, self.kills_while_growing, self.growths);
-        write!(
-            f,
-            "{kills} kills, {growing} while growing; {growths} growths, {} saves",
-            self.saved
-        )
+        write!(f, "{kills} kills, {growing} while growing; {growths} growths, {} saves", self.saved)
     }
 }
 
@@ -208,18 +195,13 @@ impl Victim {
         let said = child.stdout.take().expect("it is a pipe");
         let enough = 2 + self.random.below(MOST_LINES) as usize;
         let listener = thread::spawn(move || listen(said, enough, &tell));
-        told.recv_timeout(CHILD_ENDS)
-            .expect("the child says something");
+        told.recv_timeout(CHILD_ENDS).expect("the child says something");
         // Enough lines come first, or the end of the time.
         let time = Duration::from_micros(self.random.below(60_000));
         let _ = told.recv_timeout(time);
         child.kill().expect("the child is there");
         let ended = child.wait().expect("the child has ended");
-        assert_eq!(
-            ended.signal(),
-            Some(SIGKILL),
-            "the child ended by itself: {ended}"
-        );
+        assert_eq!(ended.signal(), Some(SIGKILL), "the child ended by itself: {ended}");
         self.kills += 1;
         let lines = listener.join().expect("all is heard");
         lines.iter().for_each(|line| self.hear(line));
@@ -265,9 +247,7 @@ fn listen(said: ChildStdout, enough: usize, tell: &Sender<()>) -> Vec<String> {
     let mut lines: Vec<String> = vec![];
     loop {
         let mut line = vec![];
-        let heard = said
-            .read_until(b'\n', &mut line)
-            .expect("the pipe can be read");
+        let heard = said.read_until(b'\n', &mut line).expect("the pipe can be read");
         // What the child did not say to the end it did not go on from.
         if heard == 0 || line.pop() != Some(b'\n') {
             return lines;
@@ -282,10 +262,10 @@ fn listen(said: ChildStdout, enough: usize, tell: &Sender<()>) -> Vec<String> {
     }
 }
 
-fn kill_again_and_again(form: Form, rows: u64) {
+fn kill_again_and_again(form: Form) {
     let folder = tempfile::tempdir().expect("a folder can be made");
     let path = folder.path().join("volume");
-    let created = Volume::create(&path, &plan(form, SIZE, rows, 1), &Options::default());
+    let created = Volume::create(&path, &plan(form, SIZE, ROWS, 1), &Options::default());
     drop(created.expect("nothing is there"));
     let mut victim = Victim::at(path);
     while victim.kills < KILLS || victim.growths < GROWTHS && victim.kills < MOST_KILLS {
@@ -293,14 +273,8 @@ fn kill_again_and_again(form: Form, rows: u64) {
         victim.look();
     }
     println!("{form:?}: {victim}");
-    assert!(
-        victim.kills >= KILLS && victim.growths >= GROWTHS,
-        "{victim}"
-    );
-    assert!(
-        victim.kills_while_growing >= 10 && victim.saved >= 500,
-        "{victim}"
-    );
+    assert!(victim.kills >= KILLS && victim.growths >= GROWTHS, "{victim}");
+    assert!(victim.kills_while_growing >= 10 && victim.saved >= 200, "{victim}");
 
     let mut volume = Volume::open(&victim.path, &Options::default()).expect("the volume opens");
     all_is_kept(&mut volume, &victim.saves).unwrap();
@@ -308,11 +282,10 @@ fn kill_again_and_again(form: Form, rows: u64) {
 
 #[test]
 fn killed_on_an_image() {
-    kill_again_and_again(Form::Image, 1024);
+    kill_again_and_again(Form::Image);
 }
 
-/// With fewer rows: the flushes of several files take longer.
 #[test]
 fn killed_on_a_folder() {
-    kill_again_and_again(Form::Folder, 256);
+    kill_again_and_again(Form::Folder);
 }

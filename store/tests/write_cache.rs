@@ -1,8 +1,8 @@
 //! Power cuts and killed processes on drives with a write cache, played through on files.
 //!
-//! A file shows what was stored in it, through a mapping or by a write; the drives of this test know which bytes of it are
-//! down. A power cut leaves of each page or sector that is not down the old bytes or the new ones. A killed process leaves the
-//! files as they are, and the drives as well.
+//! A file shows what was stored in it, through a mapping or by a write; the drives of this test know which bytes of it
+//! are down. A power cut leaves of each page or sector that is not down the old bytes or the new ones. A killed process
+//! leaves the files as they are, and the drives as well.
 
 mod common;
 
@@ -13,12 +13,10 @@ use std::mem;
 use std::path::{Path, PathBuf};
 use std::sync::{Arc, Mutex, MutexGuard};
 
-use common::{
-    all_is_kept, contents, piece, plan, put_contents, quick_folder, Checked, Random, Saves, FORMS,
-};
+use common::{all_is_kept, contents, piece, plan, put_contents, quick_folder, Checked, Random, Saves, FORMS};
 use streterva::{Block, Refusal};
 use streterva_store::record::{sector_of, Sector};
-use streterva_store::{open_blocks, Drives, Error, Form, Options, Plan, Volume, PAGE};
+use streterva_store::{open_blocks, Drives, Error, Form, Options, Volume, PAGE};
 use tempfile::TempDir;
 
 /// What happens in the flushes of one call.
@@ -41,8 +39,8 @@ struct CachedDrives {
 struct Cache {
     /// The folder in which the volume is.
     home: PathBuf,
-    /// The bytes of each file that are down. Of a file that was never flushed these are zeros: its length is made to last by
-    /// the store layer itself.
+    /// The bytes of each file that are down. Of a file that was never flushed these are zeros: its length is made to
+    /// last by the store layer itself.
     down: BTreeMap<PathBuf, Vec<u8>>,
     mischief: Mischief,
     /// How many files are flushed before it.
@@ -90,10 +88,7 @@ impl Drives for CachedDrives {
             }
             Mischief::None => {}
         }
-        let name = path
-            .strip_prefix(&cache.home)
-            .expect("a file of the volume")
-            .to_path_buf();
+        let name = path.strip_prefix(&cache.home).expect("a file of the volume").to_path_buf();
         cache.down.insert(name, fs::read(path)?);
         Ok(())
     }
@@ -137,9 +132,7 @@ impl Cache {
 
     /// Whether the file with the record shows only bytes in its first page that are down.
     fn front_is_down(&self, record: &Path) -> bool {
-        let name = record
-            .strip_prefix(&self.home)
-            .expect("a file of the volume");
+        let name = record.strip_prefix(&self.home).expect("a file of the volume");
         let shown = fs::read(record).expect("the file can be read");
         let front = shown.len().min(PAGE);
         shown[..front] == self.down(name, shown.len())[..front]
@@ -158,19 +151,12 @@ const fn shape(size: u64, rows: u64, counts: &'static [u64]) -> Shape {
     Shape { size, rows, counts }
 }
 
-const SHAPES: [Shape; 4] = [
-    shape(512, 24, &[3, 5, 6]),
-    shape(4096, 9, &[2, 4]),
-    shape(1024, 20, &[1, 2, 4, 7]),
-    shape(8192, 6, &[3, 4, 5]),
-];
+const SHAPES: [Shape; 4] =
+    [shape(512, 24, &[3, 5, 6]), shape(4096, 9, &[2, 4]), shape(1024, 20, &[1, 2, 4, 7]), shape(8192, 6, &[3, 4, 5])];
 
 /// Shapes whose disks do not fill pages, for images alone; the first one begins shorter than a page.
-const ODD_SHAPES: [Shape; 3] = [
-    shape(512, 2, &[1, 2, 3, 5, 9]),
-    shape(512, 13, &[3, 5, 6]),
-    shape(1536, 7, &[2, 4, 5]),
-];
+const ODD_SHAPES: [Shape; 3] =
+    [shape(512, 2, &[1, 2, 3, 5, 9]), shape(512, 13, &[3, 5, 6]), shape(1536, 7, &[2, 4, 5])];
 
 #[derive(Clone, Copy, Debug)]
 enum Call {
@@ -200,6 +186,8 @@ struct Run<'a> {
     random: Random,
     shape: Shape,
     leave_out: bool,
+    /// Whether the growths go by copies and checkpoints instead of advance calls.
+    own_order: bool,
     home: TempDir,
     drives: Arc<CachedDrives>,
     /// None only between the end of one process and the opening by the next.
@@ -220,33 +208,24 @@ impl Run<'_> {
             Form::Image => random.choose(&[&SHAPES[..], &ODD_SHAPES].concat()),
             Form::Folder => random.choose(&SHAPES),
         };
-        let first = plan(form, shape.size, shape.rows, shape.counts[0]);
-        let plan = Plan {
-            room: random.choose(shape.counts),
-            ..first
-        };
+        let mut plan = plan(form, shape.size, shape.rows, shape.counts[0]);
+        plan.room = random.choose(&[plan.room, shape.counts[1]]);
         let home = quick_folder();
         let drives = CachedDrives::of(home.path(), random.another());
-        let options = Options {
-            drives: drives.clone(),
-            ..Options::default()
-        };
-        let volume =
-            Volume::create(&home.path().join("volume"), &plan, &options).expect("nothing is there");
-        let record = sector_of(volume.state());
-        let volume = Some(volume);
-        let (saves, version, due) = (Saves::default(), 0, vec![]);
+        let path = home.path().join("volume");
+        let volume = Volume::create(&path, &plan, &on(&drives)).expect("nothing is there");
         Run {
-            random,
             shape,
             leave_out,
+            own_order: random.one_in(3),
+            random,
             home,
             drives,
-            volume,
-            saves,
-            record,
-            version,
-            due,
+            record: sector_of(volume.state()),
+            volume: Some(volume),
+            saves: Saves::default(),
+            version: 0,
+            due: vec![],
             tally,
         }
     }
@@ -278,14 +257,8 @@ impl Run<'_> {
                 self.tally.kills_inside_flushes += 1;
                 return self.go_on(None, &[self.record, before]);
             }
-            Err(Error::Refused {
-                refusal: Refusal::CopyNotRecorded,
-                ..
-            }) => self.due = vec![call, Call::Checkpoint],
-            Err(Error::Refused {
-                refusal: Refusal::NotMoving | Refusal::AlreadyCopied | Refusal::NothingToRecord,
-                ..
-            }) => {}
+            Err(Error::Refused { refusal: Refusal::CopyNotRecorded, .. }) => self.due = vec![call, Call::Checkpoint],
+            Err(Error::Refused { refusal: Refusal::NothingToRecord, .. }) => {}
             Err(error) => return Err(format!("{call:?}: {error}")),
         }
         self.end_between_calls()
@@ -310,7 +283,8 @@ impl Run<'_> {
             (9, _, _) => Call::Read(block),
             (10, _, _) => Call::BeginFlush,
             (11..=12, true, _) => Call::Copy(block),
-            (13, true, _) => Call::Checkpoint,
+            (13..=14, true, _) => Call::Checkpoint,
+            (_, true, _) if self.own_order => Call::Copy(block),
             (_, true, _) => Call::Advance,
             (11..=12, false, Some(&count)) => Call::Grow(count),
             _ => Call::Save(block),
@@ -325,10 +299,13 @@ impl Run<'_> {
             Call::Save(block) => volume.write(Block(block), &piece(size, block, version)),
             Call::Read(_) => Ok(()),
             Call::Flush => volume.flush(),
-            Call::BeginFlush => Ok(volume.begin_flush()),
+            Call::BeginFlush => {
+                volume.begin_flush();
+                Ok(())
+            }
             Call::Grow(count) => volume.grow(count, true, true).map(drop),
             Call::Advance => volume.advance().map(drop),
-            Call::Copy(block) => volume.copy(Block(block)).map(drop),
+            Call::Copy(block) => copy_from(volume, block),
             Call::Checkpoint => volume.checkpoint().map(drop),
         }
     }
@@ -391,7 +368,8 @@ impl Run<'_> {
         Ok(true)
     }
 
-    /// Whether the volume opens on the machine's own drives with all that was saved, now and after its growth is completed.
+    /// Whether the volume opens on the machine's own drives with all that was saved, now and after its growth is
+    /// completed.
     fn look_at(&mut self, left: &Path, allowed: &[Sector]) -> Checked {
         let mut volume = opened(left, &Options::default(), allowed)?;
         self.tally.cuts_while_growing += u64::from(volume.state().is_growing());
@@ -399,7 +377,8 @@ impl Run<'_> {
         all_is_kept(&mut volume, &self.saves)
     }
 
-    /// The process ends and the next one opens the volume: after a power cut what it left, or else the files as they are.
+    /// The process ends and the next one opens the volume: after a power cut what it left, or else the files as they
+    /// are.
     fn go_on(&mut self, left: Option<TempDir>, allowed: &[Sector]) -> Checked {
         self.volume = None;
         if let Some(left) = left {
@@ -407,11 +386,7 @@ impl Run<'_> {
             self.home = left;
         }
         self.drives.prepare(Mischief::None, 0);
-        let options = Options {
-            drives: self.drives.clone(),
-            ..Options::default()
-        };
-        let volume = opened(self.home.path(), &options, allowed)?;
+        let volume = opened(self.home.path(), &on(&self.drives), allowed)?;
         self.saves.cut();
         self.saves.check(&volume)?;
         self.due.clear();
@@ -421,6 +396,22 @@ impl Run<'_> {
     }
 }
 
+/// How a volume is opened on these drives.
+fn on(drives: &Arc<CachedDrives>) -> Options {
+    Options { drives: drives.clone(), ..Options::default() }
+}
+
+/// Copies the first block from this one on that can be copied now, if there is one.
+fn copy_from(volume: &mut Volume, first: u64) -> Result<(), Error> {
+    for block in first..volume.open_blocks() {
+        match volume.copy(Block(block)) {
+            Err(Error::Refused { refusal: Refusal::NotMoving | Refusal::AlreadyCopied, .. }) => {}
+            told => return told.map(drop),
+        }
+    }
+    Ok(())
+}
+
 /// Opens the volume in this folder, which has one of these records.
 fn opened(folder: &Path, options: &Options, allowed: &[Sector]) -> Result<Volume, String> {
     let volume = Volume::open(&folder.join("volume"), options);
@@ -428,10 +419,7 @@ fn opened(folder: &Path, options: &Options, allowed: &[Sector]) -> Result<Volume
     if allowed.contains(&sector_of(volume.state())) {
         return Ok(volume);
     }
-    Err(format!(
-        "the record is neither the one that was down nor a later one: {:?}",
-        volume.state()
-    ))
+    Err(format!("the record is neither the one that was down nor a later one: {:?}", volume.state()))
 }
 
 /// Calls, power cuts and kills with this seed, until something is lost.
@@ -448,22 +436,12 @@ const STEPS: u64 = 200;
 fn nothing_is_lost(form: Form) {
     let mut tally = Tally::default();
     for seed in 0..28 {
-        run(form, seed, false, &mut tally)
-            .unwrap_or_else(|loss| panic!("{form:?}, seed {seed}: {loss}"));
+        run(form, seed, false, &mut tally).unwrap_or_else(|loss| panic!("{form:?}, seed {seed}: {loss}"));
     }
     println!("{form:?}: {tally:?}");
-    assert!(
-        tally.cuts_between_calls >= 200 && tally.cuts_inside_flushes >= 100,
-        "{tally:?}"
-    );
-    assert!(
-        tally.cuts_while_growing >= 150 && tally.saves_checked >= 3000,
-        "{tally:?}"
-    );
-    assert!(
-        tally.kills_between_calls >= 20 && tally.kills_inside_flushes >= 20,
-        "{tally:?}"
-    );
+    assert!(tally.cuts_between_calls >= 200 && tally.cuts_inside_flushes >= 100, "{tally:?}");
+    assert!(tally.cuts_while_growing >= 150 && tally.saves_checked >= 3000, "{tally:?}");
+    assert!(tally.kills_between_calls >= 20 && tally.kills_inside_flushes >= 20, "{tally:?}");
 }
 
 #[test]
@@ -482,20 +460,9 @@ fn flushes_that_are_left_out_lose_saves() {
     for form in FORMS {
         let tally = &mut Tally::default();
         let (seeds, leave_out) = (0..8, true);
-        let losses: Vec<String> = seeds
-            .clone()
-            .filter_map(|seed| run(form, seed, leave_out, tally).err())
-            .collect();
+        let losses: Vec<String> = seeds.clone().filter_map(|seed| run(form, seed, leave_out, tally).err()).collect();
         println!("{form:?}: {losses:#?}");
-        assert!(
-            losses.iter().any(|loss| loss.contains("is lost")),
-            "{form:?}: {losses:?}"
-        );
-        assert_eq!(
-            seeds
-                .filter_map(|seed| run(form, seed, false, tally).err())
-                .next(),
-            None
-        );
+        assert!(losses.iter().any(|loss| loss.contains("is lost")), "{form:?}: {losses:?}");
+        assert_eq!(seeds.filter_map(|seed| run(form, seed, false, tally).err()).next(), None);
     }
 }

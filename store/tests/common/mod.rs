@@ -1,5 +1,5 @@
-//! What the tests of the store layer share: numbers that look random, pieces that can be told from each other, what has been
-//! saved, and what has to hold of every volume that opens.
+//! What the tests of the store layer share: numbers that look random, pieces that can be told from each other, what has
+//! been saved, and what has to hold of every volume that opens.
 
 // Each test program uses a part of it.
 #![allow(dead_code)]
@@ -72,14 +72,7 @@ impl Drop for Random {
 /// A plan without room for more disks, which overwrites nothing.
 pub fn plan(form: Form, size: u64, rows: u64, disks: u64) -> Plan {
     let (room, force) = (disks, false);
-    Plan {
-        size,
-        rows,
-        disks,
-        form,
-        room,
-        force,
-    }
+    Plan { size, rows, disks, form, room, force }
 }
 
 /// A folder in memory where the system has one, for tests that the machine's own drives do not matter to.
@@ -88,25 +81,17 @@ pub fn quick_folder() -> TempDir {
     folder.expect("a folder can be made")
 }
 
-/// The files in a folder and the folders in it, by their paths from there, with their bytes. What is no file, as a pipe, has
-/// none.
+/// The files in a folder and the folders in it, by their paths from there, with their bytes. What is no file, as a
+/// pipe, has none.
 pub fn contents(folder: &Path) -> BTreeMap<PathBuf, Vec<u8>> {
     let mut all = BTreeMap::new();
     for entry in fs::read_dir(folder).expect("the folder can be read") {
         let path = entry.expect("the folder can be read").path();
         let name = PathBuf::from(path.file_name().expect("an entry has a name"));
         if path.is_dir() {
-            all.extend(
-                contents(&path)
-                    .into_iter()
-                    .map(|(below, bytes)| (name.join(below), bytes)),
-            );
+            all.extend(contents(&path).into_iter().map(|(below, bytes)| (name.join(below), bytes)));
         } else {
-            let bytes = if path.is_file() {
-                fs::read(&path).expect("the file can be read")
-            } else {
-                vec![]
-            };
+            let bytes = if path.is_file() { fs::read(&path).expect("the file can be read") } else { vec![] };
             all.insert(name, bytes);
         }
     }
@@ -117,13 +102,13 @@ pub fn contents(folder: &Path) -> BTreeMap<PathBuf, Vec<u8>> {
 pub fn put_contents(folder: &Path, all: &BTreeMap<PathBuf, Vec<u8>>) {
     for (name, bytes) in all {
         let path = folder.join(name);
-        fs::create_dir_all(path.parent().expect("a file is in a folder"))
-            .expect("a folder can be made");
+        fs::create_dir_all(path.parent().expect("a file is in a folder")).expect("a folder can be made");
         fs::write(path, bytes).expect("a file can be made");
     }
 }
 
-/// The bytes of a piece that name its block, version and place again and again, so that no part can be taken for another.
+/// The bytes of a piece that name its block, version and place again and again, so that no part can be taken for
+/// another.
 const NAME_BYTES: u64 = 16;
 
 /// What is saved as this version of this block.
@@ -133,7 +118,7 @@ pub fn piece(size: u64, block: u64, version: u64) -> Vec<u8> {
 }
 
 /// What has been saved, as a caller knows it who has seen every answer.
-#[derive(Clone, Default)]
+#[derive(Default)]
 pub struct Saves {
     /// The version of each block whose last save was followed by a flush.
     kept: BTreeMap<u64, u64>,
@@ -168,9 +153,7 @@ impl Saves {
 
     /// The saves since the last flush.
     pub fn pending(&self) -> impl Iterator<Item = (u64, u64)> + '_ {
-        self.pending
-            .iter()
-            .map(|(&block, &version)| (block, version))
+        self.pending.iter().map(|(&block, &version)| (block, version))
     }
 
     /// The number of blocks that have to be kept.
@@ -180,9 +163,7 @@ impl Saves {
 
     /// Whether every block that has to be kept is read.
     pub fn check(&self, volume: &Volume) -> Checked {
-        self.kept
-            .iter()
-            .try_for_each(|(&block, &version)| reads(volume, block, version))
+        self.kept.iter().try_for_each(|(&block, &version)| reads(volume, block, version))
     }
 
     /// Whether the block is read as it was saved last, by the process that saved it.
@@ -196,64 +177,40 @@ impl Saves {
 pub fn reads(volume: &Volume, block: u64, version: u64) -> Checked {
     let size = volume.state().size();
     let mut read = vec![0; size as usize];
-    volume
-        .read(Block(block), &mut read)
-        .map_err(|error| format!("block {block} is not read: {error}"))?;
+    volume.read(Block(block), &mut read).map_err(|error| format!("block {block} is not read: {error}"))?;
     if read == piece(size, block, version) {
         return Ok(());
     }
-    let word =
-        |from: usize| u64::from_le_bytes(read[from..from + 8].try_into().expect("eight bytes"));
+    let word = |from: usize| u64::from_le_bytes(read[from..from + 8].try_into().expect("eight bytes"));
     let (other, other_version) = (word(0) >> 32, word(8));
-    let spot = volume
-        .state()
-        .address(Block(block))
-        .expect("an open block")
-        .spot;
-    Err(format!(
-        "block {block}, version {version}, is lost: at {spot:?} begins block {other}, version {other_version}"
-    ))
+    let spot = volume.state().address(Block(block)).expect("an open block").spot;
+    Err(format!("block {block}, version {version}, is lost: at {spot:?} begins block {other}, version {other_version}"))
 }
 
 /// Whether the holder of each open block's spot is the block.
 pub fn spots_agree(state: &State) -> Checked {
     (0..open_blocks(state)).map(Block).try_for_each(|block| {
-        let spot = state
-            .address(block)
-            .map_err(|refusal| refusal.to_string())?
-            .spot;
-        let holder = state.holder(spot.disk, spot.row);
-        if holder == Ok(block) {
-            Ok(())
-        } else {
-            Err(format!(
-                "{block:?} is at {spot:?}, whose holder is {holder:?}"
-            ))
+        let spot = state.address(block).map_err(|refusal| refusal.to_string())?.spot;
+        match state.holder(spot.disk, spot.row) {
+            Ok(holder) if holder == block => Ok(()),
+            other => Err(format!("{block:?} is at {spot:?}, whose holder is {other:?}")),
         }
     })
 }
 
-/// Runs a growth that is under way to its end. It takes as many advance calls as are told to be left.
+/// Runs a growth that is under way to its end. The calls left are exact from the first to the last.
 pub fn complete(volume: &mut Volume) -> Checked {
-    let (told, mut taken) = (volume.calls_left(), 0);
+    let mut left = volume.calls_left();
     while volume.state().is_growing() {
-        let advanced = volume
-            .advance()
-            .map_err(|error| format!("advance: {error}"))?;
-        taken += 1;
-        if advanced.calls_left != told.wrapping_sub(taken) {
-            return Err(format!(
-                "{told} calls were left at first, and after {taken} there are {}",
-                advanced.calls_left
-            ));
+        let told = volume.advance().map_err(|error| format!("advance: {error}"))?.calls_left;
+        if told.checked_add(1) != Some(left) {
+            return Err(format!("{left} advance calls were left, and after one there are {told}"));
         }
+        left = told;
     }
-    if taken == told {
-        Ok(())
-    } else {
-        Err(format!(
-            "{told} advance calls were told to be left, and it took {taken}"
-        ))
+    match left {
+        0 => Ok(()),
+        _ => Err(format!("the growth is finished, and {left} advance calls are left")),
     }
 }
 
