@@ -111,6 +111,7 @@ fn save_all(
     let (used, empty) = sync_channel(PARTS_AHEAD);
     (0..PARTS_AHEAD).for_each(|_| used.send(vec![]).expect("the channel has room"));
     thread::spawn(move || read_parts(file, blocks * size, size, &empty, &full));
+    volume.expect_much();
     let (mut saved, mut next_flush) = (0, BYTES_BETWEEN_FLUSHES);
     while saved < blocks && !interrupt::requested() {
         let part: Vec<u8> = parts.recv().expect("parts come until all are read")?;

@@ -32,7 +32,7 @@ pub enum Error {
     NoVolume {
         /// The file that should have it.
         path: PathBuf,
-        /// What is wrong in it.
+        /// What is wrong in it; nothing where the file is missing in its folder.
         fault: Option<Fault>,
     },
     /// Another process has the volume.
@@ -91,7 +91,7 @@ impl fmt::Display for Error {
                 write!(f, "{} has no volume", path.display())?;
                 match fault {
                     Some(fault) => write!(f, ": its record is refused with 13: {fault}"),
-                    None => Ok(()),
+                    None => f.write_str(": it is a folder without a file record"),
                 }
             }
             Error::Locked { path } => write!(f, "{} is in use by another process", path.display()),

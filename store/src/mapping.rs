@@ -87,6 +87,13 @@ impl Mapping {
         Ok(())
     }
 
+    /// Asks the kernel to read and map the files in large pages from now on, where it can: for work that goes through many
+    /// bytes one after the other.
+    pub fn expect_much(&self) {
+        // SAFETY: the range is this value's own, and its bytes stay as they are.
+        unsafe { libc::madvise(self.start.add(PAGE).cast(), self.used.saturating_sub(PAGE), libc::MADV_HUGEPAGE) };
+    }
+
     /// The bytes used.
     pub fn bytes(&self) -> &[u8] {
         // SAFETY: the front and the files behind it are mapped without a gap up to `used`, and stay so as long as this value. A

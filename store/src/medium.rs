@@ -74,6 +74,10 @@ impl Medium {
         Ok(())
     }
 
+    pub fn expect_much(&self) {
+        self.mapping.expect_much();
+    }
+
     pub fn bytes(&self) -> &[u8] {
         &self.mapping.bytes()[self.from..self.end]
     }

@@ -77,8 +77,19 @@ impl Place {
         self.path.join(format!("disk-{disk:02}"))
     }
 
+    /// Fails where the place is a folder without a file for the record.
+    pub(crate) fn has_record(&self) -> Result<(), Error> {
+        let there = self.record_path().symlink_metadata();
+        if self.form == Form::Folder && there.is_err_and(|error| error.kind() == io::ErrorKind::NotFound) {
+            let (path, fault) = (self.path.clone(), None);
+            return Err(Error::NoVolume { path, fault });
+        }
+        Ok(())
+    }
+
     /// The record sector, without a lock: it is read until two reads agree, since another process may be storing it.
     pub fn sector(&self) -> Result<Sector, Error> {
+        self.has_record()?;
         let path = self.record_path();
         let (file, bytes) = open_to_look(&path)?;
         let needed = self.record_byte() + State::RECORD_BYTES as u64;

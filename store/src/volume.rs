@@ -50,6 +50,7 @@ impl Volume {
     /// Opens the volume at this path, which is an image file or a folder.
     pub fn open(path: &Path, options: &Options) -> Result<Volume, Error> {
         let place = Place::at(path)?;
+        place.has_record()?;
         let record = Opened::existing(&place.record_path(), options.wait)?;
         let restarted = trial::restart(&place.sector()?, &record.path)?;
         if let Some(shortcoming) = place.shortcomings(&restarted.state).into_iter().next() {
@@ -210,6 +211,15 @@ impl Volume {
             }
         }
         flush_all(&*self.options.drives, &stored_to)
+    }
+
+    /// Prepares work that goes through many blocks one after the other, where files are mapped in large pages. It only saves
+    /// time.
+    pub fn expect_much(&self) {
+        let disk = disk_bytes(&self.state);
+        if self.files.place.form() == Form::Image || disk.is_multiple_of(mapping::LARGE_PAGE as u64) {
+            self.medium.expect_much();
+        }
     }
 
     /// Asks the kernel to begin writing what is stored, so that a later flush has less to wait for.

@@ -5,7 +5,7 @@
 #![allow(dead_code)]
 
 #[path = "../../../store/tests/common/mod.rs"]
-mod of_the_store;
+pub mod of_the_store;
 
 use std::fs;
 use std::io::{ErrorKind, Write};
@@ -20,7 +20,7 @@ use serde_json::{json, Value};
 use streterva_store::Place;
 use tempfile::TempDir;
 
-pub use of_the_store::{contents, piece, Random, FORMS};
+pub use of_the_store::{contents, piece, FORMS};
 pub use streterva_store::Form;
 
 pub const PROGRAM: &str = env!("CARGO_BIN_EXE_streterva");
@@ -291,13 +291,13 @@ impl Rack {
     /// Saves this version of these blocks, which are open.
     pub fn save(&self, blocks: Range<u64>, version: u64) {
         self.put("saves", pieces(&blocks, version));
-        self.done(&format!("import volume saves --first {}", blocks.start));
+        self.done(&format!("import volume saves --quiet --first {}", blocks.start));
         fs::remove_file(self.path("saves")).expect("the file can be removed");
     }
 
     /// All open blocks, one after the other.
     pub fn exported(&self) -> Vec<u8> {
-        self.done("export volume -").out
+        self.done("export volume - --quiet").out
     }
 
     /// These blocks are read as they were saved in this version.
@@ -323,7 +323,7 @@ impl Rack {
     /// Grows the volume and runs the growth to its end.
     pub fn grow_and_run(&self, count: u64) {
         self.done(&format!("grow volume {count}"));
-        self.done("run volume");
+        self.done("run volume --quiet");
     }
 }
 
