@@ -158,13 +158,9 @@ fn further(path: &Path, calls: u64, rate: Option<u64>, options: &Options, genera
     Ok(())
 }
 
-/// The advance calls, until the growth is finished, as many are made, or the process is asked to end. Gives the blocks copied.
-fn steps(
-    volume: &mut Volume,
-    calls: u64,
-    rate: Option<u64>,
-    general: &General,
-) -> Result<u64, streterva_store::Error> {
+/// The advance calls, until the growth is finished, as many are made, or the process is asked to end. Gives the blocks
+/// copied.
+fn steps(volume: &mut Volume, calls: u64, rate: Option<u64>, general: &General) -> Result<u64, streterva_store::Error> {
     let size = volume.state().size();
     let mut progress = Progress::new(general, "copied", uncopied(volume).min(calls), size);
     let (start, mut copied) = (Instant::now(), 0);

@@ -3,8 +3,8 @@
 use serde::Serialize;
 use streterva::{table_move, State};
 
-/// A growth from some disks to more, for each disk after it: how many old blocks stay on it, leave it and are brought to it, and
-/// how many blocks the growth adds on it.
+/// A growth from some disks to more, for each disk after it: how many old blocks stay on it, leave it and are brought
+/// to it, and how many blocks the growth adds on it.
 #[derive(Clone, Debug, Serialize)]
 pub struct Moves {
     pub from: u64,
@@ -17,7 +17,8 @@ pub struct Moves {
 }
 
 impl Moves {
-    /// Counted from the library's table: a block on old disk d moves by its row in its window, whatever the growths before.
+    /// Counted from the library's table: a block on old disk d moves by its row in its window, whatever the growths
+    /// before.
     pub fn of(from: u64, to: u64, rows: u64) -> Moves {
         let window = to;
         let (mut leaves, mut arrives) = (vec![0; to as usize], vec![0; to as usize]);

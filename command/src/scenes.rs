@@ -20,7 +20,8 @@ pub struct Named {
     pub name: String,
 }
 
-/// Reads a list: a scene a line, its first block, its count and a name if wanted. Empty lines and what is behind # are left out.
+/// Reads a list: a scene a line, its first block, its count and a name if wanted. Empty lines and what is behind # are
+/// left out.
 pub fn read(path: &Path) -> anyhow::Result<Vec<Named>> {
     let text = match path == Path::new("-") {
         true => io::read_to_string(io::stdin()),

@@ -124,12 +124,15 @@ impl Growth {
 impl Answer for Status {
     fn text(&self) -> String {
         let form = match self.form {
-            "image" => format!("an image file of {} bytes with room for {}", commas(self.bytes), counted(self.room, "disk")),
+            "image" => {
+                format!("an image file of {} bytes with room for {}", commas(self.bytes), counted(self.room, "disk"))
+            }
             _ => format!("a folder with {}", counted(self.disks, "disk file")),
         };
         let history: Vec<String> = self.counts.iter().map(u64::to_string).collect();
         let mut text = format!(
-            "{}: {form}\n  {} of {} in blocks of {} bytes, history of disk counts: {}\n  blocks 0 to {} are open, {} bytes\n",
+            "{}: {form}\n  {} of {} in blocks of {} bytes, history of disk counts: {}\n  \
+             blocks 0 to {} are open, {} bytes\n",
             self.volume,
             counted(self.disks, "disk"),
             counted(self.rows, "row"),

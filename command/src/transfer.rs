@@ -97,15 +97,9 @@ fn fits(volume: &Volume, first: u64, blocks: u64) -> Result<(), Error> {
     Err(Error::Refused { refusal: Refusal::BlockNotOpen, detail })
 }
 
-/// Saves the file's blocks and gives their number; fewer where the process is asked to end. The file is read by a thread of its
-/// own, some parts ahead of the saves.
-fn save_all(
-    volume: &mut Volume,
-    file: File,
-    first: u64,
-    blocks: u64,
-    progress: &mut Progress,
-) -> anyhow::Result<u64> {
+/// Saves the file's blocks and gives their number; fewer where the process is asked to end. The file is read by a
+/// thread of its own, some parts ahead of the saves.
+fn save_all(volume: &mut Volume, file: File, first: u64, blocks: u64, progress: &mut Progress) -> anyhow::Result<u64> {
     let size = volume.state().size();
     let (full, parts) = sync_channel(PARTS_AHEAD);
     let (used, empty) = sync_channel(PARTS_AHEAD);

@@ -6,14 +6,15 @@ use std::thread;
 use crate::error::Error;
 use crate::place::Opened;
 
-/// What flushes the drives behind files: everything stored in a file is down when it returns. Tests put others in its place.
+/// What flushes the drives behind files: everything stored in a file is down when it returns. Tests put others in its
+/// place.
 pub trait Drives: Send + Sync {
     /// Flushes the drive behind one file.
     fn flush(&self, path: &Path, file: &File) -> io::Result<()>;
 }
 
-/// The drives of this machine. On Linux fdatasync takes what was stored through a mapping too, and has the drive empty its
-/// write cache.
+/// The drives of this machine. On Linux fdatasync takes what was stored through a mapping too, and has the drive empty
+/// its write cache.
 pub struct MachineDrives;
 
 impl Drives for MachineDrives {
@@ -33,7 +34,6 @@ pub(crate) fn flush_all(drives: &dyn Drives, files: &[&Opened]) -> Result<(), Er
     }
     thread::scope(|scope| {
         let running: Vec<_> = files.iter().map(|opened| scope.spawn(|| flush(opened))).collect();
-        let ended = running.into_iter().map(|thread| thread.join().expect("a flush does not panic"));
-        ended.fold(Ok(()), |told, next| told.and(next))
+        running.into_iter().try_for_each(|thread| thread.join().expect("a flush does not panic"))
     })
 }

@@ -82,11 +82,9 @@ impl fmt::Display for Error {
                 Ok(())
             }
             Error::Declined(sentence) => f.write_str(sentence),
-            Error::TooShort { path, bytes, needed } => write!(
-                f,
-                "{} is too short: it has {bytes} bytes and needs {needed}",
-                path.display()
-            ),
+            Error::TooShort { path, bytes, needed } => {
+                write!(f, "{} is too short: it has {bytes} bytes and needs {needed}", path.display())
+            }
             Error::NoVolume { path, fault } => {
                 write!(f, "{} has no volume", path.display())?;
                 match fault {
@@ -100,11 +98,4 @@ impl fmt::Display for Error {
     }
 }
 
-impl error::Error for Error {
-    fn source(&self) -> Option<&(dyn error::Error + 'static)> {
-        match self {
-            Error::File { error, .. } => Some(error),
-            _ => None,
-        }
-    }
-}
+impl error::Error for Error {}

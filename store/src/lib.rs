@@ -1,7 +1,7 @@
 //! A volume of Streterva on real files: one image file, or a folder with a file for each disk.
 //!
-//! [`Volume`] opens the files, maps them, so that the library's calls are lent one medium, and keeps the order of stores that
-//! drives with a write cache need. [`Look`] reads the record alone.
+//! [`Volume`] opens the files, maps them, so that the library's calls are lent one medium, and keeps the order of
+//! stores that drives with a write cache need. [`Look`] reads the record alone.
 
 #![deny(missing_docs)]
 #![deny(unsafe_code)]

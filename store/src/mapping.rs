@@ -1,8 +1,8 @@
 //! Address ranges in which the calls see one medium. All unsafe code of the store layer stands here.
 //!
-//! The first page of a range, the *front*, is memory of its own; files are mapped behind it, page by page. What is stored to a
-//! mapped file reaches its drive whenever the kernel likes; what is stored to the front reaches a file only where the store
-//! layer writes it there. So a record, which is in the front, is never seen half stored by a file.
+//! The first page of a range, the *front*, is memory of its own; files are mapped behind it, page by page. What is
+//! stored to a mapped file reaches its drive whenever the kernel likes; what is stored to the front reaches a file only
+//! where the store layer writes it there. So a record, which is in the front, is never seen half stored by a file.
 
 use std::fs::File;
 use std::io;
@@ -13,7 +13,8 @@ use std::slice;
 /// Bytes of a page, the unit in which files are mapped.
 pub const PAGE: usize = 4096;
 
-/// Bytes of a large page. Where addresses and a file's bytes are a multiple of it apart, the kernel can map so many at once.
+/// Bytes of a large page. Where addresses and a file's bytes are a multiple of it apart, the kernel can map so many at
+/// once.
 pub const LARGE_PAGE: usize = 2 << 20;
 
 /// A range of addresses with a front and files behind it.
@@ -59,9 +60,9 @@ impl Mapping {
         succeeded(done)
     }
 
-    /// Maps `bytes` bytes of the file from `offset` on at byte `at` of the range, which is then used up to their end. What was
-    /// mapped there before is replaced. `at` and `offset` are multiples of the page, `at` is at most the bytes used, and the
-    /// file has these bytes.
+    /// Maps `bytes` bytes of the file from `offset` on at byte `at` of the range, which is then used up to their end.
+    /// What was mapped there before is replaced. `at` and `offset` are multiples of the page, `at` is at most the bytes
+    /// used, and the file has these bytes.
     pub fn map(&mut self, at: usize, file: &File, offset: u64, bytes: usize) -> io::Result<()> {
         assert!(at >= PAGE && at.is_multiple_of(PAGE) && offset.is_multiple_of(PAGE as u64));
         assert!(at <= self.used && at + bytes <= self.reserved);
@@ -87,8 +88,8 @@ impl Mapping {
         Ok(())
     }
 
-    /// Asks the kernel to read and map the files in large pages from now on, where it can: for work that goes through many
-    /// bytes one after the other.
+    /// Asks the kernel to read and map the files in large pages from now on, where it can: for work that goes through
+    /// many bytes one after the other.
     pub fn expect_much(&self) {
         // SAFETY: the range is this value's own, and its bytes stay as they are.
         unsafe { libc::madvise(self.start.add(PAGE).cast(), self.used.saturating_sub(PAGE), libc::MADV_HUGEPAGE) };
@@ -96,9 +97,9 @@ impl Mapping {
 
     /// The bytes used.
     pub fn bytes(&self) -> &[u8] {
-        // SAFETY: the front and the files behind it are mapped without a gap up to `used`, and stay so as long as this value. A
-        // file is locked against other openers; where one is cut short all the same, or a drive fails, the kernel sends
-        // SIGBUS, and no other bytes are seen.
+        // SAFETY: the front and the files behind it are mapped without a gap up to `used`, and stay so as long as this
+        // value. A file is locked against other openers; where one is cut short all the same, or a drive fails, the
+        // kernel sends SIGBUS, and no other bytes are seen.
         unsafe { slice::from_raw_parts(self.start, self.used) }
     }
 
@@ -138,8 +139,8 @@ pub fn allocate(file: &File, from: u64, bytes: u64) -> io::Result<()> {
     }
 }
 
-/// Asks the kernel to have these bytes of the file in memory, in pages of the smallest size. Where large pages cannot be mapped
-/// as such, the first store to each small page inside one costs many times as much.
+/// Asks the kernel to have these bytes of the file in memory, in pages of the smallest size. Where large pages cannot
+/// be mapped as such, the first store to each small page inside one costs many times as much.
 pub fn expect_stores(file: &File, from: u64, bytes: u64) {
     let (from, bytes) = (from as libc::off_t, bytes as libc::off_t);
     // SAFETY: a call on numbers alone. It is a wish: the bytes stay as they are.
@@ -163,8 +164,8 @@ extern "C" fn bus_error(_: libc::c_int) {
     }
 }
 
-/// Ends the process with a sentence and exit status 3 when a mapped file cannot be read or written, which the kernel tells by
-/// SIGBUS.
+/// Ends the process with a sentence and exit status 3 when a mapped file cannot be read or written, which the kernel
+/// tells by SIGBUS.
 pub fn end_on_bus_errors() {
     // SAFETY: the handler makes only calls that a handler may make, and does not return.
     unsafe { libc::signal(libc::SIGBUS, bus_error as *const () as libc::sighandler_t) };

@@ -15,8 +15,8 @@ pub(crate) struct Files {
     pub disks: Vec<Opened>,
 }
 
-/// One medium out of the files of a volume. The record is in the front of the mapping, and so are the bytes of an image file up
-/// to the end of its first page; all others are the mapped files' own.
+/// One medium out of the files of a volume. The record is in the front of the mapping, and so are the bytes of an image
+/// file up to the end of its first page; all others are the mapped files' own.
 pub(crate) struct Medium {
     mapping: Mapping,
     /// The medium's bytes in the mapping.
@@ -86,8 +86,8 @@ impl Medium {
         &mut self.mapping.bytes_mut()[self.from..self.end]
     }
 
-    /// Writes the record from the front to its file: by one call and in one page, so that a process that is killed leaves the
-    /// old record or the new one.
+    /// Writes the record from the front to its file: by one call and in one page, so that a process that is killed
+    /// leaves the old record or the new one.
     pub fn write_record(&self, files: &Files) -> Result<(), Error> {
         let sector = &self.bytes()[..State::RECORD_BYTES];
         let written = files.record.file.write_all_at(sector, files.place.record_byte());

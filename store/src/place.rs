@@ -17,8 +17,8 @@ use crate::record::Sector;
 pub enum Form {
     /// One image file, or one block device: the medium as document 01 has it, with room for more disks.
     Image,
-    /// A folder with a file `record`, whose last 512 bytes are the record, and `disk-00` .. for the disks: files, or links to
-    /// block devices.
+    /// A folder with a file `record`, whose last 512 bytes are the record, and `disk-00` .. for the disks: files, or
+    /// links to block devices.
     Folder,
 }
 
@@ -104,8 +104,8 @@ impl Place {
         agreeing(read).map_err(Error::file("read", &path))
     }
 
-    /// What is wrong with the files for the disks of a sound state: those that are missing or too short, in their order,
-    /// and two names of one file.
+    /// What is wrong with the files for the disks of a sound state: those that are missing or too short, in their
+    /// order, and two names of one file.
     pub fn shortcomings(&self, state: &State) -> Vec<Error> {
         match self.form {
             Form::Image => {
@@ -113,8 +113,8 @@ impl Place {
                 long_enough(&self.path, needed as u64).err().into_iter().collect()
             }
             Form::Folder => {
-                let short = (0..state.disks())
-                    .filter_map(|disk| long_enough(&self.disk_path(disk), disk_bytes(state)).err());
+                let short =
+                    (0..state.disks()).filter_map(|disk| long_enough(&self.disk_path(disk), disk_bytes(state)).err());
                 short.chain(self.no_two_alike(state.disks()).err()).collect()
             }
         }

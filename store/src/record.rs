@@ -109,11 +109,7 @@ impl Column {
 
     /// The fault at the byte that is `place` bytes into the column.
     fn fault_at(self, place: usize, reason: String) -> Fault {
-        Fault {
-            column: self,
-            byte: self.first_byte() + place,
-            reason,
-        }
+        Fault { column: self, byte: self.first_byte() + place, reason }
     }
 
     /// The fault of the column as a whole.
@@ -255,23 +251,13 @@ pub fn columns(sector: &Sector) -> Result<Columns, Fault> {
     let window = read_number(sector, Column::Window)?;
     let marks = read_marks(sector)?;
     check_ending(sector)?;
-    Ok(Columns {
-        size,
-        rows,
-        growths,
-        counts,
-        growing,
-        window,
-        marks,
-    })
+    Ok(Columns { size, rows, growths, counts, growing, window, marks })
 }
 
 /// Why the sector is no record of a sound state: first the form, then soundness in document 01's order. `None` exactly
 /// where the library finds such a record.
 pub fn fault(sector: &Sector) -> Option<Fault> {
-    columns(sector)
-        .and_then(|columns| check_soundness(&columns))
-        .err()
+    columns(sector).and_then(|columns| check_soundness(&columns)).err()
 }
 
 fn read_number(sector: &Sector, column: Column) -> Result<u64, Fault> {
@@ -285,9 +271,7 @@ fn read_number(sector: &Sector, column: Column) -> Result<u64, Fault> {
         return Err(column.fault_at(start, "a leading zero".to_string()));
     }
     let Some(place) = digits.iter().position(|byte| !byte.is_ascii_digit()) else {
-        return Ok(digits
-            .iter()
-            .fold(0, |number, digit| number * 10 + u64::from(digit - b'0')));
+        return Ok(digits.iter().fold(0, |number, digit| number * 10 + u64::from(digit - b'0')));
     };
     let reason = match digits[place] {
         b' ' => "the number is not right-justified: a space after a digit".to_string(),
@@ -306,8 +290,7 @@ fn read_count(sector: &Sector, growths: u64, k: usize) -> Result<u64, Fault> {
             return read_number(sector, column);
         }
         check_growths(growths)?;
-        let reason =
-            format!("the column is blank, and t is {growths}: N[0] to N[{growths}] are numbers");
+        let reason = format!("the column is blank, and t is {growths}: N[0] to N[{growths}] are numbers");
         return Err(column.fault_at(NUMBER_BYTES - 1, reason));
     }
     let Some(place) = first else {
@@ -374,12 +357,7 @@ fn check_soundness(columns: &Columns) -> Result<(), Fault> {
     }
 }
 
-fn check_limits(
-    column: Column,
-    number: u64,
-    limits: RangeInclusive<u64>,
-    what: &str,
-) -> Result<(), Fault> {
+fn check_limits(column: Column, number: u64, limits: RangeInclusive<u64>, what: &str) -> Result<(), Fault> {
     let (least, most) = limits.into_inner();
     if number < least {
         return Err(column.fault(format!("{number} is below {least}, the fewest {what}")));
@@ -442,12 +420,8 @@ fn check_growth(columns: &Columns) -> Result<(), Fault> {
         let reason = "a growth is under way, but t is 0".to_string();
         return Err(Column::Growing.fault(reason));
     }
-    let window = Window {
-        number: columns.window,
-        rows: columns.rows,
-        old: columns.counts[t - 1],
-        new: columns.counts[t],
-    };
+    let window =
+        Window { number: columns.window, rows: columns.rows, old: columns.counts[t - 1], new: columns.counts[t] };
     let windows = window.rows.div_ceil(window.new);
     if windows <= window.number {
         let number = window.number;
@@ -466,8 +440,7 @@ fn check_marks(columns: &Columns, window: &Window) -> Result<(), Fault> {
         return Ok(());
     }
     let number = window.number;
-    let reason =
-        format!("all moving blocks of window {number} are recorded: none is left to record");
+    let reason = format!("all moving blocks of window {number} are recorded: none is left to record");
     Err(Column::Marks.fault(reason))
 }
 
@@ -503,9 +476,7 @@ impl Window {
     fn why_no_block(&self, mark: u64) -> String {
         let (marks, old, new) = (self.marks(), self.old, self.new);
         if marks <= mark {
-            return format!(
-                "there is no mark {mark}: from {old} to {new} disks the number of marks is {marks}"
-            );
+            return format!("there is no mark {mark}: from {old} to {new} disks the number of marks is {marks}");
         }
         let (row, rows) = (self.row(mark), self.rows);
         format!("mark {mark} is set, but its row does not exist: row {row} is not below s, {rows}")

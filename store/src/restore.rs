@@ -10,9 +10,9 @@ use crate::record::Sector;
 use crate::trial;
 use crate::volume::{in_whole_pages, set_aside, Options};
 
-/// Stores a record sector, which was kept in the file `from`, as the record of the volume at this path, and tells what restart
-/// makes of it. It has to be a sound state's, and the files long enough for its disks. Another record that is sound is
-/// overwritten only with `force`: of two records of one volume the older one tells wrong spots.
+/// Stores a record sector, which was kept in the file `from`, as the record of the volume at this path, and tells what
+/// restart makes of it. It has to be a sound state's, and the files long enough for its disks. Another record that is
+/// sound is overwritten only with `force`: of two records of one volume the older one tells wrong spots.
 pub fn restore(path: &Path, sector: &Sector, from: &Path, force: bool, options: &Options) -> Result<Restarted, Error> {
     let restarted = trial::restart(sector, from)?;
     let place = Place::at(path)?;
@@ -44,7 +44,8 @@ pub fn restore(path: &Path, sector: &Sector, from: &Path, force: bool, options: 
 
 fn another(place: &Place) -> Error {
     Error::Declined(format!(
-        "{} has another record that is sound, and the older of the two tells wrong spots; --force stores it all the same",
+        "{} has another record that is sound, and the older of the two tells wrong spots; --force stores it all the \
+         same",
         place.path().display()
     ))
 }

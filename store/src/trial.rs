@@ -1,8 +1,8 @@
-//! Calls on a medium that is a record with zeros behind it and takes no memory, to learn what they answer: the state of a
-//! record sector alone, and whether format or grow would be refused.
+//! Calls on a medium that is a record with zeros behind it and takes no memory, to learn what they answer: the state of
+//! a record sector alone, and whether format or grow would be refused.
 //!
-//! The header of the library says what each call reads and writes of a medium: restart reads the record; format and grow write
-//! the record and read nothing. So only the front is touched.
+//! The header of the library says what each call reads and writes of a medium: restart reads the record; format and
+//! grow write the record and read nothing. So only the front is touched.
 
 use std::io;
 use std::path::Path;
@@ -33,8 +33,8 @@ pub fn format(size: u64, rows: u64, disks: u64) -> Result<State, Error> {
     Ok(State::format(medium.bytes_mut(), size, rows, disks)?)
 }
 
-/// The state after grow, or with `beyond_doubling` after the grow without 20, and its advance calls left; as if all stores were
-/// down and the medium had room.
+/// The state after grow, or with `beyond_doubling` after the grow without 20, and its advance calls left; as if all
+/// stores were down and the medium had room.
 pub fn grow(state: &State, count: u64, beyond_doubling: bool) -> Result<(State, u64), Error> {
     let mut words = state.words();
     words[15] = 0;

@@ -31,9 +31,9 @@ impl Default for Options {
 
 /// A volume on files, open for reading and writing, and locked against other openers.
 ///
-/// The calls are the library's; the medium that they are lent is the mapped files. A call that is refused with 18 or 19 is
-/// followed by a flush of the drives, `flushed` and the call again, so that callers never see the two. A save is kept from the
-/// next [`Volume::flush`] on. A volume that is dropped without it is left as a power cut would leave it.
+/// The calls are the library's; the medium that they are lent is the mapped files. A call that is refused with 18 or 19
+/// is followed by a flush of the drives, `flushed` and the call again, so that callers never see the two. A save is
+/// kept from the next [`Volume::flush`] on. A volume that is dropped without it is left as a power cut would leave it.
 pub struct Volume {
     files: Files,
     medium: Medium,
@@ -60,7 +60,11 @@ impl Volume {
             Form::Image => vec![],
             Form::Folder => {
                 if record.bytes < mapping::PAGE as u64 {
-                    return Err(Error::TooShort { path: record.path, bytes: record.bytes, needed: mapping::PAGE as u64 });
+                    return Err(Error::TooShort {
+                        path: record.path,
+                        bytes: record.bytes,
+                        needed: mapping::PAGE as u64,
+                    });
                 }
                 in_whole_pages(&restarted.state)?;
                 let all = (0..restarted.state.disks()).map(|disk| place.disk_path(disk));
@@ -130,8 +134,8 @@ impl Volume {
         Ok(())
     }
 
-    /// Begins a growth to `count` disks and tells the advance calls left. An image file has to have room for them, or with
-    /// `lengthen` is made longer; in a folder the files of the added disks are made, where they do not exist yet.
+    /// Begins a growth to `count` disks and tells the advance calls left. An image file has to have room for them, or
+    /// with `lengthen` is made longer; in a folder the files of the added disks are made, where they do not exist yet.
     pub fn grow(&mut self, count: u64, beyond_doubling: bool, lengthen: bool) -> Result<u64, Error> {
         trial::grow(&self.state, count, beyond_doubling)?;
         match self.files.place.form() {
@@ -180,8 +184,8 @@ impl Volume {
         self.flush()
     }
 
-    /// Flushes the drives behind the stores that are pending, and calls `flushed`. Where a flush fails, nobody can say what is
-    /// down; then every later store and flush fails too.
+    /// Flushes the drives behind the stores that are pending, and calls `flushed`. Where a flush fails, nobody can say
+    /// what is down; then every later store and flush fails too.
     pub fn flush(&mut self) -> Result<(), Error> {
         if self.flush_failed {
             let sentence = "a flush of the drives has failed, so nothing more is stored; open the volume again";
@@ -213,8 +217,8 @@ impl Volume {
         flush_all(&*self.options.drives, &stored_to)
     }
 
-    /// Prepares work that goes through many blocks one after the other, where files are mapped in large pages. It only saves
-    /// time.
+    /// Prepares work that goes through many blocks one after the other, where files are mapped in large pages. It only
+    /// saves time.
     pub fn expect_much(&self) {
         let disk = disk_bytes(&self.state);
         if self.files.place.form() == Form::Image || disk.is_multiple_of(mapping::LARGE_PAGE as u64) {

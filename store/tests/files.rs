@@ -210,7 +210,9 @@ fn nothing_to_open() {
     let site = Site::new();
     assert_file(&site.fails_to_open(), &site.volume(), ErrorKind::NotFound);
     fs::create_dir(site.volume()).unwrap();
-    assert_file(&site.fails_to_open(), &site.record(Form::Folder), ErrorKind::NotFound);
+    for error in [site.fails_to_open(), Look::at(&site.volume()).unwrap_err()] {
+        assert!(matches!(&error, Error::NoVolume { path, fault: None } if *path == site.volume()), "{error:?}");
+    }
 }
 
 /// Opening a pipe would wait for a writer.

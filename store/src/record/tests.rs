@@ -104,20 +104,12 @@ fn last_window_cut_off() -> Sector {
 /// The largest numbers, no count blank, and all marks but one.
 fn largest() -> Sector {
     let marks = u64::MAX >> 1;
-    let state = State::from_words([
-        65_536, 1_000_000, 7, 1, 2, 3, 4, 5, 6, 8, 16, 1, 62_499, marks, marks, 0,
-    ]);
+    let state = State::from_words([65_536, 1_000_000, 7, 1, 2, 3, 4, 5, 6, 8, 16, 1, 62_499, marks, marks, 0]);
     sector_of(&state.unwrap())
 }
 
 fn sound_records() -> [Sector; 5] {
-    [
-        new_volume(),
-        seven_growths(),
-        two_marks(),
-        last_window_cut_off(),
-        largest(),
-    ]
+    [new_volume(), seven_growths(), two_marks(), last_window_cut_off(), largest()]
 }
 
 /// The sector with this text from this byte on.
@@ -139,19 +131,13 @@ fn columns_lie_one_after_the_other() {
     }
     assert_eq!(end, State::RECORD_BYTES);
     let names = Column::ALL.map(Column::name).join(" ");
-    assert_eq!(
-        names,
-        "Z s t N[0] N[1] N[2] N[3] N[4] N[5] N[6] N[7] growing w marks spaces end"
-    );
+    assert_eq!(names, "Z s t N[0] N[1] N[2] N[3] N[4] N[5] N[6] N[7] growing w marks spaces end");
 }
 
 #[test]
 fn the_record_of_document_01() {
     let numbers = "       512         5         1         3         5";
-    let text = format!(
-        "{numbers}{:60}{:>10}{:>10}11{:0>62}{:317}\n",
-        "", 1, 0, "", ""
-    );
+    let text = format!("{numbers}{:60}{:>10}{:>10}11{:0>62}{:317}\n", "", 1, 0, "", "");
     let record = two_marks();
     assert_eq!(record.as_slice(), text.as_bytes());
     assert_eq!(
@@ -212,44 +198,16 @@ fn a_byte_that_may_stand_nowhere_is_told_where_it_stands() {
 /// Byte and text of a damage to document 01's record, and what is told of it.
 const FORM_FAULTS: [(usize, &str, &str); 11] = [
     (10, "       x 5", "column s, byte 17: 'x' is no digit"),
-    (
-        120,
-        "        \u{7}0",
-        "column w, byte 128: 0x07 is no digit",
-    ),
+    (120, "        \u{7}0", "column w, byte 128: 0x07 is no digit"),
     (0, "      0512", "column Z, byte 6: a leading zero"),
-    (
-        0,
-        "    512   ",
-        "column Z, byte 7: the number is not right-justified: a space after a digit",
-    ),
-    (
-        110,
-        "          ",
-        "column growing, byte 119: the column is blank: a space where the last digit is due",
-    ),
-    (
-        29,
-        "2",
-        "column N[2], byte 59: the column is blank, and t is 2: N[0] to N[2] are numbers",
-    ),
+    (0, "    512   ", "column Z, byte 7: the number is not right-justified: a space after a digit"),
+    (110, "          ", "column growing, byte 119: the column is blank: a space where the last digit is due"),
+    (29, "2", "column N[2], byte 59: the column is blank, and t is 2: N[0] to N[2] are numbers"),
     (29, "8", "column t, byte 20: 8 is above 7, the most growths"),
-    (
-        29,
-        "0",
-        "column N[1], byte 49: the count after N[t] is not blank: t is 0, and here is '5'",
-    ),
-    (
-        135,
-        " ",
-        "the marks, byte 135: a space is no mark: mark 5 is '0' or '1'",
-    ),
+    (29, "0", "column N[1], byte 49: the count after N[t] is not blank: t is 0, and here is '5'"),
+    (135, " ", "the marks, byte 135: a space is no mark: mark 5 is '0' or '1'"),
     (200, "0", "the spaces, byte 200: '0' where a space is due"),
-    (
-        511,
-        "\r",
-        "the end, byte 511: 0x0D where the line feed, 0x0A, is due",
-    ),
+    (511, "\r", "the end, byte 511: 0x0D where the line feed, 0x0A, is due"),
 ];
 
 #[test]
@@ -280,55 +238,20 @@ fn the_form_comes_before_soundness() {
     assert_eq!(told(&record), "column Z, byte 0: 600 is no multiple of 512");
     assert_eq!(columns(&record).unwrap().size, 600);
     let record = damaged(record, 193, "x");
-    assert_eq!(
-        told(&record),
-        "the marks, byte 193: 'x' is no mark: mark 63 is '0' or '1'"
-    );
+    assert_eq!(told(&record), "the marks, byte 193: 'x' is no mark: mark 63 is '0' or '1'");
 }
 
 /// The same with numbers that have the form.
 const NUMBER_FAULTS: [(usize, &str, &str); 9] = [
-    (
-        0,
-        "         0",
-        "column Z, byte 0: 0 is below 512, the fewest bytes in a block",
-    ),
-    (
-        0,
-        "     66048",
-        "column Z, byte 0: 66048 is above 65536, the most bytes in a block",
-    ),
-    (
-        10,
-        "         0",
-        "column s, byte 10: 0 is below 1, the fewest rows on each disk",
-    ),
-    (
-        10,
-        "   1000001",
-        "column s, byte 10: 1000001 is above 1000000, the most rows on each disk",
-    ),
-    (
-        39,
-        "0",
-        "column N[0], byte 30: 0 is below 1, the fewest disks",
-    ),
-    (
-        39,
-        "5",
-        "column N[1], byte 40: N[1] is 5 and not above N[0], 5",
-    ),
-    (
-        48,
-        "17",
-        "column N[1], byte 40: 17 is above 16, the most disks",
-    ),
+    (0, "         0", "column Z, byte 0: 0 is below 512, the fewest bytes in a block"),
+    (0, "     66048", "column Z, byte 0: 66048 is above 65536, the most bytes in a block"),
+    (10, "         0", "column s, byte 10: 0 is below 1, the fewest rows on each disk"),
+    (10, "   1000001", "column s, byte 10: 1000001 is above 1000000, the most rows on each disk"),
+    (39, "0", "column N[0], byte 30: 0 is below 1, the fewest disks"),
+    (39, "5", "column N[1], byte 40: N[1] is 5 and not above N[0], 5"),
+    (48, "17", "column N[1], byte 40: 17 is above 16, the most disks"),
     (119, "2", "column growing, byte 110: 2 is neither 0 nor 1"),
-    (
-        129,
-        "1",
-        "column w, byte 120: 1 is not below the number of windows, 1",
-    ),
+    (129, "1", "column w, byte 120: 1 is not below the number of windows, 1"),
 ];
 
 #[test]
@@ -344,30 +267,10 @@ type Damage = (fn() -> Sector, usize, &'static str, &'static str);
 
 /// A growing, w or marks that do not fit.
 const STAGE_FAULTS: [Damage; 7] = [
-    (
-        new_volume,
-        129,
-        "3",
-        "column w, byte 120: w is 3, but no growth is under way",
-    ),
-    (
-        new_volume,
-        119,
-        "1",
-        "column growing, byte 110: a growth is under way, but t is 0",
-    ),
-    (
-        two_marks,
-        119,
-        "0",
-        "the marks, byte 130: mark 0 is set, but no growth is under way",
-    ),
-    (
-        two_marks,
-        136,
-        "11",
-        "the marks, byte 136: there is no mark 6: from 3 to 5 disks the number of marks is 6",
-    ),
+    (new_volume, 129, "3", "column w, byte 120: w is 3, but no growth is under way"),
+    (new_volume, 119, "1", "column growing, byte 110: a growth is under way, but t is 0"),
+    (two_marks, 119, "0", "the marks, byte 130: mark 0 is set, but no growth is under way"),
+    (two_marks, 136, "11", "the marks, byte 136: there is no mark 6: from 3 to 5 disks the number of marks is 6"),
     (
         two_marks,
         130,
@@ -435,15 +338,7 @@ fn soundness_in_document_01s_order() {
 
 /// A growth under way from `old` disks to `new`.
 fn growth(old: u64, new: u64, rows: u64, window: u64, marks: u64) -> Columns {
-    Columns {
-        size: 512,
-        rows,
-        growths: 1,
-        counts: [old, new, 0, 0, 0, 0, 0, 0],
-        growing: 1,
-        window,
-        marks,
-    }
+    Columns { size: 512, rows, growths: 1, counts: [old, new, 0, 0, 0, 0, 0, 0], growing: 1, window, marks }
 }
 
 /// Every pair of disk counts.
@@ -455,9 +350,7 @@ fn pairs() -> impl Iterator<Item = (u64, u64)> {
 fn moving(old: u64, new: u64, rows: u64, window: u64) -> u64 {
     let added = new - old;
     let band = (0..old).flat_map(|disk| (disk..disk + added).map(move |b1| (disk, b1)));
-    band.filter(|(_, b1)| window * new + b1 < rows)
-        .map(|(disk, b1)| 1 << (disk * added + (b1 - disk)))
-        .sum()
+    band.filter(|(_, b1)| window * new + b1 < rows).map(|(disk, b1)| 1 << (disk * added + (b1 - disk))).sum()
 }
 
 #[test]
@@ -466,9 +359,8 @@ fn every_mark_of_every_growth() {
     for (old, new, left) in cut_off {
         let rows = 3 * new + left;
         let all = moving(old, new, rows, 3);
-        let faults = (0..64)
-            .filter(|mark| compared(&growth(old, new, rows, 3, 1 << mark).sector()).is_some())
-            .count() as u32;
+        let faults =
+            (0..64).filter(|mark| compared(&growth(old, new, rows, 3, 1 << mark).sector()).is_some()).count() as u32;
         // A mark that is the only moving block's may not be set either.
         let expected = if all == 1 { 64 } else { all.count_zeros() };
         assert_eq!(faults, expected, "{old} to {new}, {left} rows");
@@ -633,12 +525,7 @@ fn state_of(columns: &Columns) -> State {
     let mut words = [0; 16];
     words[..3].copy_from_slice(&[columns.size, columns.rows, columns.growths]);
     words[3..11].copy_from_slice(&columns.counts);
-    words[11..15].copy_from_slice(&[
-        columns.growing,
-        columns.window,
-        columns.marks,
-        columns.marks,
-    ]);
+    words[11..15].copy_from_slice(&[columns.growing, columns.window, columns.marks, columns.marks]);
     State::from_words(words).unwrap()
 }
 
