@@ -10,6 +10,7 @@ use std::path::PathBuf;
 use std::process::Command;
 
 use common::{piece, Form, Rack, Refused, FORMS, PROGRAM, SIZE};
+use serde_json::json;
 
 const OUTSIDE_LIMITS: &str =
     "refused with 8: a size, a number of rows, a disk count or the disks on the first shelf are outside their limits";
@@ -318,29 +319,301 @@ fn a_record_that_is_not_restored() {
     }
 }
 
-/// A sound record of another volume: it needs --force, and files that are long enough.
+/// A sound record of other times or of another volume is not stored without --force.
 #[test]
-fn a_record_of_another_volume() {
+fn another_sound_record() {
     for form in FORMS {
-        let (rack, other) = (Rack::new(form, 8, 3), Rack::new(form, 8, 4));
-        rack.put("other", other.sector());
-        let second_half = "and the older of the two tells wrong spots; --force stores it all the same";
-        let sentence = format!("volume has another record that is sound, {second_half}");
-        let (name, missing) = match form {
-            Form::Image => ("volume", "it has 12800 bytes and needs 16896"),
-            Form::Folder => ("volume/disk-03", ""),
-        };
-        match form {
-            Form::Image => rack.refused("restore-record volume other", Refused(1, None, &sentence)),
-            Form::Folder => {
-                let sentence = format!("cannot open {name}: No such file or directory (os error 2)");
-                rack.refused("restore-record volume other --force", Refused(3, None, &sentence));
-            }
+        let rack = Rack::new(form, 8, 3);
+        rack.put("other", Rack::new(form, 8, 2).sector());
+        let sentence = "volume has another record that is sound, and the older of the two tells wrong spots; \
+                        --force stores it all the same";
+        rack.refused("restore-record volume other", Refused(1, None, sentence));
+    }
+}
+
+/// Not even by force where the files are not long enough for its disks.
+#[test]
+fn the_record_of_a_larger_volume() {
+    let rack = Rack::new(Form::Image, 8, 3);
+    rack.cut("volume", 12_800);
+    rack.put("other", Rack::new(Form::Image, 8, 4).sector());
+    let sentence = "volume is too short: it has 12800 bytes and needs 16896";
+    rack.refused("restore-record volume other --force", Refused(5, Some(2), sentence));
+    let rack = Rack::new(Form::Folder, 8, 3);
+    rack.put("other", Rack::new(Form::Folder, 8, 4).sector());
+    let sentence = "cannot open volume/disk-03: No such file or directory (os error 2)";
+    rack.refused("restore-record volume other --force", Refused(3, None, sentence));
+}
+
+/// Every call that needs a volume, where there is none.
+#[test]
+fn nothing_there() {
+    let rack = Rack::empty(Form::Image);
+    rack.put("show", "0 1\n");
+    let sentence = "cannot open volume: No such file or directory (os error 2)";
+    let calls = "status volume,examine volume,grow volume 5,grow volume 5 --dry-run,advance volume,run volume,write volume 0,\
+                 import volume show,export volume copy,where volume 0,holder volume 0 0,load volume show,chart volume,\
+                 check volume,backup-record volume kept,report volume page.html";
+    for call in calls.split(',') {
+        rack.refused(call, Refused(3, None, sentence));
+    }
+    assert_eq!(rack.call("read volume 0").with_status(3).error, format!("streterva: {sentence}\n"));
+}
+
+#[test]
+fn files_beside_the_volume_that_are_not_there() {
+    let rack = Rack::new(Form::Image, 8, 3);
+    let refused = Refused(3, None, "cannot open nothing: No such file or directory (os error 2)");
+    rack.refused("import volume nothing", refused);
+    let refused = Refused(3, None, "cannot read nothing: No such file or directory (os error 2)");
+    rack.refused("load volume nothing", refused);
+    rack.refused("report volume page.html --scenes nothing", refused);
+    for call in ["export volume", "backup-record volume", "report volume"] {
+        let told = rack.unchanged(|| rack.call(&format!("{call} nowhere/file")).with_status(3));
+        assert!(told.error.starts_with("streterva: cannot make nowhere/file: No such file or directory"), "{}", told.error);
+    }
+}
+
+/// What even opening would wait for is not opened.
+#[test]
+fn a_pipe() {
+    let rack = Rack::empty(Form::Image);
+    let made = Command::new("mkfifo").arg(rack.path("volume")).status().expect("mkfifo starts");
+    assert!(made.success());
+    let sentence = "cannot open volume: it is neither a file nor a block device";
+    for call in ["status volume", "run volume", "check volume", "examine volume", "restore-record volume volume"] {
+        rack.refused(call, Refused(3, None, sentence));
+    }
+    rack.refused("create volume --size 512 --rows 8 --disks 3 --force", Refused(3, None, sentence));
+    let rack = Rack::new(Form::Image, 8, 3);
+    let made = Command::new("mkfifo").arg(rack.path("pipe")).status().expect("mkfifo starts");
+    assert!(made.success());
+    rack.refused("import volume pipe", Refused(3, None, &sentence.replace("volume", "pipe")));
+}
+
+#[test]
+fn a_folder_without_a_record() {
+    let rack = Rack::new(Form::Folder, 8, 3);
+    fs::remove_file(rack.record()).expect("the file can be removed");
+    let sentence = "volume has no volume: it is a folder without a file record";
+    for call in ["status volume", "run volume", "examine volume", "backup-record volume kept"] {
+        rack.refused(call, Refused(6, Some(13), sentence));
+    }
+}
+
+#[test]
+fn a_folder_without_a_disk() {
+    let rack = Rack::new(Form::Folder, 8, 3);
+    fs::remove_file(rack.path("volume/disk-01")).expect("the file can be removed");
+    let sentence = "cannot open volume/disk-01: No such file or directory (os error 2)";
+    for call in ["status volume", "run volume", "chart volume", "where volume 0"] {
+        rack.refused(call, Refused(3, None, sentence));
+    }
+    rack.done("examine volume");
+    rack.done("backup-record volume kept");
+}
+
+/// A file where a folder is wanted, and the other way round.
+#[test]
+fn the_other_form() {
+    let rack = Rack::new(Form::Image, 8, 3);
+    let sentence = "cannot make volume: File exists (os error 17)";
+    rack.refused("create volume --folder --size 512 --rows 8 --disks 3 --force", Refused(3, None, sentence));
+    let rack = Rack::new(Form::Folder, 8, 3);
+    let sentence = "cannot open volume: it is neither a file nor a block device";
+    rack.refused("create volume --size 512 --rows 8 --disks 3 --force", Refused(3, None, sentence));
+}
+
+/// The calls, made by a user who is not root. Root calls as nobody, by a copy of the program that nobody can reach.
+struct OtherUser {
+    rack: Rack,
+    program: PathBuf,
+    is_root: bool,
+}
+
+impl OtherUser {
+    const NOBODY: u32 = 65_534;
+
+    fn of(rack: Rack) -> OtherUser {
+        let program = rack.path("program");
+        fs::copy(PROGRAM, &program).expect("the program can be copied");
+        fs::set_permissions(rack.path(""), Permissions::from_mode(0o755)).expect("the rights can be changed");
+        let is_root = fs::metadata(&program).expect("the copy is there").uid() == 0;
+        OtherUser { rack, program, is_root }
+    }
+
+    /// The call's status and sentence; every file stays as it is.
+    fn call(&self, call: &str) -> (Option<i32>, String) {
+        let mut command = Command::new(&self.program);
+        command.args(call.split_whitespace()).current_dir(self.rack.path(""));
+        if self.is_root {
+            command.uid(OtherUser::NOBODY);
         }
-        if form == Form::Image {
-            rack.cut("volume", 12_800);
-            let sentence = format!("{name} is too short: {missing}");
-            rack.refused("restore-record volume other --force", Refused(5, Some(2), &sentence));
+        let output = self.rack.unchanged(|| command.output().expect("the program starts"));
+        (output.status.code(), String::from_utf8_lossy(&output.stderr).into_owned())
+    }
+
+    fn rights(&self, name: &str, mode: u32) {
+        fs::set_permissions(self.rack.path(name), Permissions::from_mode(mode)).expect("the rights can be changed");
+    }
+}
+
+#[test]
+fn a_file_that_may_not_be_read_or_written() {
+    for (form, name) in [(Form::Image, "volume"), (Form::Folder, "volume/record")] {
+        let user = OtherUser::of(Rack::new(form, 8, 3));
+        user.rights(name, 0o444);
+        assert_eq!(user.call("status volume").0, Some(0));
+        let denied = format!("streterva: cannot open {name}: Permission denied (os error 13)\n");
+        assert_eq!(user.call("grow volume 5"), (Some(3), denied.clone()));
+        assert_eq!(user.call("write volume 0"), (Some(3), denied.clone()));
+        user.rights(name, if user.is_root { 0o600 } else { 0 });
+        let calls = ["status volume", "examine volume", "check volume", "run volume"];
+        calls.iter().for_each(|call| assert_eq!(user.call(call), (Some(3), denied.clone()), "{call}"));
+        user.rights(name, 0o644);
+    }
+}
+
+/// A folder on a drive of 1 MiB. Only root can make one.
+struct SmallDrive {
+    rack: Rack,
+}
+
+impl SmallDrive {
+    fn new() -> Option<SmallDrive> {
+        let rack = Rack::empty(Form::Image);
+        fs::create_dir(rack.path("drive")).expect("a folder can be made");
+        let words = ["-t", "tmpfs", "-o", "size=1m", "tmpfs"];
+        let mounted = Command::new("mount").args(words).arg(rack.path("drive")).output();
+        if mounted.is_ok_and(|mounted| mounted.status.success()) {
+            return Some(SmallDrive { rack });
         }
+        println!("skipped: no small drive can be mounted here");
+        None
+    }
+
+    /// A call fails, since the drive is full, and leaves every file as it was.
+    fn fails(&self, call: &str, file: &str) {
+        let sentence = format!("cannot {file}: No space left on device (os error 28)");
+        self.rack.refused(call, Refused(3, None, &sentence));
+    }
+}
+
+impl Drop for SmallDrive {
+    fn drop(&mut self) {
+        let ended = Command::new("umount").arg(self.rack.path("drive")).status();
+        assert!(ended.is_ok_and(|ended| ended.success()), "the small drive is still mounted");
+    }
+}
+
+#[test]
+fn a_full_drive_takes_no_new_volume() {
+    let Some(small) = SmallDrive::new() else { return };
+    let image = "create drive/volume --size 64K --rows 8 --disks 3";
+    small.fails(image, "set space aside in drive/volume");
+    let folder = "create drive/volume --folder --size 64K --rows 8 --disks 3";
+    small.fails(folder, "set space aside in drive/volume/disk-01");
+    assert!(!small.rack.path("drive/volume").exists());
+    small.rack.done("create drive/volume --size 64K --rows 4 --disks 3");
+}
+
+#[test]
+fn a_full_drive_takes_no_growth() {
+    let Some(small) = SmallDrive::new() else { return };
+    let rack = &small.rack;
+    rack.done("create drive/image --size 64K --rows 2 --disks 2 --room 2");
+    rack.done("create drive/folder --folder --size 64K --rows 2 --disks 2");
+    rack.put("saved", piece(65_536, 1, 1));
+    rack.done("import drive/image saved --first 3");
+    rack.done("import drive/folder saved --first 3");
+    rack.put("drive/other", vec![1; 256 << 10]);
+    small.fails("grow drive/image 4 --lengthen", "set space aside in drive/image");
+    small.fails("grow drive/folder 4", "set space aside in drive/folder/disk-03");
+    for volume in ["drive/image", "drive/folder"] {
+        assert_eq!(rack.done(&format!("read {volume} 3")).out, piece(65_536, 1, 1));
+        rack.done(&format!("check {volume}"));
+    }
+    fs::remove_file(rack.path("drive/other")).expect("the file can be removed");
+    rack.done("grow drive/folder 4");
+    rack.done("run drive/folder");
+}
+
+/// What is set aside for a volume is there for its blocks on a full drive too; other files are not made.
+#[test]
+fn a_full_drive_takes_blocks_and_no_other_files() {
+    let Some(small) = SmallDrive::new() else { return };
+    let rack = &small.rack;
+    rack.done("create drive/volume --folder --size 64K --rows 4 --disks 3");
+    rack.put("drive/other", vec![1; (256 << 10) - 4096]);
+    rack.put("show", piece(12 * 65_536, 1, 1));
+    rack.done("import drive/volume show");
+    assert!(rack.done("export drive/volume -").out == piece(12 * 65_536, 1, 1));
+    small.fails("export drive/volume drive/copy", "write drive/copy");
+    small.fails("report drive/volume drive/page.html", "write drive/page.html");
+}
+
+/// A call that is wrong as such: the sentence has these words, and nothing is done.
+fn usage(rack: &Rack, call: &str, words: &[&str]) {
+    let told = rack.unchanged(|| rack.call(call).with_status(2));
+    assert_eq!(told.text(), "", "{call}");
+    assert!(words.iter().all(|word| told.error.contains(word)), "{call}: {}", told.error);
+}
+
+#[test]
+fn missing_words_and_wrong_numbers() {
+    let rack = Rack::new(Form::Image, 8, 3);
+    let cases: [(&str, &[&str]); 22] = [
+        ("", &["Usage: streterva", "Commands:"]),
+        ("shrink volume", &["shrink", "wasn't recognized"]),
+        ("create other", &["--size <BYTES>", "--rows <ROWS>", "--disks <DISKS>"]),
+        ("create --size 512 --rows 8 --disks 3", &["<VOL>"]),
+        ("create other --size 64KB --rows 8 --disks 3", &["'64KB'", "a number is expected, with K, M or G behind it"]),
+        ("create other --size 99999999999999999G --rows 8 --disks 3", &["the number is too large"]),
+        ("create other --size 512 --rows eight --disks 3", &["'eight'", "--rows <ROWS>"]),
+        ("create other --size 512 --rows 8 --disks -3", &["-3"]),
+        ("create other --size 512 --rows 8 --disks 3 --room 6 --folder", &["--room", "cannot be used with", "--folder"]),
+        ("status", &["<VOL>"]),
+        ("status volume --interval soon", &["'soon'", "a number of seconds is expected"]),
+        ("status volume --wait -1", &["-1"]),
+        ("grow volume", &["<COUNT>"]),
+        ("grow volume five", &["'five'", "<COUNT>"]),
+        ("advance volume --calls 0", &["'0'", "--calls <N>"]),
+        ("run volume --rate 0", &["'0'", "a rate is at least 1"]),
+        ("write volume", &["<BLOCK>"]),
+        ("where volume 1.5", &["'1.5'", "<BLOCK>"]),
+        ("holder volume 1", &["<ROW>"]),
+        ("chart volume --rows 9-3", &["'9-3'", "the second row is below the first"]),
+        ("chart volume --rows all", &["'all'", "two rows are expected, as in 0-99"]),
+        ("completions tcsh", &["'tcsh'", "bash"]),
+    ];
+    cases.iter().for_each(|(call, words)| usage(&rack, call, words));
+}
+
+/// Bytes and JSON cannot both be standard output.
+#[test]
+fn bytes_as_json() {
+    let rack = Rack::new(Form::Image, 8, 3);
+    let cases = [
+        ("read volume 0", "read prints the block's bytes and has no --json"),
+        ("export volume -", "to standard output export prints the blocks' bytes and has no --json"),
+    ];
+    for (call, sentence) in cases {
+        let told = rack.unchanged(|| rack.call(&format!("{call} --json")).with_status(2));
+        assert_eq!(told.text(), "");
+        assert_eq!(told.error_as_json(), json!({"status": 2, "refusal": null, "sentence": sentence}));
+    }
+}
+
+#[test]
+fn usage_as_json() {
+    let rack = Rack::new(Form::Image, 8, 3);
+    let cases = [
+        ("chart volume --rows 9-3", "Invalid value '9-3' for '--rows <A-B>': the second row is below the first"),
+        ("shrink volume", "The subcommand 'shrink' wasn't recognized"),
+    ];
+    for (call, sentence) in cases {
+        let told = rack.unchanged(|| rack.call(&format!("{call} --json")).with_status(2));
+        assert_eq!(told.text(), "");
+        assert_eq!(told.error_as_json(), json!({"status": 2, "refusal": null, "sentence": sentence}));
     }
 }

@@ -1,5 +1,5 @@
 use std::fs;
-use std::path::Path;
+use std::path::{Path, PathBuf};
 
 use streterva::State;
 
@@ -36,8 +36,8 @@ impl Volume {
         if !plan.force {
             nothing_there(&place, plan)?;
         }
-        let mut made = Made::default();
-        let created = made.files(&place, plan, &state, options).and_then(|files| formatted(files, plan, options));
+        let mut made = Made { place: &place, plan, options, files: vec![], folder: false };
+        let created = made.files(&state).and_then(|files| formatted(files, plan, &state, options));
         if created.is_err() {
             made.remove();
         }
@@ -58,55 +58,56 @@ fn fits_form(plan: &Plan, state: &State) -> Result<(), Error> {
     }
 }
 
-/// Fails where a file that the volume needs is there already, with what it is.
+/// Fails where a file that the volume needs is there already.
 fn nothing_there(place: &Place, plan: &Plan) -> Result<(), Error> {
     let disks = match plan.form {
         Form::Image => 0,
         Form::Folder => plan.disks,
     };
-    let needed = (0..disks).map(|disk| place.disk_path(disk)).chain([place.record_path()]);
-    let Some(there) = needed.into_iter().find(|path| path.symlink_metadata().is_ok()) else {
-        return Ok(());
-    };
-    let is_volume = place.sector().is_ok_and(|sector| trial::restart(&sector, &there).is_ok());
+    let mut needed = (0..disks).map(|disk| place.disk_path(disk)).chain([place.record_path()]);
+    match needed.any(|path| path.symlink_metadata().is_ok()) {
+        true => Err(there(place)),
+        false => Ok(()),
+    }
+}
+
+fn there(place: &Place) -> Error {
+    let is_volume = place.sector().is_ok_and(|sector| trial::restart(&sector, place.path()).is_ok());
     let what = if is_volume { "has a volume already" } else { "exists already and is no volume" };
-    Err(Error::Declined(format!("{} {what}; --force overwrites it", place.path().display())))
+    Error::Declined(format!("{} {what}; --force overwrites it", place.path().display()))
 }
 
-/// What was made, to be removed where the rest fails.
-#[derive(Default)]
-struct Made {
-    files: Vec<std::path::PathBuf>,
-    folder: Option<std::path::PathBuf>,
+/// The files of a new volume, and which of them were made for it, to be removed where the rest fails.
+struct Made<'a> {
+    place: &'a Place,
+    plan: &'a Plan,
+    options: &'a Options,
+    files: Vec<PathBuf>,
+    folder: bool,
 }
 
-impl Made {
-    fn files(&mut self, place: &Place, plan: &Plan, state: &State, options: &Options) -> Result<Files, Error> {
-        if plan.form == Form::Folder && !place.path().is_dir() {
-            fs::create_dir(place.path()).map_err(Error::file("make", place.path()))?;
-            self.folder = Some(place.path().to_path_buf());
-        }
-        if plan.form == Form::Folder {
-            place.no_two_alike(plan.disks)?;
-        }
-        let mut record = self.file(&place.record_path(), options)?;
-        record.empty()?;
+impl Made<'_> {
+    /// Opens all files, and changes them once all are locked: nothing is emptied that another process has.
+    fn files(&mut self, state: &State) -> Result<Files, Error> {
+        let (place, plan) = (self.place, self.plan);
+        let mut record;
         let mut disks = vec![];
         match plan.form {
             Form::Image => {
+                record = self.file(&place.record_path())?;
+                record.empty()?;
                 record.lengthen(State::medium_bytes(plan.size, plan.rows, plan.room) as u64)?;
-                let bytes = State::medium_bytes(plan.size, plan.rows, plan.disks) as u64;
-                set_aside(&record, 0, bytes)?;
+                set_aside(&record, 0, State::medium_bytes(plan.size, plan.rows, plan.disks) as u64)?;
             }
             Form::Folder => {
+                self.folder()?;
+                record = self.file(&place.record_path())?;
+                let paths = (0..plan.disks).map(|disk| place.disk_path(disk));
+                disks = paths.map(|path| self.file(&path)).collect::<Result<_, _>>()?;
+                record.empty()?;
                 record.lengthen(PAGE as u64)?;
                 set_aside(&record, 0, PAGE as u64)?;
-                for disk in 0..plan.disks {
-                    let mut disk = self.file(&place.disk_path(disk), options)?;
-                    disk.empty()?;
-                    make_disk(&mut disk, state)?;
-                    disks.push(disk);
-                }
+                disks.iter_mut().try_for_each(|disk| disk.empty().and_then(|()| make_disk(disk, state)))?;
             }
         }
         keep_name(&place.record_path())?;
@@ -114,23 +115,36 @@ impl Made {
         Ok(Files { place: place.clone(), record, disks })
     }
 
-    fn file(&mut self, path: &Path, options: &Options) -> Result<Opened, Error> {
-        let opened = Opened::existing_or_new(path, options.wait)?;
-        if opened.made {
-            self.files.push(path.to_path_buf());
+    fn folder(&mut self) -> Result<(), Error> {
+        let path = self.place.path();
+        if !path.is_dir() {
+            fs::create_dir(path).map_err(Error::file("make", path))?;
+            self.folder = true;
+        }
+        self.place.no_two_alike(self.plan.disks)
+    }
+
+    /// Opens or makes a file. Without force it has to be new: another process may have made it just now.
+    fn file(&mut self, path: &Path) -> Result<Opened, Error> {
+        let opened = Opened::existing_or_new(path, self.options.wait)?;
+        match (opened.made, self.plan.force) {
+            (true, _) => self.files.push(path.to_path_buf()),
+            (false, true) => {}
+            (false, false) => return Err(there(self.place)),
         }
         Ok(opened)
     }
 
     fn remove(&self) {
         self.files.iter().for_each(|path| drop(fs::remove_file(path)));
-        self.folder.iter().for_each(|path| drop(fs::remove_dir(path)));
+        if self.folder {
+            drop(fs::remove_dir(self.place.path()));
+        }
     }
 }
 
-fn formatted(files: Files, plan: &Plan, options: &Options) -> Result<Volume, Error> {
-    let state = trial::format(plan.size, plan.rows, plan.disks)?;
-    let mut medium = Medium::of(&files, &state)?;
+fn formatted(files: Files, plan: &Plan, state: &State, options: &Options) -> Result<Volume, Error> {
+    let mut medium = Medium::of(&files, state)?;
     let state = State::format(medium.bytes_mut(), plan.size, plan.rows, plan.disks)?;
     let mut volume = Volume::with(files, medium, state, 0, options);
     volume.flush()?;

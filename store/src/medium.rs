@@ -61,6 +61,8 @@ impl Medium {
         let behind = bytes.saturating_sub(PAGE);
         let mapped = self.mapping.map(PAGE, &image.file, PAGE as u64, behind);
         mapped.map_err(Error::file("map", &image.path))?;
+        // What an image shorter than a page gets in its first page are zeros, in the file as in the front.
+        self.behind_record.resize(bytes.min(PAGE) - State::RECORD_BYTES, 0);
         self.end = bytes;
         Ok(())
     }

@@ -5,7 +5,7 @@ use streterva::Restarted;
 
 use crate::error::Error;
 use crate::mapping::PAGE;
-use crate::place::{Form, Opened, Place};
+use crate::place::{keep_name, Form, Opened, Place};
 use crate::record::Sector;
 use crate::trial;
 use crate::volume::{in_whole_pages, set_aside, Options};
@@ -34,6 +34,7 @@ pub fn restore(path: &Path, sector: &Sector, from: &Path, force: bool, options: 
     if place.form() == Form::Folder {
         record.lengthen(PAGE as u64)?;
         set_aside(&record, 0, PAGE as u64)?;
+        keep_name(&record.path)?;
     }
     let written = record.file.write_all_at(sector, place.record_byte());
     written.map_err(Error::file("write", &record.path))?;

@@ -138,6 +138,8 @@ impl Volume {
     /// with `lengthen` is made longer; in a folder the files of the added disks are made, where they do not exist yet.
     pub fn grow(&mut self, count: u64, beyond_doubling: bool, lengthen: bool) -> Result<u64, Error> {
         trial::grow(&self.state, count, beyond_doubling)?;
+        // Before files are made for it: where the flush fails there is no growth.
+        self.flush()?;
         match self.files.place.form() {
             Form::Image => self.make_room_in_image(count, lengthen)?,
             Form::Folder => self.add_disks(count)?,
@@ -301,9 +303,11 @@ impl Volume {
         let opened = (there..count).try_for_each(|disk| {
             let path = self.files.place.disk_path(disk);
             added.push(Opened::existing_or_new(&path, self.options.wait)?);
-            added.iter_mut().last().map_or(Ok(()), |new| make_disk(new, &self.state))
+            Ok(())
         });
-        if let Err(error) = opened {
+        // All of them are locked before one that is there is made longer.
+        let made = opened.and_then(|()| added.iter_mut().try_for_each(|new| make_disk(new, &self.state)));
+        if let Err(error) = made {
             added.iter().filter(|new| new.made).for_each(|new| drop(fs::remove_file(&new.path)));
             return Err(error);
         }

@@ -7,7 +7,7 @@
 #[path = "../../../store/tests/common/mod.rs"]
 pub mod of_the_store;
 
-use std::fs;
+use std::fs::{self, File};
 use std::io::{ErrorKind, Write};
 use std::ops::Range;
 use std::path::{Path, PathBuf};
@@ -212,7 +212,7 @@ impl Rack {
 
     /// Gives a file in the folder another length.
     pub fn cut(&self, name: &str, bytes: u64) {
-        let file = fs::File::options().write(true).open(self.path(name)).expect("the file can be opened");
+        let file = File::options().write(true).open(self.path(name)).expect("the file can be opened");
         file.set_len(bytes).expect("the file can be cut");
     }
 
@@ -358,6 +358,18 @@ pub fn without_rate(text: &str) -> String {
     assert!(seconds.parse::<f64>().is_ok(), "{text}");
     assert!(rate.replace(',', "").parse::<u64>().is_ok(), "{text}");
     format!("{before} in .. s, .. bytes a second{rest}")
+}
+
+/// A file, locked as another process locks it that has the volume.
+pub fn locked(path: &Path) -> File {
+    let file = File::open(path).expect("the file can be opened");
+    file.lock().expect("the file can be locked");
+    file
+}
+
+/// Ends a lock. To close the file is not enough while a child that another test starts has it too.
+pub fn unlock(lock: File) {
+    lock.unlock().expect("the lock can be ended");
 }
 
 /// The path of a program that the tests compare with.

@@ -100,12 +100,9 @@ fn two_names_of_one_file() {
     rack.call("read volume 0").with_status(1);
 }
 
-/// What is no volume at all is no fault of one.
 #[test]
-fn what_cannot_be_opened() {
+fn a_folder_without_a_record() {
     let rack = Rack::new(Form::Folder, 8, 3);
-    let told = rack.call("check nothing").with_status(3);
-    assert_eq!(told.text(), "");
     fs::remove_file(rack.record()).expect("the file can be removed");
-    rack.call("check volume").with_status(3);
+    one_fault(&rack, "volume has no volume: it is a folder without a file record", (0, 0));
 }

@@ -1,11 +1,10 @@
 //! What is not of one subcommand: help, version, completions, and waiting for another process.
 
-use std::fs::File;
 use std::process::Command;
 use std::thread;
 use std::time::{Duration, Instant};
 
-use crate::common::{piece, Form, Rack, Refused, FORMS, SIZE};
+use crate::common::{locked, piece, unlock, Form, Rack, Refused, FORMS, SIZE};
 
 /// The subcommands that the help names.
 fn subcommands(rack: &Rack) -> Vec<String> {
@@ -66,13 +65,6 @@ fn completions_for_every_shell() {
     assert!(read.success());
 }
 
-/// A lock, as another process that has the volume holds it.
-fn locked(rack: &Rack, name: &str) -> File {
-    let file = File::open(rack.path(name)).expect("the file can be opened");
-    file.lock().expect("the file can be locked");
-    file
-}
-
 fn files_with_locks(form: Form) -> &'static [&'static str] {
     match form {
         Form::Image => &["volume"],
@@ -83,14 +75,14 @@ fn files_with_locks(form: Form) -> &'static [&'static str] {
 /// Who reads or writes blocks is told; who only looks at the record is not.
 fn another_process_has(rack: &Rack, name: &str) {
     rack.put("show", "a show");
-    let lock = locked(rack, name);
+    let lock = locked(&rack.path(name));
     let sentence = format!("{name} is in use by another process");
     for call in ["write volume 0", "grow volume 4", "advance volume", "run volume", "import volume show"] {
         rack.refused(call, Refused(7, None, &sentence));
     }
     assert_eq!(rack.call("read volume 0").with_status(7).error, format!("streterva: {sentence}\n"));
     ["status", "check", "chart", "examine"].iter().for_each(|name| drop(rack.done(&format!("{name} volume"))));
-    drop(lock);
+    unlock(lock);
 }
 
 #[test]
@@ -106,13 +98,13 @@ fn a_volume_that_another_process_has() {
 fn waiting_as_long_as_is_allowed() {
     for form in FORMS {
         let rack = Rack::new(form, 8, 3);
-        let lock = locked(&rack, files_with_locks(form)[0]);
+        let lock = locked(&rack.record());
         let start = Instant::now();
         rack.call("grow volume 5 --wait 0.3").with_status(7);
         assert!(start.elapsed() >= Duration::from_millis(300));
         let waiting = rack.start("write volume 3 --wait 20", &piece(SIZE, 3, 1));
         thread::sleep(Duration::from_millis(300));
-        drop(lock);
+        unlock(lock);
         waiting.ended().done();
         assert_eq!(rack.done("read volume 3").out, piece(SIZE, 3, 1));
     }

@@ -1,6 +1,5 @@
 //! Ctrl-C, progress that is told, and a file that is cut while it is read.
 
-use std::fs::File;
 use std::io::Read;
 use std::process::Stdio;
 use std::thread;
@@ -8,7 +7,7 @@ use std::time::Duration;
 
 use serde_json::json;
 
-use crate::common::{number, signal, Form, Rack, Running, FORMS, SIZE};
+use crate::common::{locked, number, signal, unlock, Form, Rack, Running, FORMS, SIZE};
 
 /// Long enough for a call to get to its work.
 const UNDER_WAY: Duration = Duration::from_millis(400);
@@ -122,14 +121,13 @@ fn an_image_is_cut_while_it_is_read() {
 fn waiting_for_a_lock_is_interrupted() {
     for form in FORMS {
         let rack = Rack::new(form, 8, 3);
-        let lock = File::open(rack.record()).expect("the record can be opened");
-        lock.lock().expect("the record can be locked");
-        let running = rack.start("write volume 0 --wait 20", &[1; SIZE as usize]);
+        let lock = locked(&rack.record());
+        let running = rack.start("write volume 0 --wait 5", &[1; SIZE as usize]);
         thread::sleep(UNDER_WAY);
         running.interrupt();
         let ended = rack.unchanged(|| running.ended());
         assert_eq!((ended.status(), ended.text()), (130, ""));
-        drop(lock);
+        unlock(lock);
     }
 }
 
