@@ -175,6 +175,13 @@ struct Copied {
     calls_left: u64,
 }
 
+impl Copied {
+    fn new(done: &'static str, volume: &Path, file: &Path, state: &State, calls_left: u64) -> Copied {
+        let (volume, file) = (volume.display().to_string(), file.display().to_string());
+        Copied { volume, file, done, counts: counts(state), calls_left }
+    }
+}
+
 impl Answer for Copied {
     fn text(&self) -> String {
         let counts: Vec<String> = self.counts.iter().map(u64::to_string).collect();
@@ -189,27 +196,14 @@ impl Answer for Copied {
 pub fn backup(arguments: &args::BackupRecord, json: bool) -> anyhow::Result<()> {
     let look = Look::at_record(&arguments.volume)?;
     write_whole(&arguments.file, &look.sector, arguments.force)?;
-    let told = Copied {
-        volume: arguments.volume.display().to_string(),
-        file: arguments.file.display().to_string(),
-        done: "backed up",
-        counts: counts(&look.state),
-        calls_left: look.calls_left,
-    };
-    tell(&told, json)
+    tell(&Copied::new("backed up", &arguments.volume, &arguments.file, &look.state, look.calls_left), json)
 }
 
 pub fn restore_record(arguments: &args::RestoreRecord, options: &Options, json: bool) -> anyhow::Result<()> {
     let sector = kept(&arguments.file)?;
     let restarted = restore(&arguments.volume, &sector, &arguments.file, arguments.force, options)?;
-    let told = Copied {
-        volume: arguments.volume.display().to_string(),
-        file: arguments.file.display().to_string(),
-        done: "restored",
-        counts: counts(&restarted.state),
-        calls_left: restarted.calls_left,
-    };
-    tell(&told, json)
+    let Restarted { state, calls_left } = restarted;
+    tell(&Copied::new("restored", &arguments.volume, &arguments.file, &state, calls_left), json)
 }
 
 /// The sector in a file that `backup-record` made.

@@ -15,7 +15,7 @@ use common::{number, piece, pieces, Form, Rack, SIZE};
 use libc::SIGKILL;
 use serde_json::Value;
 
-const ROWS: u64 = 64;
+const ROWS: u64 = 256;
 /// Calls that are killed in each form, at least, and of each kind.
 const KILLS: u64 = 30;
 const KILLS_OF_EACH: u64 = 3;
@@ -85,7 +85,7 @@ impl Victim {
     fn next_kind(&mut self, status: &Value) -> Kind {
         let last_growth = status["counts"].as_array().is_some_and(|counts| counts.len() == 8);
         match (status["growth"].is_null(), last_growth) {
-            (false, _) => self.random.choose(&[Kind::Run, Kind::Run, Kind::Advance, Kind::Write, Kind::Import]),
+            (false, _) => self.random.choose(&[Kind::Run, Kind::Advance, Kind::Write, Kind::Import]),
             (true, false) => self.random.choose(&[Kind::Grow, Kind::Grow, Kind::Write, Kind::Import]),
             (true, true) => self.random.choose(&[Kind::Write, Kind::Import]),
         }
@@ -100,8 +100,8 @@ impl Victim {
                 let count = disks + 1 + self.random.below(disks.min(2));
                 (format!("grow volume {count}"), 0..0)
             }
-            Kind::Advance => (format!("advance volume --calls {}", 1 + self.random.below(30)), 0..0),
-            Kind::Run => (format!("run volume --quiet --rate {}", self.random.choose(&["32K", "256K", "4M"])), 0..0),
+            Kind::Advance => (format!("advance volume --calls {}", 1 + self.random.below(100)), 0..0),
+            Kind::Run => (format!("run volume --quiet --rate {}", self.random.choose(&["32K", "128K", "1M"])), 0..0),
             Kind::Write => (format!("write volume {block}"), block..block + 1),
             Kind::Import => (format!("import volume show --first {block}"), block..open.min(block + 20)),
         }
@@ -114,7 +114,7 @@ impl Victim {
         self.version += 1;
         let input = pieces(&blocks, self.version);
         self.rack.put("show", &input);
-        blocks.clone().for_each(|block| drop(self.saved.remove(&block)));
+        self.saved.retain(|block, _| !blocks.contains(block));
         let fed: &[u8] = if kind == Kind::Write { &input } else { b"" };
         let mut running = self.rack.start(&call, fed);
         // The first moments are the more likely ones: most calls do not take long.

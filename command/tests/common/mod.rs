@@ -20,8 +20,11 @@ use serde_json::{json, Value};
 use streterva_store::Place;
 use tempfile::TempDir;
 
-pub use of_the_store::{contents, piece, FORMS};
+pub use of_the_store::{contents, piece};
 pub use streterva_store::Form;
+
+/// Both forms of a volume.
+pub const FORMS: [Form; 2] = of_the_store::FORMS;
 
 pub const PROGRAM: &str = env!("CARGO_BIN_EXE_streterva");
 
