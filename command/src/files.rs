@@ -4,7 +4,7 @@ use std::fs::File;
 use std::io::{self, Write};
 use std::path::{Path, PathBuf};
 
-use streterva_store::Error;
+use streterva_store::{Error, Place};
 use tempfile::NamedTempFile;
 
 /// A file under way: it has its name only when it is kept.
@@ -15,8 +15,9 @@ pub struct NewFile {
 }
 
 impl NewFile {
-    /// Begins a file in the folder of this path. Without `replace` nothing may be there.
-    pub fn begin(path: &Path, replace: bool) -> Result<NewFile, Error> {
+    /// Begins a file in the folder of this path. Without `replace` nothing may be there, and never a file of the volume.
+    pub fn begin(path: &Path, replace: bool, volume: &Place) -> Result<NewFile, Error> {
+        volume.is_apart_from(path)?;
         if !replace && path.symlink_metadata().is_ok() {
             return Err(there(path));
         }
@@ -50,8 +51,8 @@ impl NewFile {
 }
 
 /// Writes a file of these bytes, whole or not at all, and flushes it.
-pub fn write_whole(path: &Path, bytes: &[u8], replace: bool) -> Result<(), Error> {
-    let mut new = NewFile::begin(path, replace)?;
+pub fn write_whole(path: &Path, bytes: &[u8], replace: bool, volume: &Place) -> Result<(), Error> {
+    let mut new = NewFile::begin(path, replace, volume)?;
     let written = new.file().write_all(bytes).and_then(|()| new.file().sync_all());
     written.map_err(Error::file("write", path))?;
     new.keep()

@@ -195,7 +195,7 @@ impl Answer for Copied {
 
 pub fn backup(arguments: &args::BackupRecord, json: bool) -> anyhow::Result<()> {
     let look = Look::at_record(&arguments.volume)?;
-    write_whole(&arguments.file, &look.sector, arguments.force)?;
+    write_whole(&arguments.file, &look.sector, arguments.force, &look.place)?;
     tell(&Copied::new("backed up", &arguments.volume, &arguments.file, &look.state, look.calls_left), json)
 }
 

@@ -14,6 +14,9 @@ use crate::failure::Failure;
 use crate::numbers::{commas, counted};
 use crate::tell::{bar, tell, Answer};
 
+/// The most bytes of a scene list: some hundred for each of 65,536 scenes.
+const MOST_BYTES: u64 = 16 << 20;
+
 /// A scene of a list, with its name, which may be empty.
 pub struct Named {
     pub scene: Scene,
@@ -24,8 +27,8 @@ pub struct Named {
 /// left out.
 pub fn read(path: &Path) -> anyhow::Result<Vec<Named>> {
     let text = match path == Path::new("-") {
-        true => io::read_to_string(io::stdin()),
-        false => read_file(path),
+        true => read_text(io::stdin()),
+        false => fs::File::open(path).and_then(read_text),
     };
     let text = text.with_context(|| format!("cannot read {}", path.display()))?;
     let lines = text.lines().zip(1..);
@@ -33,17 +36,27 @@ pub fn read(path: &Path) -> anyhow::Result<Vec<Named>> {
         let line = line.split('#').next().unwrap_or("").trim();
         let wrong = || {
             let place = format!("{}, line {number}", path.display());
-            Failure::Input(format!("{place}: a first block and a count are expected, and there is '{line}'"))
+            Failure::Input(format!("{place}: a first block and a count are expected, and there is '{}'", start(line)))
         };
         (!line.is_empty()).then(|| scene(line).ok_or_else(wrong))
     });
     Ok(scenes.collect::<Result<_, _>>()?)
 }
 
-fn read_file(path: &Path) -> io::Result<String> {
+fn read_text(from: impl Read) -> io::Result<String> {
     let mut text = String::new();
-    fs::File::open(path)?.read_to_string(&mut text)?;
-    Ok(text)
+    from.take(MOST_BYTES + 1).read_to_string(&mut text)?;
+    match text.len() as u64 > MOST_BYTES {
+        true => Err(io::Error::other("it is too long for a scene list")),
+        false => Ok(text),
+    }
+}
+
+/// The start of a line that may be anything, for a sentence.
+fn start(line: &str) -> String {
+    let start: String = line.chars().take(40).collect();
+    let rest = if start.len() < line.len() { " .." } else { "" };
+    format!("{}{rest}", start.escape_debug())
 }
 
 fn scene(line: &str) -> Option<Named> {

@@ -62,6 +62,7 @@ impl Answer for Transferred {
 pub fn import(arguments: &args::Import, options: &Options, general: &General) -> anyhow::Result<()> {
     let (file, bytes) = open_to_look(&arguments.file)?;
     let mut volume = Volume::open(&arguments.volume, options)?;
+    volume.place().is_apart_from(&arguments.file)?;
     let start = Instant::now();
     let size = volume.state().size();
     let blocks = bytes.div_ceil(size);
@@ -178,7 +179,7 @@ pub fn export(arguments: &args::Export, options: &Options, general: &General) ->
         progress.end();
         return Ok(());
     }
-    let mut new = NewFile::begin(&arguments.file, arguments.force)?;
+    let mut new = NewFile::begin(&arguments.file, arguments.force, volume.place())?;
     let written = write_all(&volume, first, blocks, new.file(), &mut progress);
     progress.end();
     written.with_context(|| format!("cannot write {}", arguments.file.display()))?;

@@ -17,12 +17,12 @@ use serde_json::Value;
 
 const ROWS: u64 = 256;
 /// Calls that are killed in each form, at least, and of each kind.
-const KILLS: u64 = 30;
-const KILLS_OF_EACH: u64 = 3;
-/// Growths that are begun in each form, at least.
+const KILLS: u64 = 40;
+const KILLS_OF_EACH: u64 = 4;
+/// Growths that come to their end in each form, at least.
 const GROWTHS: u64 = 3;
 /// Calls after which so many kills and growths have to be reached.
-const MOST_CALLS: u64 = 500;
+const MOST_CALLS: u64 = 1000;
 /// The last moment at which a call is killed, in microseconds.
 const LAST_MOMENT: u64 = 40_000;
 
@@ -83,11 +83,9 @@ impl Victim {
 
     /// A kind of call that the volume takes now.
     fn next_kind(&mut self, status: &Value) -> Kind {
-        let last_growth = status["counts"].as_array().is_some_and(|counts| counts.len() == 8);
-        match (status["growth"].is_null(), last_growth) {
-            (false, _) => self.random.choose(&[Kind::Run, Kind::Advance, Kind::Write, Kind::Import]),
-            (true, false) => self.random.choose(&[Kind::Grow, Kind::Grow, Kind::Write, Kind::Import]),
-            (true, true) => self.random.choose(&[Kind::Write, Kind::Import]),
+        match status["growth"].is_null() {
+            false => self.random.choose(&[Kind::Run, Kind::Advance, Kind::Write, Kind::Import]),
+            true => self.random.choose(&[Kind::Grow, Kind::Grow, Kind::Write, Kind::Import]),
         }
     }
 
@@ -142,34 +140,44 @@ impl Victim {
     }
 
     /// Takes a growth to its end, which takes the calls that are told to be left.
-    fn complete(&self) {
+    fn complete(&mut self) {
         let growth = self.status()["growth"].clone();
         if growth.is_null() {
             return;
         }
         let told = self.rack.told("run volume");
         assert_eq!((&told["calls"], &told["finished"]), (&growth["calls_left"], &Value::Bool(true)), "{self}");
+        self.growths += 1;
         self.look();
     }
 
-    fn kill_again_and_again(&mut self) {
-        for calls in 0.. {
-            assert!(calls < MOST_CALLS, "{self}");
-            let status = self.status();
-            self.growths = status["counts"].as_array().expect("a list of counts").len() as u64 - 1;
-            if self.is_enough() {
-                break;
-            }
-            let open = number(&status["open_blocks"]);
-            (0..2).for_each(|_| self.save(open));
-            self.kill(&status);
-            self.look();
-            if self.random.one_in(8) {
-                self.complete();
-            }
+    /// Saves, then kills a call, and looks. A volume that has had its last growth makes room for a new one.
+    fn step(&mut self) {
+        let status = self.status();
+        let growths = status["counts"].as_array().expect("a list of counts").len() - 1;
+        if growths == 7 && status["growth"].is_null() {
+            self.rack = Rack::new(self.rack.form, ROWS, 1);
+            self.saved.clear();
+            return;
         }
+        let open = number(&status["open_blocks"]);
+        (0..2).for_each(|_| self.save(open));
+        self.kill(&status);
+        self.look();
+        if self.random.one_in(8) {
+            self.complete();
+        }
+    }
+
+    fn kill_again_and_again(&mut self) {
+        let calls = (0..MOST_CALLS).take_while(|_| {
+            self.step();
+            !self.is_enough()
+        });
+        let calls = calls.count() as u64;
         self.complete();
         println!("{self}");
+        assert!(calls < MOST_CALLS, "{self}");
     }
 }
 

@@ -120,6 +120,17 @@ impl Place {
         }
     }
 
+    /// Fails where the path names a file of the volume itself, by this name or another.
+    pub fn is_apart_from(&self, path: &Path) -> Result<(), Error> {
+        let Ok(told) = fs::metadata(path) else { return Ok(()) };
+        let disks = (0..State::MOST_DISKS).map(|disk| self.disk_path(disk));
+        let mut own = disks.chain([self.record_path()]).filter_map(|own| fs::metadata(own).ok());
+        match own.any(|own| identity(&own) == identity(&told)) {
+            true => Err(Error::Declined(format!("{} is a file of the volume itself", path.display()))),
+            false => Ok(()),
+        }
+    }
+
     /// Fails where two names of this folder, with so many disks, are those of one file or device.
     pub(crate) fn no_two_alike(&self, disks: u64) -> Result<(), Error> {
         let mut seen = HashSet::new();

@@ -47,7 +47,7 @@ pub fn run(arguments: &args::Report, json: bool) -> anyhow::Result<()> {
     };
     let text = page::page(&facts(&look, scenes)?);
     let replace = arguments.force || is_report(&arguments.out);
-    write_whole(&arguments.out, text.as_bytes(), replace)?;
+    write_whole(&arguments.out, text.as_bytes(), replace, &look.place)?;
     let drawn = Drawn {
         volume: arguments.volume.display().to_string(),
         page: arguments.out.display().to_string(),
