@@ -8,6 +8,7 @@ use streterva_store::{detail, Error, Look, Options, Volume};
 
 use crate::args::{self, General};
 use crate::failure::Failure;
+use crate::interrupt;
 use crate::numbers::commas;
 use crate::tell::{print, tell, Answer};
 
@@ -41,7 +42,7 @@ pub fn write(arguments: &args::OneBlock, options: &Options, json: bool) -> anyho
     let mut volume = Volume::open(&arguments.volume, options)?;
     let size = volume.state().size();
     let mut piece = vec![];
-    io::stdin().lock().take(size + 1).read_to_end(&mut piece)?;
+    interrupt::waiting(|| io::stdin().lock().take(size + 1).read_to_end(&mut piece))??;
     volume.write(Block(arguments.block), &piece)?;
     volume.flush()?;
     let volume = arguments.volume.display().to_string();

@@ -2,7 +2,9 @@
 
 use std::fmt;
 use std::io;
+use std::{env, process};
 
+use clap::error::ErrorKind;
 use serde_json::json;
 use streterva::{LoadRefusal, Refusal};
 use streterva_store::Error;
@@ -69,6 +71,11 @@ fn refusal(error: &anyhow::Error) -> Option<u64> {
     }
 }
 
+/// Whether another process has the volume.
+pub fn is_locked(error: &anyhow::Error) -> bool {
+    matches!(error.downcast_ref(), Some(Error::Locked { .. }))
+}
+
 /// Whether there is nothing to say: the answer has said it, or the reader of what is printed has gone away.
 pub fn is_silent(error: &anyhow::Error) -> bool {
     let kind = error.downcast_ref::<io::Error>().map(io::Error::kind);
@@ -85,5 +92,22 @@ pub fn told(error: &anyhow::Error, as_json: bool) -> String {
     if !as_json {
         return format!("streterva: {sentence}");
     }
-    json!({"error": {"status": status(error), "refusal": refusal(error), "sentence": sentence}}).to_string()
+    object(status(error), refusal(error), &sentence)
+}
+
+fn object(status: u8, refusal: Option<u64>, sentence: &str) -> String {
+    json!({"error": {"status": status, "refusal": refusal, "sentence": sentence}}).to_string()
+}
+
+/// Ends the process with what is wrong in its arguments, or with the help that they ask for.
+pub fn end_with_usage(error: &clap::Error) -> ! {
+    let is_json = env::args_os().any(|argument| argument == "--json");
+    let is_help = !error.use_stderr() || error.kind() == ErrorKind::DisplayHelpOnMissingArgumentOrSubcommand;
+    if is_help || !is_json {
+        error.exit();
+    }
+    let text = error.to_string();
+    let lines: Vec<&str> = text.lines().map(str::trim).take_while(|line| !line.is_empty()).collect();
+    eprintln!("{}", object(2, None, lines.join(" ").trim_start_matches("error: ")));
+    process::exit(2);
 }

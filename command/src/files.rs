@@ -15,11 +15,17 @@ pub struct NewFile {
 }
 
 impl NewFile {
-    /// Begins a file in the folder of this path. Without `replace` nothing may be there, and never a file of the volume.
+    /// Begins a file in the folder of this path. Without `replace` nothing may be there, with it only a file, and never
+    /// one of the volume.
     pub fn begin(path: &Path, replace: bool, volume: &Place) -> Result<NewFile, Error> {
         volume.is_apart_from(path)?;
-        if !replace && path.symlink_metadata().is_ok() {
-            return Err(there(path));
+        match path.symlink_metadata() {
+            Ok(_) if !replace => return Err(there(path)),
+            Ok(told) if !told.is_file() => {
+                let sentence = format!("{} is no file, and only a file is overwritten", path.display());
+                return Err(Error::Declined(sentence));
+            }
+            _ => {}
         }
         let folder = match path.parent() {
             Some(parent) if !parent.as_os_str().is_empty() => parent,

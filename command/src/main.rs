@@ -22,17 +22,20 @@ mod tell;
 mod transfer;
 
 use std::process::ExitCode;
-use std::time::Duration;
+use std::time::{Duration, Instant};
 
 use clap::{CommandFactory, Parser};
 use streterva_store::{end_on_bus_errors, Options};
 
 use crate::args::{Arguments, Command};
 
+/// Between two looks whether another process still has the volume.
+const BETWEEN_LOOKS: Duration = Duration::from_millis(20);
+
 fn main() -> ExitCode {
-    let arguments = Arguments::parse();
+    let arguments = Arguments::try_parse().unwrap_or_else(|error| failure::end_with_usage(&error));
     end_on_bus_errors();
-    let done = interrupt::note_requests().and_then(|()| run(&arguments));
+    let done = interrupt::note_requests().and_then(|()| run_in_time(&arguments));
     match done {
         Ok(()) => ExitCode::SUCCESS,
         Err(error) => {
@@ -44,10 +47,24 @@ fn main() -> ExitCode {
     }
 }
 
+/// Runs the command, and again as long as another process has the volume and there is time to wait.
+fn run_in_time(arguments: &Arguments) -> anyhow::Result<()> {
+    let end = Instant::now() + Duration::from_secs_f64(arguments.general.wait);
+    loop {
+        match run(arguments) {
+            Err(error) if failure::is_locked(&error) && Instant::now() < end => {
+                interrupt::wait_until(end.min(Instant::now() + BETWEEN_LOOKS));
+                interrupt::go_on()?;
+            }
+            told => return told,
+        }
+    }
+}
+
 fn run(arguments: &Arguments) -> anyhow::Result<()> {
     let general = &arguments.general;
     let json = general.json;
-    let options = Options { wait: Duration::from_secs_f64(general.wait), ..Options::default() };
+    let options = Options::default();
     match &arguments.command {
         Command::Create(of) => create::run(of, &options, json),
         Command::Status(of) => status::run(of, general),

@@ -11,6 +11,7 @@ use streterva_store::Look;
 
 use crate::args;
 use crate::failure::Failure;
+use crate::interrupt;
 use crate::numbers::{commas, counted};
 use crate::tell::{bar, tell, Answer};
 
@@ -27,7 +28,7 @@ pub struct Named {
 /// left out.
 pub fn read(path: &Path) -> anyhow::Result<Vec<Named>> {
     let text = match path == Path::new("-") {
-        true => read_text(io::stdin()),
+        true => interrupt::waiting(|| read_text(io::stdin()))?,
         false => fs::File::open(path).and_then(read_text),
     };
     let text = text.with_context(|| format!("cannot read {}", path.display()))?;

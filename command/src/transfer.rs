@@ -170,7 +170,9 @@ pub fn export(arguments: &args::Export, options: &Options, general: &General) ->
     let volume = Volume::open(&arguments.volume, options)?;
     let start = Instant::now();
     let (first, size) = (arguments.first, volume.state().size());
-    let blocks = arguments.blocks.unwrap_or(volume.open_blocks().saturating_sub(first));
+    // At least one, so that a first block that is not open is refused.
+    let rest = volume.open_blocks().saturating_sub(first).max(1);
+    let blocks = arguments.blocks.unwrap_or(rest);
     fits(&volume, first, blocks)?;
     let mut progress = Progress::new(general, "written", blocks, size);
     if to_standard_output {
@@ -182,7 +184,10 @@ pub fn export(arguments: &args::Export, options: &Options, general: &General) ->
     let mut new = NewFile::begin(&arguments.file, arguments.force, volume.place())?;
     let written = write_all(&volume, first, blocks, new.file(), &mut progress);
     progress.end();
-    written.with_context(|| format!("cannot write {}", arguments.file.display()))?;
+    written.map_err(|error| match error.downcast() {
+        Ok(error) => Error::file("write", &arguments.file)(error).into(),
+        Err(other) => other,
+    })?;
     new.keep()?;
     let told = Transferred {
         done: "wrote",

@@ -1,5 +1,5 @@
-//! Calls of the command that are killed at random moments. What was saved before by a call that ended well is read after
-//! it, the volume has no fault, and the growth goes on with the calls that are told to be left.
+//! Calls of the command that are killed at random moments. What was saved before by a call that ended well is read
+//! after it, the volume has no fault, and the growth goes on with the calls that are told to be left.
 
 mod common;
 

@@ -1,5 +1,5 @@
-//! The report's page as people see it: opened in Chromium, measured, photographed and printed, and compared with what is
-//! stored in the folder `report` beside this file. With STRETERVA_STORE_REPORT=1 it is stored anew.
+//! The report's page as people see it: opened in Chromium, measured, photographed and printed, and compared with what
+//! is stored in the folder `report` beside this file. With STRETERVA_STORE_REPORT=1 it is stored anew.
 
 mod common;
 
@@ -126,7 +126,18 @@ fn the_page_is_as_it_is_stored() {
 
 /// What a page can name that is not in it.
 const OTHER_RESOURCES: [&str; 12] = [
-    "src=", "srcset=", "href=", "url(", "@import", "<script", "<link", "<iframe", "<object", "<embed", "<base", "http-equiv",
+    "src=",
+    "srcset=",
+    "href=",
+    "url(",
+    "@import",
+    "<script",
+    "<link",
+    "<iframe",
+    "<object",
+    "<embed",
+    "<base",
+    "http-equiv",
 ];
 
 #[test]

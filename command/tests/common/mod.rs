@@ -1,5 +1,5 @@
-//! What the tests of the command share: a folder with a volume in it, calls of the command there, and what has to hold of
-//! them. Pieces, random numbers and the bytes of all files are those of the store layer's tests.
+//! What the tests of the command share: a folder with a volume in it, calls of the command there, and what has to hold
+//! of them. Pieces, random numbers and the bytes of all files are those of the store layer's tests.
 
 // Each test program uses a part of it.
 #![allow(dead_code)]
@@ -213,6 +213,11 @@ impl Rack {
         fs::read(self.path(name)).unwrap_or_else(|error| panic!("{name}: {error}"))
     }
 
+    /// Removes a file in the folder.
+    pub fn remove(&self, name: &str) {
+        fs::remove_file(self.path(name)).unwrap_or_else(|error| panic!("{name}: {error}"));
+    }
+
     /// Gives a file in the folder another length.
     pub fn cut(&self, name: &str, bytes: u64) {
         let file = File::options().write(true).open(self.path(name)).expect("the file can be opened");
@@ -274,12 +279,18 @@ impl Rack {
         told
     }
 
-    /// Makes a call that is refused, in words and as JSON, and leaves every file as it is.
+    /// Makes a call that is refused.
     pub fn refused(&self, call: &str, expected: Refused) {
         self.refused_when_fed(call, b"", expected);
     }
 
-    /// The same with something on standard input.
+    /// Makes calls that are all refused in this way.
+    pub fn all_refused(&self, calls: &[&str], expected: Refused) {
+        calls.iter().for_each(|call| self.refused(call, expected));
+    }
+
+    /// Makes a call with something on standard input that is refused, in words and as JSON, and leaves every file as it
+    /// is.
     pub fn refused_when_fed(&self, call: &str, input: &[u8], expected: Refused) {
         let Refused(status, number, sentence) = expected;
         let told = self.unchanged(|| self.fed(call, input));
@@ -295,7 +306,7 @@ impl Rack {
     pub fn save(&self, blocks: Range<u64>, version: u64) {
         self.put("saves", pieces(&blocks, version));
         self.done(&format!("import volume saves --quiet --first {}", blocks.start));
-        fs::remove_file(self.path("saves")).expect("the file can be removed");
+        self.remove("saves");
     }
 
     /// All open blocks, one after the other.
@@ -330,6 +341,11 @@ impl Rack {
     }
 }
 
+/// Each of these with each of those.
+pub fn pairs<'a, A, B>(these: &'a [A], those: &'a [B]) -> impl Iterator<Item = (&'a A, &'a B)> {
+    these.iter().flat_map(|one| those.iter().map(move |other| (one, other)))
+}
+
 /// The pieces of these blocks in this version, one after the other.
 pub fn pieces(blocks: &Range<u64>, version: u64) -> Vec<u8> {
     blocks.clone().flat_map(|block| piece(SIZE, block, version)).collect()
@@ -361,6 +377,12 @@ pub fn without_rate(text: &str) -> String {
     assert!(seconds.parse::<f64>().is_ok(), "{text}");
     assert!(rate.replace(',', "").parse::<u64>().is_ok(), "{text}");
     format!("{before} in .. s, .. bytes a second{rest}")
+}
+
+/// Makes a pipe with a name.
+pub fn make_pipe(rack: &Rack, name: &str) {
+    let made = Command::new("mkfifo").arg(rack.path(name)).status().expect("mkfifo starts");
+    assert!(made.success());
 }
 
 /// A file, locked as another process locks it that has the volume.

@@ -104,7 +104,8 @@ fn where_a_block_is_and_why() {
     assert_eq!(told.text(), expected);
     rack.grow_and_run(5);
     let told = rack.done("where volume 4");
-    let expected = "block 4 is on disk 4 in row 1, at byte 11,264 of the medium: moved by growth 1 as head, moved once\n";
+    let expected =
+        "block 4 is on disk 4 in row 1, at byte 11,264 of the medium: moved by growth 1 as head, moved once\n";
     assert_eq!(told.text(), expected);
     let expected = json!({
         "block": 24, "disk": 4, "row": 4, "byte": 12800, "why": "added", "growth": 1, "part": null, "moves": 0

@@ -46,9 +46,10 @@ fn as_the_program_prints_it_in_every_stage() {
     for form in FORMS {
         let rack = Rack::new(form, 24, 2);
         as_the_program(&rack);
-        for count in [4, 5, 9, 16] {
-            rack.grow_in_stages(count, 13, as_the_program);
-        }
+        rack.grow_in_stages(4, 13, as_the_program);
+        rack.grow_in_stages(5, 13, as_the_program);
+        rack.grow_in_stages(9, 29, as_the_program);
+        rack.grow_in_stages(16, 47, as_the_program);
     }
 }
 

@@ -1,5 +1,4 @@
-use std::fs;
-use std::path::Path;
+use std::os::unix::fs::symlink;
 
 use serde_json::json;
 
@@ -45,7 +44,8 @@ fn a_damaged_record() {
         let rack = Rack::new(form, 8, 3);
         rack.damage(19, b'?');
         let record = record_name(form);
-        let fault = format!("{record} has no volume: its record is refused with 13: column s, byte 19: '?' is no digit");
+        let fault =
+            format!("{record} has no volume: its record is refused with 13: column s, byte 19: '?' is no digit");
         one_fault(&rack, &fault, (0, 0));
         let sentence = rack.call("status volume").with_status(6).error;
         assert_eq!(sentence, format!("streterva: {fault}\n"));
@@ -82,7 +82,7 @@ fn a_disk_that_is_cut_short_and_one_that_is_missing() {
     rack.cut("volume/disk-01", 4000);
     one_fault(&rack, "volume/disk-01 is too short: it has 4000 bytes and needs 4096", (24, 24));
     rack.call("read volume 0").with_status(5);
-    fs::remove_file(rack.path("volume/disk-00")).expect("the file can be removed");
+    rack.remove("volume/disk-00");
     let told = rack.call("check volume --json").with_status(4).json();
     assert_eq!(told["faults"], 2);
     assert_eq!(told["told"][0], "cannot open volume/disk-00: No such file or directory (os error 2)");
@@ -94,8 +94,8 @@ fn a_disk_that_is_cut_short_and_one_that_is_missing() {
 #[test]
 fn two_names_of_one_file() {
     let rack = Rack::new(Form::Folder, 8, 3);
-    fs::remove_file(rack.path("volume/disk-02")).expect("the file can be removed");
-    std::os::unix::fs::symlink(Path::new("disk-01"), rack.path("volume/disk-02")).expect("a link can be made");
+    rack.remove("volume/disk-02");
+    symlink("disk-01", rack.path("volume/disk-02")).expect("a link can be made");
     one_fault(&rack, "volume/disk-02 is a second name of another file of the volume", (24, 24));
     rack.call("read volume 0").with_status(1);
 }
@@ -103,6 +103,6 @@ fn two_names_of_one_file() {
 #[test]
 fn a_folder_without_a_record() {
     let rack = Rack::new(Form::Folder, 8, 3);
-    fs::remove_file(rack.record()).expect("the file can be removed");
+    rack.remove("volume/record");
     one_fault(&rack, "volume has no volume: it is a folder without a file record", (0, 0));
 }

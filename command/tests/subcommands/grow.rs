@@ -1,5 +1,5 @@
 use std::collections::BTreeMap;
-use std::time::{Duration, Instant};
+use std::time::Instant;
 
 use serde_json::{json, Value};
 
@@ -86,18 +86,19 @@ fn forecast_and_grow(rack: &Rack, rows: u64, count: u64) {
 }
 
 /// Through seven growths, after each of which all that was saved before is read.
+fn seven_growths(form: Form) {
+    let (rows, rack) = (16, Rack::new(form, 16, 1));
+    let counts = [1, 2, 3, 5, 6, 11, 12, 16];
+    for (disks, count) in counts.into_iter().zip(counts.into_iter().skip(1)) {
+        rack.save(0..rows * disks, count);
+        forecast_and_grow(&rack, rows, count);
+        rack.has(0..rows * disks, count);
+    }
+}
+
 #[test]
 fn a_dry_run_tells_what_the_growth_does() {
-    for form in FORMS {
-        let (rows, rack) = (16, Rack::new(form, 16, 1));
-        let mut disks = 1;
-        for count in [2, 3, 5, 6, 11, 12, 16] {
-            rack.save(0..rows * disks, count);
-            forecast_and_grow(&rack, rows, count);
-            rack.has(0..rows * disks, count);
-            disks = count;
-        }
-    }
+    FORMS.into_iter().for_each(seven_growths);
 }
 
 #[test]
@@ -147,8 +148,8 @@ fn a_growth_beyond_doubling() {
     }
 }
 
-/// The calls of a growth in their order, as docs/VOLUME.md has them: true where a block is copied, false where the copies
-/// of a window are recorded.
+/// The calls of a growth in their order, as docs/VOLUME.md has them: true where a block is copied, false where the
+/// copies of a window are recorded.
 fn calls_of_growth(from: u64, to: u64, rows: u64) -> Vec<bool> {
     let of_window = |window: u64| {
         let moving = (0..from).flat_map(|disk| disk..disk + to - from);
@@ -158,8 +159,8 @@ fn calls_of_growth(from: u64, to: u64, rows: u64) -> Vec<bool> {
     (0..rows.div_ceil(to)).flat_map(of_window).collect()
 }
 
-/// Where so many calls lead. No record has all copies of a window and the window not finished, so the call that finishes
-/// it belongs to the last copy.
+/// Where so many calls lead. No record has all copies of a window and the window not finished, so the call that
+/// finishes it comes with the last copy.
 fn position_after(calls: &[bool], position: usize, made: usize) -> usize {
     let next = position + made;
     match calls.get(next) {
@@ -189,38 +190,40 @@ fn advance_to_the_end(rack: &Rack, calls: &[bool], at_a_time: usize) {
     }
 }
 
+/// Growths whose processes make 1, 4, 7 and 1000 calls each.
+fn growths_of_many_processes(form: Form) {
+    let (rows, rack) = (16, Rack::new(form, 16, 2));
+    rack.save(0..32, 1);
+    for (from, to, at_a_time) in [(2, 3, 1), (3, 5, 4), (5, 7, 7), (7, 9, 1000)] {
+        rack.done(&format!("grow volume {to}"));
+        advance_to_the_end(&rack, &calls_of_growth(from, to, rows), at_a_time);
+        rack.has(0..32, 1);
+    }
+    assert_eq!(rack.told("status volume")["counts"], json!([2, 3, 5, 7, 9]));
+}
+
 #[test]
 fn advance_makes_as_many_calls_as_it_is_told() {
-    for form in FORMS {
-        let (rows, rack) = (16, Rack::new(form, 16, 2));
-        rack.save(0..32, 1);
-        for (from, to, at_a_time) in [(2, 3, 1), (3, 5, 4), (5, 7, 7), (7, 9, 1000)] {
-            rack.done(&format!("grow volume {to}"));
-            advance_to_the_end(&rack, &calls_of_growth(from, to, rows), at_a_time);
-            rack.has(0..32, 1);
-        }
-        assert_eq!(rack.told("status volume")["counts"], json!([2, 3, 5, 7, 9]));
-    }
+    FORMS.into_iter().for_each(growths_of_many_processes);
 }
 
-/// A call that takes this long at least, and not much longer.
+/// A call that takes this long at least, and not much longer: flushes may take some time too.
 fn takes(seconds: f64, call: impl FnOnce() -> Value) {
     let start = Instant::now();
-    let told = call();
-    let took = start.elapsed();
-    let told = told["seconds"].as_f64().expect("a number of seconds");
-    assert!(told >= seconds && told <= took.as_secs_f64(), "{told} s are told and {took:?} were taken");
-    assert!(took < Duration::from_secs_f64(seconds + 2.5), "{took:?}");
+    let told = call()["seconds"].as_f64().expect("a number of seconds");
+    let took = start.elapsed().as_secs_f64();
+    assert!(told >= seconds && told <= took, "{told} s are told, and {took} s were taken");
+    assert!(told < seconds * 1.5 + 0.5, "{told} s are told, and {seconds} s are enough");
 }
 
-/// 48 blocks of 512 bytes, with 24 of them first.
+/// A growth of 48 blocks of 512 bytes, the first half of them by advance.
 #[test]
 fn a_rate_is_kept() {
     for form in FORMS {
         let rack = Rack::new(form, 40, 3);
         assert_eq!(rack.told("grow volume 5")["calls_left"], 48 + 8);
-        takes(0.25, || rack.told("advance volume --calls 28 --rate 48K"));
-        takes(0.5, || rack.told("run volume --rate 24K"));
+        takes(0.5, || rack.told("advance volume --calls 28 --rate 24K"));
+        takes(1.0, || rack.told("run volume --rate 12K"));
         assert_eq!(rack.told("status volume")["growth"], Value::Null);
     }
 }

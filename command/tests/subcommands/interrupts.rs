@@ -61,6 +61,16 @@ fn an_interrupted_run_as_json() {
     }
 }
 
+/// The request of a machine that shuts down is heard as Ctrl-C is.
+#[test]
+fn a_run_is_asked_to_end() {
+    let (rack, mut running) = slow_run(Form::Folder, "--json");
+    thread::sleep(UNDER_WAY);
+    signal(running.child().id(), libc::SIGTERM);
+    let told = running.ended().with_status(130).json();
+    goes_on(&rack, number(&told["calls_left"]));
+}
+
 /// Off a terminal, a line every second; none with --quiet.
 #[test]
 fn progress_is_told() {

@@ -1,5 +1,3 @@
-use std::fs;
-
 use serde_json::json;
 
 use crate::common::{Form, Rack, FORMS, RECORD};
@@ -36,29 +34,31 @@ fn a_sound_record_in_words() {
 }
 
 /// The same record in the volume, in its file, and in a copy of 512 bytes.
-#[test]
-fn a_sound_record_in_every_kind_of_file() {
-    for form in FORMS {
-        let rack = Rack::new(form, 8, 3);
-        rack.done("grow volume 5");
-        rack.done("advance volume --calls 8");
-        rack.done("backup-record volume kept");
-        let record = json!({
-            "block_bytes": 512, "rows": 8, "growths": 1, "counts": [3, 5], "growing": true, "window": 1, "windows": 2,
-            "marks": [0], "recorded_blocks": [15], "open_blocks": 24, "calls_left": 5
-        });
-        let (file, byte) = match form {
-            Form::Image => ("volume", 0),
-            Form::Folder => ("volume/record", 3584),
-        };
-        for (asked, file, byte) in [("volume", file, byte), (file, file, byte), ("kept", "kept", 0)] {
-            let expected = json!({"file": file, "byte": byte, "sound": true, "refused": null, "record": record});
-            assert_eq!(rack.told(&format!("examine {asked}")), expected, "{asked}");
-        }
+fn in_every_kind_of_file(form: Form) {
+    let rack = Rack::new(form, 8, 3);
+    rack.done("grow volume 5");
+    rack.done("advance volume --calls 8");
+    rack.done("backup-record volume kept");
+    let record = json!({
+        "block_bytes": 512, "rows": 8, "growths": 1, "counts": [3, 5], "growing": true, "window": 1,
+        "windows": 2, "marks": [0], "recorded_blocks": [15], "open_blocks": 24, "calls_left": 5
+    });
+    let (file, byte) = match form {
+        Form::Image => ("volume", 0),
+        Form::Folder => ("volume/record", 3584),
+    };
+    for (asked, file, byte) in [("volume", file, byte), (file, file, byte), ("kept", "kept", 0)] {
+        let expected = json!({"file": file, "byte": byte, "sound": true, "refused": null, "record": record});
+        assert_eq!(rack.told(&format!("examine {asked}")), expected, "{asked}");
     }
 }
 
-/// A byte of the record of a volume of 3 disks that grow to 5, what is put there, and the column and byte that are told.
+#[test]
+fn a_sound_record_in_every_kind_of_file() {
+    FORMS.into_iter().for_each(in_every_kind_of_file);
+}
+
+/// A byte of the record of 3 disks that grow to 5, what is put there, and the column, byte and reason that are told.
 const DAMAGES: [(usize, u8, &str, u64, &str); 10] = [
     (0, b'x', "Z", 0, "'x' is no digit"),
     (9, b'3', "Z", 0, "513 is no multiple of 512"),
@@ -72,20 +72,22 @@ const DAMAGES: [(usize, u8, &str, u64, &str); 10] = [
     (511, b' ', "end", 511, "a space where the line feed, 0x0A, is due"),
 ];
 
+fn damages_are_told(form: Form) {
+    let rack = Rack::new(form, 8, 3);
+    rack.done("grow volume 5");
+    rack.done("advance volume --calls 1");
+    let sound = rack.sector();
+    for (byte, with, column, told_byte, reason) in DAMAGES {
+        rack.damage(byte, with);
+        damage_is_told(&rack, column, told_byte, reason);
+        rack.damage(byte, sound[byte]);
+    }
+    rack.done("examine volume");
+}
+
 #[test]
 fn a_damaged_record() {
-    for form in FORMS {
-        let rack = Rack::new(form, 8, 3);
-        rack.done("grow volume 5");
-        rack.done("advance volume --calls 1");
-        let sound = rack.sector();
-        for (byte, with, column, told_byte, reason) in DAMAGES {
-            rack.damage(byte, with);
-            damage_is_told(&rack, column, told_byte, reason);
-            rack.damage(byte, sound[byte]);
-        }
-        rack.done("examine volume");
-    }
+    FORMS.into_iter().for_each(damages_are_told);
 }
 
 fn damage_is_told(rack: &Rack, column: &str, byte: u64, reason: &str) {
@@ -157,8 +159,7 @@ fn the_same_record_changes_nothing() {
         let rack = Rack::new(form, 8, 3);
         rack.done("backup-record volume kept");
         let told = rack.unchanged(|| rack.told("restore-record volume kept"));
-        let expected =
-            json!({"volume": "volume", "file": "kept", "done": "restored", "counts": [3], "calls_left": 0});
+        let expected = json!({"volume": "volume", "file": "kept", "done": "restored", "counts": [3], "calls_left": 0});
         assert_eq!(told, expected);
     }
 }
@@ -187,7 +188,7 @@ fn the_lost_file_of_a_record_is_restored() {
     let rack = Rack::new(Form::Folder, 8, 3);
     rack.save(0..24, 1);
     rack.done("backup-record volume kept");
-    fs::remove_file(rack.record()).expect("the file can be removed");
+    rack.remove("volume/record");
     rack.done("restore-record volume kept");
     rack.has(0..24, 1);
     rack.cut("volume/record", RECORD as u64);

@@ -49,6 +49,7 @@ fn a_wrong_scene_list() {
     let rack = Rack::new(Form::Image, 8, 3);
     rack.done("report volume page.html");
     rack.put("scenes", "0 24\n3 22\n");
-    let sentence = "refused with 17: the scene at place 1 reaches past the open blocks or stands after the first 65,536";
+    let sentence =
+        "refused with 17: the scene at place 1 reaches past the open blocks or stands after the first 65,536";
     rack.refused("report volume page.html --scenes scenes", Refused(1, Some(17), sentence));
 }

@@ -76,7 +76,8 @@ fn every_field() {
         let growing = json!({
             "counts": [3, 5], "open_blocks": 24, "open_bytes": 12288, "blocks_on_disk": [5, 6, 6, 4, 3],
             "growth": {
-                "number": 1, "from": 3, "to": 5, "window": 1, "windows": 2, "calls_left": 5, "calls": 13, "per_cent": 61.5
+                "number": 1, "from": 3, "to": 5, "window": 1, "windows": 2, "calls_left": 5, "calls": 13,
+                "per_cent": 61.5
             }
         });
         assert_eq!(rack.told("status volume"), expected(form, 5, growing));

@@ -13,12 +13,14 @@ fn a_whole_file_in_and_out() {
         rack.put("show", pieces(&(0..24), 1));
         let told = without_seconds(rack.told("import volume show"));
         let expected = json!({
-            "done": "saved", "volume": "volume", "file": "show", "first": 0, "blocks": 24, "bytes": 12288, "complete": true
+            "done": "saved", "volume": "volume", "file": "show", "first": 0, "blocks": 24, "bytes": 12288,
+            "complete": true
         });
         assert_eq!(told, expected);
         let told = without_seconds(rack.told("export volume copy"));
         let expected = json!({
-            "done": "wrote", "volume": "volume", "file": "copy", "first": 0, "blocks": 24, "bytes": 12288, "complete": true
+            "done": "wrote", "volume": "volume", "file": "copy", "first": 0, "blocks": 24, "bytes": 12288,
+            "complete": true
         });
         assert_eq!(told, expected);
         assert!(rack.get("copy") == rack.get("show"));
