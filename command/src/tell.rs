@@ -22,8 +22,12 @@ pub fn tell(answer: &impl Answer, as_json: bool) -> anyhow::Result<()> {
 /// Prints bytes as they are.
 pub fn print(bytes: &[u8]) -> anyhow::Result<()> {
     let mut out = io::stdout().lock();
-    out.write_all(bytes)?;
-    Ok(out.flush()?)
+    out.write_all(bytes).and_then(|()| out.flush()).map_err(not_printed)
+}
+
+/// For `map_err`: what was printed did not arrive.
+pub fn not_printed(error: io::Error) -> anyhow::Error {
+    anyhow::Error::new(error).context("cannot write to standard output")
 }
 
 /// A bar of `width` columns, filled in proportion; something is shown of whatever is above 0.

@@ -1,7 +1,9 @@
 //! `import` and `export`.
 
 use std::fs::File;
-use std::io::{self, Read, Write};
+use std::io::{self, IoSlice, Read, Write};
+use std::ops::Range;
+use std::os::fd::AsFd;
 use std::path::Path;
 use std::sync::mpsc::{sync_channel, Receiver, SyncSender};
 use std::thread;
@@ -18,10 +20,13 @@ use crate::files::NewFile;
 use crate::interrupt;
 use crate::numbers::{commas, counted};
 use crate::progress::Progress;
-use crate::tell::{tell, Answer};
+use crate::tell::{not_printed, tell, Answer};
 
 /// Bytes read from a file at a time, or the most whole blocks below it.
 const PART_BYTES: u64 = 1 << 20;
+
+/// Blocks written with one call at the most; systems have a limit.
+const MOST_SLICES: u64 = 512;
 
 /// Parts that are read ahead of the saves.
 const PARTS_AHEAD: usize = 4;
@@ -176,18 +181,16 @@ pub fn export(arguments: &args::Export, options: &Options, general: &General) ->
     fits(&volume, first, blocks)?;
     let mut progress = Progress::new(general, "written", blocks, size);
     if to_standard_output {
-        let mut out = io::stdout().lock();
-        write_all(&volume, first, blocks, &mut out, &mut progress)?;
+        let mut out = File::from(io::stdout().as_fd().try_clone_to_owned().map_err(not_printed)?);
+        let written = write_all(&volume, first..first + blocks, &mut out, not_printed, &mut progress);
         progress.end();
-        return Ok(());
+        return written;
     }
     let mut new = NewFile::begin(&arguments.file, arguments.force, volume.place())?;
-    let written = write_all(&volume, first, blocks, new.file(), &mut progress);
+    let failed = |error| Error::file("write", &arguments.file)(error).into();
+    let written = write_all(&volume, first..first + blocks, new.file(), failed, &mut progress);
     progress.end();
-    written.map_err(|error| match error.downcast() {
-        Ok(error) => Error::file("write", &arguments.file)(error).into(),
-        Err(other) => other,
-    })?;
+    written?;
     new.keep()?;
     let told = Transferred {
         done: "wrote",
@@ -202,19 +205,37 @@ pub fn export(arguments: &args::Export, options: &Options, general: &General) ->
     tell(&told, general.json)
 }
 
+/// Writes these blocks from the mapped files, some at a time; `failed` makes the error where that fails.
 fn write_all(
     volume: &Volume,
-    first: u64,
-    blocks: u64,
-    out: &mut impl Write,
+    blocks: Range<u64>,
+    out: &mut File,
+    failed: impl Fn(io::Error) -> anyhow::Error,
     progress: &mut Progress,
 ) -> anyhow::Result<()> {
-    for block in first..first + blocks {
+    volume.expect_much();
+    let at_a_time = (PART_BYTES / volume.state().size()).min(MOST_SLICES);
+    for start in blocks.clone().step_by(at_a_time as usize) {
         interrupt::go_on()?;
-        out.write_all(volume.view(Block(block))?)?;
-        progress.add(1);
+        let part = start..blocks.end.min(start + at_a_time);
+        let views = part.clone().map(|block| volume.view(Block(block)).map(IoSlice::new));
+        write_slices(out, &mut views.collect::<Result<Vec<_>, _>>()?).map_err(&failed)?;
+        progress.add(part.end - part.start);
     }
-    Ok(out.flush()?)
+    Ok(())
+}
+
+/// Writes all slices, with as few calls as the system takes.
+fn write_slices(out: &mut File, mut slices: &mut [IoSlice]) -> io::Result<()> {
+    while !slices.is_empty() {
+        match out.write_vectored(slices) {
+            Ok(0) => return Err(io::ErrorKind::WriteZero.into()),
+            Ok(written) => IoSlice::advance_slices(&mut slices, written),
+            Err(error) if error.kind() == io::ErrorKind::Interrupted => {}
+            Err(error) => return Err(error),
+        }
+    }
+    Ok(())
 }
 
 fn ended_early(complete: bool) -> anyhow::Result<()> {

@@ -5,9 +5,9 @@ mod common;
 
 use std::fs;
 use std::path::{Path, PathBuf};
-use std::process::{Command, Output};
+use std::process::Command;
 
-use common::{Form, Rack};
+use common::{Ended, Form, Rack, Running};
 
 const BROWSER: &str = "chromium";
 
@@ -50,23 +50,21 @@ fn page(rack: &Rack) -> String {
 }
 
 /// Has the browser open a page of the rack's folder.
-fn browse(rack: &Rack, words: &[&str], page: &str) -> Output {
+fn browse(rack: &Rack, words: &[&str], page: &str) -> Ended {
     let folder = format!("--user-data-dir={}", rack.path("browser").display());
     let always = ["--headless", "--no-sandbox", "--disable-gpu", "--hide-scrollbars", folder.as_str()];
     let mut command = Command::new(BROWSER);
     command.args(always).args(words).arg(rack.path(page)).current_dir(rack.path(""));
-    let output = command.output().unwrap_or_else(|error| panic!("the tests of the report need {BROWSER}: {error}"));
-    assert!(output.status.success(), "{BROWSER}: {}", String::from_utf8_lossy(&output.stderr));
-    output
+    let running = Running::begin(&mut command, b"");
+    running.unwrap_or_else(|error| panic!("the tests of the report need {BROWSER}: {error}")).ended().with_status(0)
 }
 
 /// The height of the page in the window, and its text as it is seen, with its date masked.
 fn measured(rack: &Rack) -> (u32, String) {
     rack.put("measured.html", page(rack).replace("</body>", &format!("{MEASURE}</body>")));
     let window = format!("--window-size={WIDTH},800");
-    let output = browse(rack, &["--dump-dom", "--virtual-time-budget=2000", &window], "measured.html");
-    let shown = String::from_utf8(output.stdout).expect("the page is text");
-    let (_, shown) = shown.split_once("height ").expect("the height was put there");
+    let shown = browse(rack, &["--dump-dom", "--virtual-time-budget=2000", &window], "measured.html");
+    let (_, shown) = shown.text().split_once("height ").expect("the height was put there");
     let (shown, _) = shown.split_once("\nend").expect("the text was put there");
     let (height, text) = shown.split_once('\n').expect("the text is behind the height");
     (height.parse().expect("a number"), masked(text))
@@ -107,12 +105,31 @@ fn stored_bytes(name: &str, now: &[u8]) -> Vec<u8> {
     fs::read(stored(name)).unwrap_or_else(|error| panic!("{}: {error}", stored(name).display()))
 }
 
+/// The first lines in which two texts differ.
+fn first_difference<'a>(text: &'a str, other: &'a str) -> Option<(&'a str, &'a str)> {
+    let mut both = text.lines().chain(["the end"]).zip(other.lines().chain(["the end"]));
+    both.find(|(line, other)| line != other)
+}
+
+fn is_as_stored(name: &str, text: &str) {
+    let stored_text = stored_bytes(name, text.as_bytes());
+    let difference = first_difference(text, &String::from_utf8_lossy(&stored_text)).map(|(a, b)| format!("{a} | {b}"));
+    assert_eq!(difference, None, "the page | {name}");
+}
+
+/// A volume that never grew, in a folder.
+#[test]
+fn the_page_of_a_new_volume_is_as_it_is_stored() {
+    let rack = Rack::new(Form::Folder, 8, 2);
+    rack.done("report volume page.html");
+    is_as_stored("new.txt", &measured(&rack).1);
+}
+
 #[test]
 fn the_page_is_as_it_is_stored() {
     let rack = rack();
     let (height, text) = measured(&rack);
-    let stored_text = stored_bytes("page.txt", text.as_bytes());
-    assert_eq!(text, String::from_utf8(stored_text).expect("text is stored"));
+    is_as_stored("page.txt", &text);
 
     let window = format!("--window-size={WIDTH},{height}");
     browse(&rack, &["--screenshot=page.png", &window], "page.html");

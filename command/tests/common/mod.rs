@@ -8,7 +8,7 @@
 pub mod of_the_store;
 
 use std::fs::{self, File};
-use std::io::{ErrorKind, Write};
+use std::io::{self, ErrorKind, Write};
 use std::ops::Range;
 use std::path::{Path, PathBuf};
 use std::process::{Child, Command, ExitStatus, Output, Stdio};
@@ -44,7 +44,7 @@ pub fn signal(process: u32, number: i32) {
     assert_eq!(sent, 0, "process {process} gets no signal");
 }
 
-/// What a call of the command ended with.
+/// What a call ended with.
 #[derive(Debug)]
 pub struct Ended {
     pub call: String,
@@ -55,7 +55,7 @@ pub struct Ended {
 
 impl Ended {
     fn of(call: String, output: Output) -> Ended {
-        let error = String::from_utf8(output.stderr).expect("standard error is text");
+        let error = String::from_utf8_lossy(&output.stderr).into_owned();
         Ended { call, how: output.status, out: output.stdout, error }
     }
 
@@ -99,13 +99,25 @@ fn one_object(text: &str) -> Value {
     value
 }
 
-/// A call of the command that is under way.
+/// A call that is under way.
 pub struct Running {
     call: String,
     child: Child,
 }
 
 impl Running {
+    /// Begins a call and feeds it standard input.
+    pub fn begin(command: &mut Command, input: &[u8]) -> io::Result<Running> {
+        let call = format!("{command:?}");
+        let mut child = command.stdin(Stdio::piped()).stdout(Stdio::piped()).stderr(Stdio::piped()).spawn()?;
+        let mut pipe = child.stdin.take().expect("it is a pipe");
+        if let Err(error) = pipe.write_all(input) {
+            // A call may end without reading it.
+            assert_eq!(error.kind(), ErrorKind::BrokenPipe);
+        }
+        Ok(Running { call, child })
+    }
+
     /// Ctrl-C.
     pub fn interrupt(&self) {
         signal(self.child.id(), libc::SIGINT);
@@ -233,19 +245,7 @@ impl Rack {
 
     /// Begins a call and feeds it standard input.
     pub fn start(&self, call: &str, input: &[u8]) -> Running {
-        let mut child = self
-            .command(call)
-            .stdin(Stdio::piped())
-            .stdout(Stdio::piped())
-            .stderr(Stdio::piped())
-            .spawn()
-            .expect("the command starts");
-        let mut pipe = child.stdin.take().expect("it is a pipe");
-        if let Err(error) = pipe.write_all(input) {
-            // A call may end without reading it.
-            assert_eq!(error.kind(), ErrorKind::BrokenPipe);
-        }
-        Running { call: call.to_string(), child }
+        Running::begin(&mut self.command(call), input).expect("the command starts")
     }
 
     /// Makes a call with something on standard input.
@@ -326,10 +326,12 @@ impl Rack {
 
     /// Takes the volume through a growth, some advance calls at a time, and looks at it in every stage.
     pub fn grow_in_stages(&self, count: u64, calls: u64, mut look: impl FnMut(&Rack)) {
-        let mut left = self.told(&format!("grow volume {count}"))["calls_left"].clone();
-        while left != 0 {
+        let mut left = number(&self.told(&format!("grow volume {count}"))["calls_left"]);
+        while left > 0 {
             look(self);
-            left = self.told(&format!("advance volume --calls {calls}"))["calls_left"].clone();
+            let told = number(&self.told(&format!("advance volume --calls {calls}"))["calls_left"]);
+            assert!(told < left, "{left} calls were left, and then {told}");
+            left = told;
         }
         look(self);
     }

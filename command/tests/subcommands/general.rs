@@ -1,8 +1,13 @@
 //! What is not of one subcommand: help, version, completions, and waiting for another process.
 
+use std::ffi::OsStr;
+use std::fs::File;
+use std::os::unix::ffi::OsStrExt;
 use std::process::Command;
 use std::thread;
 use std::time::{Duration, Instant};
+
+use serde_json::Value;
 
 use crate::common::{locked, piece, unlock, Form, Rack, Refused, FORMS, SIZE};
 
@@ -15,33 +20,15 @@ fn subcommands(rack: &Rack) -> Vec<String> {
     named.map(|line| line.split_whitespace().next().expect("a name").to_string()).collect()
 }
 
+const SUBCOMMANDS: &str =
+    "create status examine grow advance run write read import export where holder load chart check \
+                           backup-record restore-record report completions help";
+
 #[test]
 fn every_subcommand_has_help() {
     let rack = Rack::empty(Form::Image);
     let all = subcommands(&rack);
-    let expected = [
-        "create",
-        "status",
-        "examine",
-        "grow",
-        "advance",
-        "run",
-        "write",
-        "read",
-        "import",
-        "export",
-        "where",
-        "holder",
-        "load",
-        "chart",
-        "check",
-        "backup-record",
-        "restore-record",
-        "report",
-        "completions",
-        "help",
-    ];
-    assert_eq!(all, expected);
+    assert_eq!(all.join(" "), SUBCOMMANDS);
     for name in all.iter().filter(|name| *name != "help") {
         let told = rack.done(&format!("{name} --help"));
         let (about, rest) = told.text().split_once("\n\nUsage: streterva ").expect("a sentence, then the usage");
@@ -81,6 +68,35 @@ fn completions_for_every_shell() {
     }
     let read = Command::new("bash").arg("-n").arg(rack.path("bash")).status().expect("bash starts");
     assert!(read.success());
+}
+
+/// Names with spaces and letters of other alphabets, with a dash first, and with a byte that is no text.
+const NAMES: [(&[u8], &str); 3] = [("Rück 7".as_bytes(), "Rück 7"), (b"-rack", "-rack"), (b"rack\xFF", "rack\u{fffd}")];
+
+#[test]
+fn names_of_every_kind() {
+    let rack = Rack::empty(Form::Image);
+    for (name, told) in NAMES {
+        let call = |words: &str| rack.command(words).arg("--").arg(OsStr::from_bytes(name)).output();
+        let created = call("create --size 512 --rows 8 --disks 3").expect("the command starts");
+        assert_eq!(created.status.code(), Some(0), "{}", String::from_utf8_lossy(&created.stderr));
+        let status = call("status --json").expect("the command starts");
+        let status: Value = serde_json::from_slice(&status.stdout).expect("an object");
+        assert_eq!(status["volume"], told);
+    }
+}
+
+/// What is printed has to arrive: a full drive behind standard output is told, and not taken for the volume's.
+#[test]
+fn an_answer_that_cannot_be_written() {
+    let rack = Rack::new(Form::Image, 8, 3);
+    let sentence = "cannot write to standard output: No space left on device (os error 28)";
+    for call in ["status volume", "status volume --json", "read volume 0", "export volume -", "chart volume"] {
+        let full = File::options().write(true).open("/dev/full").expect("there is a full device");
+        let told = rack.command(call).stdout(full).output().expect("the command starts");
+        let error = String::from_utf8_lossy(&told.stderr);
+        assert!(told.status.code() == Some(3) && error.contains(sentence), "{call}: {error}");
+    }
 }
 
 /// Who reads or writes blocks is told; who only looks at the record is not.
@@ -128,8 +144,8 @@ fn waiting_for_a_run() {
         let rack = Rack::new(form, 8, 3);
         rack.save(0..24, 1);
         rack.done("grow volume 5");
-        let running = rack.start("run volume --rate 8K --quiet", b"");
-        thread::sleep(Duration::from_millis(200));
+        let running = rack.start("run volume --rate 4K --quiet", b"");
+        thread::sleep(Duration::from_millis(400));
         rack.call("read volume 0").with_status(7);
         assert_eq!(rack.done("read volume 7 --wait 20").out, piece(SIZE, 7, 1));
         assert_eq!(rack.told("status volume")["open_blocks"], 40);

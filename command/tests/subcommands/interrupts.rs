@@ -122,8 +122,8 @@ fn an_image_is_cut_while_it_is_read() {
     let rack = Rack::new(Form::Image, 1000, 3);
     let running = waiting_export(&rack);
     rack.cut("volume", 4096);
-    let told = running.ended().with_status(3);
-    assert!(told.error.starts_with("streterva: ") && told.error.ends_with('\n'), "{}", told.error);
+    let sentence = "a mapped file could not be read or written: a drive failed or is full, or a file was cut short";
+    assert_eq!(running.ended().with_status(3).error, format!("streterva: {sentence}\n"));
 }
 
 /// A call that waits for another process is ended by the first Ctrl-C.
