@@ -14,7 +14,7 @@ const EXIT_STATUS: &str = "Exit status:
   5    a file is too short for its volume
   6    no volume: the record is refused with 13
   7    another process has the volume
-  130  ended by Ctrl-C; what was done is kept, and the same command goes on
+  130  ended by Ctrl-C; what was saved and recorded is kept, and run goes on there
 
 VOL is an image file, or a folder with the files record and disk-00, disk-01, ..
 Sizes and rates take K, M or G behind the number: 64K is 65,536 bytes.";
@@ -173,7 +173,7 @@ pub struct Advance {
     /// The volume
     #[arg(value_name = "VOL")]
     pub volume: PathBuf,
-    /// Advance calls to make
+    /// Advance calls to make; copies are recorded at the end, which is one call more where it fills a window
     #[arg(long, value_name = "N", default_value = "1", value_parser = clap::value_parser!(u64).range(1..))]
     pub calls: u64,
     /// Copies at most so many bytes in a second

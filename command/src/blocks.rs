@@ -24,6 +24,7 @@ struct Found {
     block: u64,
     disk: u64,
     row: u64,
+    file: String,
     byte: u64,
     why: &'static str,
     growth: u64,
@@ -74,8 +75,9 @@ pub fn find(arguments: &args::OneBlock, json: bool) -> anyhow::Result<()> {
         Reason::Moved { growth, part } => ("moved", growth, Some(part_word(part))),
     };
     let (disk, row) = (told.spot.disk, told.spot.row.0);
-    let byte = State::medium_bytes(state.size(), 1, disk * state.rows() + row) as u64;
-    tell(&Found { block: arguments.block, disk, row, byte, why, growth, part, moves: told.moves }, json)
+    let (file, byte) = look.place.spot(state, disk, row);
+    let file = file.display().to_string();
+    tell(&Found { block: arguments.block, disk, row, file, byte, why, growth, part, moves: told.moves }, json)
 }
 
 impl Answer for Found {
@@ -86,11 +88,12 @@ impl Answer for Found {
             (growth, Some(part)) => format!("{} by growth {growth} as {part}", self.why),
         };
         format!(
-            "block {} is on disk {} in row {}, at byte {} of the medium: {why}, {}\n",
+            "block {} is on disk {} in row {}, at byte {} of {}: {why}, {}\n",
             commas(self.block),
             self.disk,
             commas(self.row),
             commas(self.byte),
+            self.file,
             match self.moves {
                 0 => "never moved".to_string(),
                 1 => "moved once".to_string(),

@@ -7,7 +7,7 @@ use std::{env, process};
 use clap::error::ErrorKind;
 use serde_json::json;
 use streterva::{LoadRefusal, Refusal};
-use streterva_store::Error;
+use streterva_store::{Error, MAPPED_FILE_FAILED};
 
 /// What the command itself finds wrong.
 #[derive(Debug)]
@@ -27,7 +27,7 @@ impl fmt::Display for Failure {
         match self {
             Failure::Usage(sentence) | Failure::Input(sentence) => f.write_str(sentence),
             Failure::Told(status) => write!(f, "exit status {status}"),
-            Failure::Interrupted => f.write_str("ended early; what was done is kept"),
+            Failure::Interrupted => f.write_str("ended early"),
         }
     }
 }
@@ -83,10 +83,21 @@ pub fn is_silent(error: &anyhow::Error) -> bool {
     told || kind == Some(io::ErrorKind::BrokenPipe)
 }
 
+/// Whether a mapped file could not be read by a call that writes its bytes elsewhere: that file is at fault, and not
+/// the one that is written.
+fn is_mapped_file(error: &anyhow::Error) -> bool {
+    let told = match error.downcast_ref() {
+        Some(Error::File { error, .. }) => Some(error),
+        _ => error.downcast_ref::<io::Error>(),
+    };
+    told.and_then(io::Error::raw_os_error) == Some(libc::EFAULT)
+}
+
 /// The error for standard error.
 pub fn told(error: &anyhow::Error, as_json: bool) -> String {
     let sentence = match error.downcast_ref::<LoadRefusal>() {
         Some(refusal) => format!("refused with {}: {refusal}", refusal.number()),
+        None if is_mapped_file(error) => MAPPED_FILE_FAILED.to_string(),
         None => format!("{error:#}"),
     };
     if !as_json {

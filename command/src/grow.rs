@@ -14,6 +14,7 @@ use crate::growth::Moves;
 use crate::interrupt;
 use crate::numbers::{commas, counted};
 use crate::progress::Progress;
+use crate::status::room;
 use crate::tell::{bar, tell, Answer};
 
 /// What a flush is taken to cost in an estimate, in seconds.
@@ -23,6 +24,7 @@ const FLUSH_SECONDS: f64 = 0.001;
 struct Forecast {
     dry_run: bool,
     volume: String,
+    room: u64,
     moves: Moves,
     blocks: u64,
     bytes: u64,
@@ -75,6 +77,7 @@ fn forecast(arguments: &args::Grow) -> anyhow::Result<Forecast> {
     Ok(Forecast {
         dry_run: true,
         volume: arguments.volume.display().to_string(),
+        room: room(&look),
         moves,
         blocks,
         bytes,
@@ -102,6 +105,9 @@ impl Answer for Forecast {
             let (stay, leave, arrive, new) = (stays[disk], leaves[disk], arrives[disk], added[disk]);
             let bar = bar(stay + arrive, rows, 20);
             text += &format!("  {disk:>4} {stay:>9} {leave:>9} {arrive:>9} {new:>9}  {bar}\n");
+        }
+        if self.room < *to {
+            text += &format!("  the file has room for {}: grow needs --lengthen\n", counted(self.room, "disk"));
         }
         let estimate = HumanDuration(Duration::from_secs_f64(self.estimated_seconds.max(1.0)));
         text + &format!(

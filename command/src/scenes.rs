@@ -12,7 +12,7 @@ use streterva_store::Look;
 use crate::args;
 use crate::failure::Failure;
 use crate::interrupt;
-use crate::numbers::{commas, counted};
+use crate::numbers::counted;
 use crate::tell::{bar, tell, Answer};
 
 /// The most bytes of a scene list: some hundred for each of 65,536 scenes.
@@ -93,7 +93,7 @@ impl Answer for Load {
         let mut text = format!("{} name {}\n", counted(self.scenes, "scene"), counted(self.blocks, "block"));
         let most = self.served.iter().copied().max().unwrap_or(0);
         for (disk, blocks) in self.served.iter().enumerate() {
-            text += &format!("  disk {disk:>2} {} {} blocks\n", bar(*blocks, most, 40), commas(*blocks));
+            text += &format!("  disk {disk:>2} {} {}\n", bar(*blocks, most, 40), counted(*blocks, "block"));
         }
         text
     }

@@ -13,6 +13,9 @@ use crate::interrupt;
 use crate::numbers::{commas, counted, per_cent};
 use crate::tell::{bar, print, tell, Answer};
 
+/// The shortest time between two looks, in seconds.
+const LEAST_INTERVAL: f64 = 0.05;
+
 #[derive(Serialize)]
 pub struct Status {
     volume: String,
@@ -49,7 +52,7 @@ pub fn run(arguments: &args::Status, general: &General) -> anyhow::Result<()> {
     }
     let on_terminal = io::stdout().is_terminal() && !general.json;
     loop {
-        interrupt::wait_until(Instant::now() + Duration::from_secs_f64(arguments.interval));
+        interrupt::wait_until(Instant::now() + Duration::from_secs_f64(arguments.interval.max(LEAST_INTERVAL)));
         if interrupt::requested() {
             return Ok(());
         }
@@ -146,7 +149,7 @@ impl Answer for Status {
             None => text += "  no growth is under way\n",
         }
         for (disk, blocks) in self.blocks_on_disk.iter().enumerate() {
-            text += &format!("  disk {disk:>2} {} {} blocks\n", bar(*blocks, self.rows, 40), commas(*blocks));
+            text += &format!("  disk {disk:>2} {} {}\n", bar(*blocks, self.rows, 40), counted(*blocks, "block"));
         }
         text
     }

@@ -98,8 +98,8 @@ fn fits(volume: &Volume, first: u64, blocks: u64) -> Result<(), Error> {
     if blocks == 0 || first.checked_add(blocks).is_some_and(|end| end <= open) {
         return Ok(());
     }
-    let last = first.saturating_add(blocks) - 1;
-    let detail = format!("blocks {first} to {last} are needed and blocks 0 to {} are open", open - 1);
+    let detail =
+        format!("{} from {first} on are needed and blocks 0 to {} are open", counted(blocks, "block"), open - 1);
     Err(Error::Refused { refusal: Refusal::BlockNotOpen, detail })
 }
 

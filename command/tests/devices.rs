@@ -20,7 +20,8 @@ impl Device {
     }
 
     fn all(rack: &Rack, count: usize, bytes: usize) -> Option<Vec<Device>> {
-        let devices: Option<Vec<Device>> = (0..count).map(|i| Device::new(rack, &format!("drive-{i}"), bytes)).collect();
+        let device = |drive| Device::new(rack, &format!("drive-{drive}"), bytes);
+        let devices: Option<Vec<Device>> = (0..count).map(device).collect();
         if devices.is_none() {
             println!("left out: no loop devices can be made here");
         }

@@ -23,7 +23,7 @@ pub use create::Plan;
 pub use drives::{Drives, MachineDrives};
 pub use error::Error;
 pub use look::Look;
-pub use mapping::{end_on_bus_errors, PAGE};
+pub use mapping::{end_on_bus_errors, MAPPED_FILE_FAILED, PAGE};
 pub use place::{open_to_look, Form, Place};
 pub use restore::restore;
 pub use volume::{detail, open_blocks, Options, Volume};

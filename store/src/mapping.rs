@@ -153,15 +153,18 @@ pub fn begin_writing(file: &File) {
     unsafe { libc::sync_file_range(file.as_raw_fd(), 0, 0, libc::SYNC_FILE_RANGE_WRITE) };
 }
 
-const BUS_ERROR: &[u8] =
-    b"streterva: a mapped file could not be read or written: a drive failed or is full, or a file was cut short\n";
+/// What is said where the kernel cannot read or write a mapped file. It tells so by SIGBUS, and where a call reads the
+/// mapped bytes by EFAULT.
+pub const MAPPED_FILE_FAILED: &str =
+    "a mapped file could not be read or written: a drive failed or is full, or a file was cut short";
 
 extern "C" fn bus_error(_: libc::c_int) {
-    // SAFETY: both calls may be made in a signal handler.
-    unsafe {
-        libc::write(2, BUS_ERROR.as_ptr().cast(), BUS_ERROR.len());
-        libc::_exit(3);
+    for part in ["streterva: ", MAPPED_FILE_FAILED, "\n"] {
+        // SAFETY: the bytes are constant, and the call may be made in a signal handler.
+        unsafe { libc::write(2, part.as_ptr().cast(), part.len()) };
     }
+    // SAFETY: the call may be made in a signal handler, and does not return.
+    unsafe { libc::_exit(3) };
 }
 
 /// Ends the process with a sentence and exit status 3 when a mapped file cannot be read or written, which the kernel

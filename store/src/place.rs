@@ -77,6 +77,15 @@ impl Place {
         self.path.join(format!("disk-{disk:02}"))
     }
 
+    /// The file that has a spot of this volume, and the byte at which the spot begins in it.
+    pub fn spot(&self, state: &State, disk: u64, row: u64) -> (PathBuf, u64) {
+        let from_disk = row * state.size();
+        match self.form {
+            Form::Image => (self.path.clone(), State::RECORD_BYTES as u64 + disk * disk_bytes(state) + from_disk),
+            Form::Folder => (self.disk_path(disk), from_disk),
+        }
+    }
+
     /// Fails where the place is a folder without a file for the record.
     pub(crate) fn has_record(&self) -> Result<(), Error> {
         let there = self.record_path().symlink_metadata();

@@ -66,21 +66,22 @@ fn number_3_a_block_that_is_not_open() {
     }
 }
 
-/// Calls for more than 24 blocks, the first block of each and the last.
-const TOO_MANY: [(&str, u64, u64); 6] = [
-    ("import volume show", 0, 24),
-    ("import volume show --first 7", 7, 31),
-    ("import volume show --first 1000000000000000", 1_000_000_000_000_000, 1_000_000_000_000_024),
-    ("export volume copy --blocks 25", 0, 24),
-    ("export volume copy --first 23 --blocks 2", 23, 24),
-    ("export volume copy --first 24", 24, 24),
+/// Calls for blocks beyond the last of 24, and the blocks that they need.
+const TOO_MANY: [(&str, &str); 7] = [
+    ("import volume show", "25 blocks from 0 on"),
+    ("import volume show --first 7", "25 blocks from 7 on"),
+    ("import volume show --first 1000000000000000", "25 blocks from 1000000000000000 on"),
+    ("import volume show --first 18446744073709551615", "25 blocks from 18446744073709551615 on"),
+    ("export volume copy --blocks 25", "25 blocks from 0 on"),
+    ("export volume copy --first 23 --blocks 2", "2 blocks from 23 on"),
+    ("export volume copy --first 24", "1 block from 24 on"),
 ];
 
 #[test]
 fn number_3_more_blocks_than_are_open() {
-    for (rack, (call, first, last)) in pairs(&racks(), &TOO_MANY) {
+    for (rack, (call, needed)) in pairs(&racks(), &TOO_MANY) {
         rack.put("show", vec![1; 24 * SIZE as usize + 1]);
-        let blocks = format!("blocks {first} to {last} are needed and blocks 0 to 23 are open");
+        let blocks = format!("{needed} are needed and blocks 0 to 23 are open");
         let sentence = format!("refused with 3: the block is not open: {blocks}");
         rack.refused(call, Refused(1, Some(3), &sentence));
     }

@@ -4,7 +4,7 @@ use std::collections::BTreeSet;
 
 use serde_json::{json, Value};
 
-use crate::common::{number, numbers, piece, Form, Rack, Refused, FORMS, RECORD, SIZE};
+use crate::common::{number, numbers, piece, Form, Rack, Refused, FORMS, SIZE};
 
 #[test]
 fn a_block_is_written_and_read() {
@@ -59,10 +59,10 @@ fn found(rack: &Rack, block: u64) -> Value {
 fn found_where_it_is(rack: &Rack, block: u64, rows: u64) -> (u64, u64) {
     let told = found(rack, block);
     let (disk, row) = (number(&told["disk"]), number(&told["row"]));
-    assert_eq!(number(&told["byte"]), RECORD as u64 + (disk * rows + row) * SIZE);
     let held = rack.told(&format!("holder volume {disk} {row}"));
     assert_eq!(held, json!({"disk": disk, "row": row, "block": block}));
     let (file, from) = rack.disk(disk, rows);
+    assert_eq!((&told["file"], number(&told["byte"])), (&json!(file), from + row * SIZE));
     let from = (from + row * SIZE) as usize;
     assert_eq!(rack.get(&file)[from..from + SIZE as usize], piece(SIZE, block, 1), "block {block}");
     (disk, row)
@@ -100,18 +100,17 @@ fn where_and_holder_are_inverse_in_every_stage() {
 fn where_a_block_is_and_why() {
     let rack = Rack::of_the_picture();
     let told = rack.unchanged(|| rack.done("where volume 4"));
-    let expected = "block 4 is on disk 1 in row 1, at byte 3,584 of the medium: set out at format, never moved\n";
+    let expected = "block 4 is on disk 1 in row 1, at byte 3,584 of volume: set out at format, never moved\n";
     assert_eq!(told.text(), expected);
     rack.grow_and_run(5);
     let told = rack.done("where volume 4");
-    let expected =
-        "block 4 is on disk 4 in row 1, at byte 11,264 of the medium: moved by growth 1 as head, moved once\n";
+    let expected = "block 4 is on disk 4 in row 1, at byte 11,264 of volume: moved by growth 1 as head, moved once\n";
     assert_eq!(told.text(), expected);
     let expected = json!({
-        "block": 24, "disk": 4, "row": 4, "byte": 12800, "why": "added", "growth": 1, "part": null, "moves": 0
+        "block": 24, "disk": 4, "row": 4, "file": "volume", "byte": 12800, "why": "added", "growth": 1, "part": null, "moves": 0
     });
     assert_eq!(found(&rack, 24), expected);
-    assert!(rack.done("where volume 24").text().ends_with("of the medium: added by growth 1, never moved\n"));
+    assert!(rack.done("where volume 24").text().ends_with("of volume: added by growth 1, never moved\n"));
 }
 
 /// From 5 disks to 7 rows 0 and 1 of a window are its head, 2 and 3 its body, 4 to 6 its tail.

@@ -24,6 +24,16 @@ fn a_dry_run_in_words() {
 }
 
 #[test]
+fn a_dry_run_tells_that_there_is_no_room() {
+    let rack = Rack::empty(Form::Image);
+    rack.done("create volume --size 512 --rows 8 --disks 3 --room 4");
+    assert_eq!(rack.told("grow volume 5 --dry-run")["room"], 4);
+    let sentence = "  the file has room for 4 disks: grow needs --lengthen\n";
+    assert!(rack.done("grow volume 5 --dry-run").text().contains(sentence));
+    assert!(!rack.done("grow volume 4 --dry-run").text().contains("--lengthen"));
+}
+
+#[test]
 fn a_dry_run_estimates_by_its_rate() {
     let rack = Rack::new(Form::Image, 1000, 3);
     let told = rack.told("grow volume 5 --dry-run --rate 1K");

@@ -38,7 +38,7 @@ fn a_run_is_interrupted_and_goes_on() {
         thread::sleep(UNDER_WAY);
         running.interrupt();
         let told = running.ended().with_status(130);
-        assert_eq!(told.error, "streterva: ended early; what was done is kept\n");
+        assert_eq!(told.error, "streterva: ended early\n");
         let (_, end) = told.text().split_once("; ended early, ").expect("it says that it ended early");
         let left = end.strip_suffix(" advance calls left; run goes on there\n").expect("it tells the calls left");
         goes_on(&rack, left.parse().expect("a number"));
@@ -52,7 +52,7 @@ fn an_interrupted_run_as_json() {
         thread::sleep(UNDER_WAY);
         running.interrupt();
         let ended = running.ended().with_status(130);
-        let sentence = "ended early; what was done is kept";
+        let sentence = "ended early";
         assert_eq!(ended.error_as_json(), json!({"status": 130, "refusal": null, "sentence": sentence}));
         let told = ended.json();
         assert_eq!((&told["finished"], &told["interrupted"]), (&json!(false), &json!(true)));
@@ -82,7 +82,7 @@ fn progress_is_told() {
     let told = running.ended().with_status(130).error;
     let line = told.lines().next().expect("a line of progress");
     assert!(line.starts_with("copied ") && line.contains(" of 48 blocks, ") && line.ends_with(" left"), "{line}");
-    assert_eq!(quiet.ended().with_status(130).error, "streterva: ended early; what was done is kept\n");
+    assert_eq!(quiet.ended().with_status(130).error, "streterva: ended early\n");
 }
 
 /// An export that waits, since nobody reads the end of what it writes.
@@ -104,7 +104,7 @@ fn an_export_is_interrupted() {
         thread::sleep(Duration::from_millis(50));
         let ended = rack.unchanged(|| running.ended().with_status(130));
         assert!(ended.out.len() < 2999 * SIZE as usize);
-        assert_eq!(ended.error, "streterva: ended early; what was done is kept\n");
+        assert_eq!(ended.error, "streterva: ended early\n");
     }
 }
 
