@@ -39,6 +39,8 @@ struct Begun {
     volume: String,
     from: u64,
     to: u64,
+    blocks: u64,
+    bytes: u64,
     calls_left: u64,
 }
 
@@ -59,11 +61,12 @@ pub fn grow(arguments: &args::Grow, options: &Options, json: bool) -> anyhow::Re
         return tell(&forecast(arguments)?, json);
     }
     let mut volume = Volume::open(&arguments.volume, options)?;
-    let from = volume.state().disks();
-    let calls_left = volume.grow(arguments.count, arguments.beyond_doubling, arguments.lengthen)?;
+    let (from, to, size) = (volume.state().disks(), arguments.count, volume.state().size());
+    let calls_left = volume.grow(to, arguments.beyond_doubling, arguments.lengthen)?;
     volume.flush()?;
+    let blocks = Moves::of(from, to, volume.state().rows()).blocks();
     let volume = arguments.volume.display().to_string();
-    tell(&Begun { volume, from, to: arguments.count, calls_left }, json)
+    tell(&Begun { volume, from, to, blocks, bytes: blocks * size, calls_left }, json)
 }
 
 fn forecast(arguments: &args::Grow) -> anyhow::Result<Forecast> {
@@ -121,10 +124,12 @@ impl Answer for Forecast {
 impl Answer for Begun {
     fn text(&self) -> String {
         format!(
-            "{}: a growth from {} to {} disks has begun, {} advance calls left\n",
+            "{}: a growth from {} to {} disks has begun: {} to copy, {} bytes, {} advance calls left\n",
             self.volume,
             self.from,
             self.to,
+            counted(self.blocks, "block"),
+            commas(self.bytes),
             commas(self.calls_left)
         )
     }

@@ -59,13 +59,6 @@ impl Volume {
         let disks = match place.form() {
             Form::Image => vec![],
             Form::Folder => {
-                if record.bytes < mapping::PAGE as u64 {
-                    return Err(Error::TooShort {
-                        path: record.path,
-                        bytes: record.bytes,
-                        needed: mapping::PAGE as u64,
-                    });
-                }
                 in_whole_pages(&restarted.state)?;
                 let all = (0..restarted.state.disks()).map(|disk| place.disk_path(disk));
                 all.map(|disk| Opened::existing(&disk, options.wait)).collect::<Result<_, _>>()?

@@ -152,7 +152,7 @@ const LOAD: &str = "\
   disk  1 ██████████████████████████▋              4 blocks
   disk  2 ████████████████████████████████████████ 6 blocks
   disk  3 █████████████▎                           2 blocks
-  disk  4 ██████▋                                  1 blocks
+  disk  4 ██████▋                                  1 block
 ";
 
 /// In the picture's growth after three copies: blocks 0 and 3 are on disk 3 then, and 4 on disk 4.

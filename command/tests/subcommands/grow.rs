@@ -73,10 +73,12 @@ fn forecast_and_grow(rack: &Rack, rows: u64, count: u64) {
     let from = number(&rack.told("status volume")["disks"]);
     let forecast = rack.unchanged(|| rack.told(&format!("grow volume {count} --dry-run")));
     let begun = rack.told(&format!("grow volume {count}"));
-    let calls = forecast["calls"].clone();
-    assert_eq!(begun, json!({"volume": "volume", "from": from, "to": count, "calls_left": calls}));
+    let (calls, blocks, bytes) = (&forecast["calls"], &forecast["blocks"], &forecast["bytes"]);
+    let expected = json!({
+        "volume": "volume", "from": from, "to": count, "blocks": blocks, "bytes": bytes, "calls_left": calls
+    });
+    assert_eq!(begun, expected);
     let ran = without_seconds(rack.told("run volume"));
-    let (blocks, bytes) = (&forecast["blocks"], &forecast["bytes"]);
     let expected = json!({
         "volume": "volume", "calls": calls, "copied_blocks": blocks, "copied_bytes": bytes, "calls_left": 0,
         "finished": true, "interrupted": false
@@ -116,7 +118,8 @@ fn a_growth_in_words() {
     for form in FORMS {
         let rack = Rack::new(form, 8, 3);
         let told = rack.done("grow volume 5");
-        assert_eq!(told.text(), "volume: a growth from 3 to 5 disks has begun, 13 advance calls left\n");
+        let begun = "has begun: 11 blocks to copy, 5,632 bytes, 13 advance calls left";
+        assert_eq!(told.text(), format!("volume: a growth from 3 to 5 disks {begun}\n"));
         let told = rack.done("advance volume");
         let expected = "volume: copied 1 block in .. s, .. bytes a second; 12 advance calls left\n";
         assert_eq!(without_rate(told.text()), expected);
