@@ -4,7 +4,7 @@ use std::ops::Range;
 use std::path::Path;
 
 use serde::Serialize;
-use streterva::{Block, Refusal, State};
+use streterva::{Block, Refusal, Row, State};
 use streterva_store::{open_blocks, trial, Error, Place};
 
 use crate::args::{self, General};
@@ -109,19 +109,24 @@ fn check_spots(state: &State, checked: &mut Checked) -> anyhow::Result<()> {
         if row.is_multiple_of(BLOCKS_AT_A_TIME) {
             interrupt::go_on()?;
         }
-        for disk in 0..state.disks() {
-            match state.holder(disk, streterva::Row(row)) {
-                Ok(_) => held += 1,
-                Err(Refusal::NoBlockThere) if state.is_growing() => {}
-                Err(refusal) => checked.fault(format!("disk {disk}, row {row} is refused with {}", refusal.number())),
-            }
-        }
+        held += (0..state.disks()).filter(|disk| has_block(state, *disk, row, checked)).count() as u64;
     }
     checked.spots = state.rows() * state.disks();
     if held != checked.blocks {
         checked.fault(format!("{held} spots have a block, and {} blocks are open", checked.blocks));
     }
     Ok(())
+}
+
+/// Whether a spot has a block. Only while a growth is under way may it have none.
+fn has_block(state: &State, disk: u64, row: u64, checked: &mut Checked) -> bool {
+    let told = state.holder(disk, Row(row));
+    match told {
+        Ok(_) => {}
+        Err(Refusal::NoBlockThere) if state.is_growing() => {}
+        Err(refusal) => checked.fault(format!("disk {disk}, row {row} is refused with {}", refusal.number())),
+    }
+    told.is_ok()
 }
 
 impl Answer for Checked {

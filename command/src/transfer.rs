@@ -115,9 +115,8 @@ fn save_all(volume: &mut Volume, file: File, first: u64, blocks: u64, progress: 
     let (mut saved, mut next_flush) = (0, BYTES_BETWEEN_FLUSHES);
     while saved < blocks && !interrupt::requested() {
         let part: Vec<u8> = parts.recv().expect("parts come until all are read")?;
-        for (piece, block) in part.chunks_exact(size as usize).zip(first + saved..) {
-            volume.write(Block(block), piece)?;
-        }
+        let mut pieces = part.chunks_exact(size as usize).zip(first + saved..);
+        pieces.try_for_each(|(piece, block)| volume.write(Block(block), piece))?;
         saved += part.len() as u64 / size;
         progress.add(part.len() as u64 / size);
         // Nobody takes it once all is read.
