@@ -85,7 +85,7 @@ impl Progress {
 
 fn new_bar(done_word: &'static str, total: u64) -> ProgressBar {
     let bar = ProgressBar::new(total).with_prefix(done_word);
-    let parts = "{prefix} [{bar:40}] {percent:>3} %  {human_pos} of {human_len} blocks  {msg}  {eta} left";
+    let parts = "{prefix} [{wide_bar}] {percent:>3} %  {human_pos} of {human_len} blocks  {msg}  {eta} left";
     let style = ProgressStyle::with_template(parts).expect("the parts of the bar are known");
     bar.set_style(style.progress_chars("█▉▊▋▌▍▎▏ "));
     bar
