@@ -39,7 +39,7 @@ enum Kind {
 const KINDS: [Kind; 5] = [Kind::Grow, Kind::Advance, Kind::Run, Kind::Write, Kind::Import];
 
 /// A volume whose calls are killed.
-struct Victim {
+struct KilledCalls {
     rack: Rack,
     random: Random,
     /// The version of each block whose last save has ended well.
@@ -50,18 +50,18 @@ struct Victim {
     growths: u64,
 }
 
-impl fmt::Display for Victim {
+impl fmt::Display for KilledCalls {
     fn fmt(&self, f: &mut fmt::Formatter<'_>) -> fmt::Result {
         let (form, saved) = (self.rack.form, self.saved.len());
         write!(f, "{form:?}: {:?} killed, {} growths, {saved} blocks saved", self.kills, self.growths)
     }
 }
 
-impl Victim {
-    fn new(form: Form) -> Victim {
+impl KilledCalls {
+    fn new(form: Form) -> KilledCalls {
         let rack = Rack::new(form, ROWS, 1);
         let kills = KINDS.map(|kind| (kind, 0)).into();
-        Victim { rack, random: Random::new(1), saved: BTreeMap::new(), version: 0, kills, growths: 0 }
+        KilledCalls { rack, random: Random::new(1), saved: BTreeMap::new(), version: 0, kills, growths: 0 }
     }
 
     fn is_enough(&self) -> bool {
@@ -183,10 +183,10 @@ impl Victim {
 
 #[test]
 fn killed_on_an_image() {
-    Victim::new(Form::Image).kill_again_and_again();
+    KilledCalls::new(Form::Image).kill_again_and_again();
 }
 
 #[test]
 fn killed_on_a_folder() {
-    Victim::new(Form::Folder).kill_again_and_again();
+    KilledCalls::new(Form::Folder).kill_again_and_again();
 }

@@ -150,7 +150,7 @@ impl Child {
 }
 
 /// A volume whose processes are killed.
-struct Victim {
+struct KilledCalls {
     random: Random,
     path: PathBuf,
     saves: Saves,
@@ -161,16 +161,16 @@ struct Victim {
     growths: u64,
 }
 
-impl fmt::Display for Victim {
+impl fmt::Display for KilledCalls {
     fn fmt(&self, f: &mut fmt::Formatter<'_>) -> fmt::Result {
         let (kills, growing, growths) = (self.kills, self.kills_while_growing, self.growths);
         write!(f, "{kills} kills, {growing} while growing; {growths} growths, {} saves", self.saved)
     }
 }
 
-impl Victim {
-    fn at(path: PathBuf) -> Victim {
-        Victim {
+impl KilledCalls {
+    fn at(path: PathBuf) -> KilledCalls {
+        KilledCalls {
             random: Random::new(1),
             path,
             saves: Saves::default(),
@@ -267,17 +267,17 @@ fn kill_again_and_again(form: Form) {
     let path = folder.path().join("volume");
     let created = Volume::create(&path, &plan(form, SIZE, ROWS, 1), &Options::default());
     drop(created.expect("nothing is there"));
-    let mut victim = Victim::at(path);
-    while victim.kills < KILLS || victim.growths < GROWTHS && victim.kills < MOST_KILLS {
-        victim.kill_one();
-        victim.look();
+    let mut killed_calls = KilledCalls::at(path);
+    while killed_calls.kills < KILLS || killed_calls.growths < GROWTHS && killed_calls.kills < MOST_KILLS {
+        killed_calls.kill_one();
+        killed_calls.look();
     }
-    println!("{form:?}: {victim}");
-    assert!(victim.kills >= KILLS && victim.growths >= GROWTHS, "{victim}");
-    assert!(victim.kills_while_growing >= 10 && victim.saved >= 200, "{victim}");
+    println!("{form:?}: {killed_calls}");
+    assert!(killed_calls.kills >= KILLS && killed_calls.growths >= GROWTHS, "{killed_calls}");
+    assert!(killed_calls.kills_while_growing >= 10 && killed_calls.saved >= 200, "{killed_calls}");
 
-    let mut volume = Volume::open(&victim.path, &Options::default()).expect("the volume opens");
-    all_is_kept(&mut volume, &victim.saves).unwrap();
+    let mut volume = Volume::open(&killed_calls.path, &Options::default()).expect("the volume opens");
+    all_is_kept(&mut volume, &killed_calls.saves).unwrap();
 }
 
 #[test]

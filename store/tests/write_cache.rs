@@ -21,7 +21,7 @@ use tempfile::TempDir;
 
 /// What happens in the flushes of one call.
 #[derive(Clone, Copy, Debug, PartialEq)]
-enum Mischief {
+enum InFlush {
     None,
     /// A power cut before one file is flushed, of which a copy is made: the flush itself goes on.
     Cut,
@@ -42,7 +42,7 @@ struct Cache {
     /// The bytes of each file that are down. Of a file that was never flushed these are zeros: its length is made to
     /// last by the store layer itself.
     down: BTreeMap<PathBuf, Vec<u8>>,
-    mischief: Mischief,
+    in_flush: InFlush,
     /// How many files are flushed before it.
     after: u64,
     random: Random,
@@ -56,7 +56,7 @@ impl CachedDrives {
         let cache = Cache {
             home: home.to_path_buf(),
             down: contents(home),
-            mischief: Mischief::None,
+            in_flush: InFlush::None,
             after: 0,
             random,
             left: None,
@@ -69,9 +69,9 @@ impl CachedDrives {
         self.cache.lock().expect("no flush has panicked")
     }
 
-    fn prepare(&self, mischief: Mischief, after: u64) {
+    fn prepare(&self, in_flush: InFlush, after: u64) {
         let mut cache = self.cache();
-        cache.mischief = mischief;
+        cache.in_flush = in_flush;
         cache.after = after;
     }
 }
@@ -79,14 +79,14 @@ impl CachedDrives {
 impl Drives for CachedDrives {
     fn flush(&self, path: &Path, _: &File) -> io::Result<()> {
         let mut cache = self.cache();
-        match cache.next_mischief() {
-            Mischief::Kill => return Err(io::Error::other("the process ends here")),
-            Mischief::LeftOut => return Ok(()),
-            Mischief::Cut => {
+        match cache.next_in_flush() {
+            InFlush::Kill => return Err(io::Error::other("the process ends here")),
+            InFlush::LeftOut => return Ok(()),
+            InFlush::Cut => {
                 let left = cache.cut();
                 cache.left = Some(left);
             }
-            Mischief::None => {}
+            InFlush::None => {}
         }
         let name = path.strip_prefix(&cache.home).expect("a file of the volume").to_path_buf();
         cache.down.insert(name, fs::read(path)?);
@@ -95,13 +95,13 @@ impl Drives for CachedDrives {
 }
 
 impl Cache {
-    fn next_mischief(&mut self) -> Mischief {
+    fn next_in_flush(&mut self) -> InFlush {
         if self.after > 0 {
             self.after -= 1;
-            return Mischief::None;
+            return InFlush::None;
         }
-        match self.mischief {
-            Mischief::Cut => mem::replace(&mut self.mischief, Mischief::None),
+        match self.in_flush {
+            InFlush::Cut => mem::replace(&mut self.in_flush, InFlush::None),
             other => other,
         }
     }
@@ -239,12 +239,12 @@ impl Run<'_> {
 
     /// Makes one call, with power cuts inside it and behind it; the process may be killed.
     fn step(&mut self) -> Checked {
-        let mischief = self.draw_mischief();
+        let in_flush = self.draw_in_flush();
         let call = self.due.pop().unwrap_or_else(|| self.draw_call());
         let before = sector_of(self.volume().state());
         // An image is one file, so that nothing is flushed beside it.
         let others = u64::from(self.volume().place().form() == Form::Folder);
-        self.drives.prepare(mischief, self.random.below(1 + others));
+        self.drives.prepare(in_flush, self.random.below(1 + others));
         let told = self.make(call);
         // The flush of a call comes before its own store.
         let left = self.drives.cache().left.take();
@@ -256,7 +256,7 @@ impl Run<'_> {
         }
         match told {
             Ok(()) => self.note(call, before)?,
-            Err(Error::File { tried: "flush", .. }) if mischief == Mischief::Kill => {
+            Err(Error::File { tried: "flush", .. }) if in_flush == InFlush::Kill => {
                 self.tally.kills_inside_flushes += 1;
                 return self.go_on(None, &[self.record, before]);
             }
@@ -267,12 +267,12 @@ impl Run<'_> {
         self.end_between_calls()
     }
 
-    fn draw_mischief(&mut self) -> Mischief {
+    fn draw_in_flush(&mut self) -> InFlush {
         match self.random.below(16) {
-            0..=3 => Mischief::Cut,
-            4 => Mischief::Kill,
-            5..=9 if self.leave_out => Mischief::LeftOut,
-            _ => Mischief::None,
+            0..=3 => InFlush::Cut,
+            4 => InFlush::Kill,
+            5..=9 if self.leave_out => InFlush::LeftOut,
+            _ => InFlush::None,
         }
     }
 
@@ -388,7 +388,7 @@ impl Run<'_> {
             self.drives = CachedDrives::of(left.path(), self.random.another());
             self.home = left;
         }
-        self.drives.prepare(Mischief::None, 0);
+        self.drives.prepare(InFlush::None, 0);
         let volume = opened(self.home.path(), &on(&self.drives), allowed)?;
         self.saves.cut();
         self.saves.check(&volume)?;
@@ -429,7 +429,7 @@ fn opened(folder: &Path, options: &Options, allowed: &[Sector]) -> Result<Volume
 fn run(form: Form, seed: u64, leave_out: bool, tally: &mut Tally) -> Checked {
     let mut run = Run::new(form, seed, leave_out, tally);
     (0..STEPS).try_for_each(|_| run.step())?;
-    run.drives.prepare(Mischief::None, 0);
+    run.drives.prepare(InFlush::None, 0);
     let mut volume = run.volume.take().expect("the volume is open");
     all_is_kept(&mut volume, &run.saves)
 }
