@@ -36,7 +36,7 @@ impl Volume {
         if !plan.force {
             nothing_there(&place, plan)?;
         }
-        let mut made = Made { place: &place, plan, options, files: vec![], folder: false };
+        let mut made = Made { place: &place, plan, files: vec![], folder: false };
         let created = made.files(&state).and_then(|files| formatted(files, plan, &state, options));
         if created.is_err() {
             made.remove();
@@ -81,7 +81,6 @@ fn there(place: &Place) -> Error {
 struct Made<'a> {
     place: &'a Place,
     plan: &'a Plan,
-    options: &'a Options,
     files: Vec<PathBuf>,
     folder: bool,
 }
@@ -126,7 +125,7 @@ impl Made<'_> {
 
     /// Opens or makes a file. Without force it has to be new: another process may have made it just now.
     fn file(&mut self, path: &Path) -> Result<Opened, Error> {
-        let opened = Opened::existing_or_new(path, self.options.wait)?;
+        let opened = Opened::existing_or_new(path)?;
         match (opened.made, self.plan.force) {
             (true, _) => self.files.push(path.to_path_buf()),
             (false, true) => {}

@@ -3,8 +3,6 @@ use std::fs::{self, File, OpenOptions};
 use std::io::{self, Seek, SeekFrom};
 use std::os::unix::fs::{FileExt, FileTypeExt, MetadataExt};
 use std::path::{Path, PathBuf};
-use std::thread;
-use std::time::{Duration, Instant};
 
 use streterva::State;
 
@@ -227,25 +225,25 @@ pub(crate) struct Opened {
 
 impl Opened {
     /// Opens a file that is there.
-    pub fn existing(path: &Path, wait: Duration) -> Result<Opened, Error> {
+    pub fn existing(path: &Path) -> Result<Opened, Error> {
         is_file_or_device(path)?;
         let opened = OpenOptions::new().read(true).write(true).open(path);
         let file = opened.map_err(Error::file("open", path))?;
-        Opened::locked(path, file, wait, false)
+        Opened::locked(path, file, false)
     }
 
     /// Opens a file that is there, or makes an empty one.
-    pub fn existing_or_new(path: &Path, wait: Duration) -> Result<Opened, Error> {
+    pub fn existing_or_new(path: &Path) -> Result<Opened, Error> {
         let opened = OpenOptions::new().read(true).write(true).create_new(true).open(path);
         match opened {
-            Ok(file) => Opened::locked(path, file, wait, true),
-            Err(error) if error.kind() == io::ErrorKind::AlreadyExists => Opened::existing(path, wait),
+            Ok(file) => Opened::locked(path, file, true),
+            Err(error) if error.kind() == io::ErrorKind::AlreadyExists => Opened::existing(path),
             Err(error) => Err(Error::file("make", path)(error)),
         }
     }
 
-    fn locked(path: &Path, file: File, wait: Duration, made: bool) -> Result<Opened, Error> {
-        lock(&file, path, wait)?;
+    fn locked(path: &Path, file: File, made: bool) -> Result<Opened, Error> {
+        lock(&file, path)?;
         let bytes = length(&file).map_err(Error::file("read", path))?;
         let path = path.to_path_buf();
         Ok(Opened { path, file, bytes, made })
@@ -290,20 +288,12 @@ fn identity(told: &fs::Metadata) -> (bool, u64, u64) {
     }
 }
 
-/// Locks a file against other openers, for which it waits at most so long.
-fn lock(file: &File, path: &Path, wait: Duration) -> Result<(), Error> {
-    let start = Instant::now();
-    loop {
-        match file.try_lock() {
-            Ok(()) => return Ok(()),
-            Err(fs::TryLockError::Error(error)) => return Err(Error::file("lock", path)(error)),
-            Err(fs::TryLockError::WouldBlock) if start.elapsed() >= wait => {
-                let path = path.to_path_buf();
-                return Err(Error::Locked { path });
-            }
-            Err(fs::TryLockError::WouldBlock) => thread::sleep(Duration::from_millis(20)),
-        }
-    }
+/// Locks a file against other openers, for as long as it is open.
+fn lock(file: &File, path: &Path) -> Result<(), Error> {
+    file.try_lock().map_err(|refused| match refused {
+        fs::TryLockError::Error(error) => Error::file("lock", path)(error),
+        fs::TryLockError::WouldBlock => Error::Locked { path: path.to_path_buf() },
+    })
 }
 
 /// Makes the names in the folder of this file last.

@@ -23,8 +23,8 @@ pub fn restore(path: &Path, sector: &Sector, from: &Path, force: bool, options: 
         return Err(shortcoming);
     }
     let mut record = match place.form() {
-        Form::Image => Opened::existing(path, options.wait)?,
-        Form::Folder => Opened::existing_or_new(&place.record_path(), options.wait)?,
+        Form::Image => Opened::existing(path)?,
+        Form::Folder => Opened::existing_or_new(&place.record_path())?,
     };
     match place.sector() {
         Ok(there) if there == *sector => return Ok(restarted),

@@ -2,7 +2,6 @@ use std::fs;
 use std::ops::Range;
 use std::path::Path;
 use std::sync::Arc;
-use std::time::Duration;
 
 use streterva::{Advanced, Block, Refusal, State, Step};
 
@@ -16,8 +15,6 @@ use crate::trial;
 /// How a volume is opened.
 #[derive(Clone)]
 pub struct Options {
-    /// How long to wait for another process that has the volume.
-    pub wait: Duration,
     /// What flushes the drives.
     pub drives: Arc<dyn Drives>,
 }
@@ -25,7 +22,7 @@ pub struct Options {
 impl Default for Options {
     fn default() -> Options {
         let drives = Arc::new(MachineDrives);
-        Options { wait: Duration::ZERO, drives }
+        Options { drives }
     }
 }
 
@@ -51,7 +48,7 @@ impl Volume {
     pub fn open(path: &Path, options: &Options) -> Result<Volume, Error> {
         let place = Place::at(path)?;
         place.has_record()?;
-        let record = Opened::existing(&place.record_path(), options.wait)?;
+        let record = Opened::existing(&place.record_path())?;
         let restarted = trial::restart(&place.sector()?, &record.path)?;
         if let Some(shortcoming) = place.shortcomings(&restarted.state).into_iter().next() {
             return Err(shortcoming);
@@ -61,7 +58,7 @@ impl Volume {
             Form::Folder => {
                 in_whole_pages(&restarted.state)?;
                 let all = (0..restarted.state.disks()).map(|disk| place.disk_path(disk));
-                all.map(|disk| Opened::existing(&disk, options.wait)).collect::<Result<_, _>>()?
+                all.map(|disk| Opened::existing(&disk)).collect::<Result<_, _>>()?
             }
         };
         let files = Files { place, record, disks };
@@ -295,7 +292,7 @@ impl Volume {
         let there = self.files.disks.len() as u64;
         let opened = (there..count).try_for_each(|disk| {
             let path = self.files.place.disk_path(disk);
-            added.push(Opened::existing_or_new(&path, self.options.wait)?);
+            added.push(Opened::existing_or_new(&path)?);
             Ok(())
         });
         // All of them are locked before one that is there is made longer.

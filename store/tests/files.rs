@@ -9,8 +9,6 @@ use std::path::{Path, PathBuf};
 use std::process::Command;
 use std::sync::atomic::{AtomicBool, Ordering};
 use std::sync::Arc;
-use std::thread;
-use std::time::{Duration, Instant};
 
 use common::{complete, contents, piece, plan, reads, spots_agree, FORMS};
 use streterva::{Block, Refusal, State, Step};
@@ -341,29 +339,13 @@ fn a_disk_in_use_is_locked() {
 }
 
 #[test]
-fn an_opener_may_wait_for_the_lock() {
-    const HELD: Duration = Duration::from_millis(100);
+fn the_lock_goes_with_its_holder() {
     for form in FORMS {
         let site = Site::new();
         let held = site.created(form, 2);
-        let waiting = |wait| {
-            let options = Options { wait, ..Options::default() };
-            let start = Instant::now();
-            (Volume::open(&site.volume(), &options), start.elapsed())
-        };
-        let (opened, waited) = waiting(HELD);
-        assert_locked(&opened.err().expect("it is held"), &site.record(form));
-        assert!(waited >= HELD);
-
-        let start = Instant::now();
-        let holder = thread::spawn(move || {
-            thread::sleep(HELD);
-            drop(held);
-        });
-        let (opened, _) = waiting(Duration::from_secs(60));
-        opened.expect("it was let go");
-        assert!(start.elapsed() >= HELD);
-        holder.join().unwrap();
+        assert_locked(&site.fails_to_open(), &site.record(form));
+        drop(held);
+        site.open();
     }
 }
 
@@ -699,7 +681,7 @@ fn create_leaves_nothing_where_a_flush_fails() {
         let site = Site::new();
         let drives = Arc::new(FailingDrives::default());
         drives.fail.store(true, Ordering::SeqCst);
-        let options = Options { drives, ..Options::default() };
+        let options = Options { drives };
         let plan = plan(form, SIZE, ROWS, 2);
         let error = site.fails(|| Volume::create(&site.volume(), &plan, &options));
         assert_file(&error, &site.record(form), ErrorKind::Other);
@@ -712,7 +694,7 @@ fn after_a_flush_that_failed_nothing_more_is_stored() {
         let site = Site::new();
         drop(site.created(form, 2));
         let drives = Arc::new(FailingDrives::default());
-        let options = Options { drives: drives.clone(), ..Options::default() };
+        let options = Options { drives: drives.clone() };
         let mut volume = Volume::open(&site.volume(), &options).unwrap();
         save_all(&mut volume, 1);
         volume.write(Block(3), &piece(SIZE, 3, 2)).unwrap();

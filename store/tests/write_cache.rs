@@ -401,7 +401,7 @@ impl Run<'_> {
 
 /// How a volume is opened on these drives.
 fn on(drives: &Arc<CachedDrives>) -> Options {
-    Options { drives: drives.clone(), ..Options::default() }
+    Options { drives: drives.clone() }
 }
 
 /// Copies the first block from this one on that can be copied now, if there is one.
