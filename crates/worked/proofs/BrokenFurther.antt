@@ -16,7 +16,7 @@ use Rattle.promise.specs.Promise.{Start, systemAfter, modelOf}
 use Rattle.promise.specs.WithoutCache.{DirectEvent, flushedAfter, fromFormat, DirectFurther}
 use Rattle.promise.proofs.WithoutCache.{from-append}
 use Rattle.worked.specs.WrongPrograms.{Act}
-use Rattle.worked.specs.Parts.{NoneTold, Finished, LastTold, EveryFurther, EveryDirectFurther}
+use Rattle.promise.specs.Parts.{NoneTold, Finished, LastTold, EveryFurther, EveryDirectFurther}
 use Rattle.worked.proofs.Computed.{Tested, tested}
 use Rattle.worked.proofs.EveryProgram.{further-direct}
 use Rattle.worked.proofs.BrokenGrowths.{GrowthHeard, acceptedOnly, allOf, advancesHeard, accepted-told, direct-told, Covered, heardThere, growthTest, growth-tested}

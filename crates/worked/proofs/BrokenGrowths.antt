@@ -19,7 +19,7 @@ use Rattle.promise.specs.Promise.{Start, formatted, begin, systemAfter, modelOf
 use Rattle.promise.specs.WithoutCache.{DirectEvent, ends, fails, flushedAfter, fromFormat, advancesTold}
 use Rattle.promise.proofs.Theorem.{lawful-before}
 use Rattle.worked.specs.WrongPrograms.{Act}
-use Rattle.worked.specs.Parts.{CallsLeftTold, AdvanceAccepted, EveryGrowth, EveryDirectGrowth}
+use Rattle.promise.specs.Parts.{CallsLeftTold, AdvanceAccepted, EveryGrowth, EveryDirectGrowth}
 use Rattle.worked.proofs.Reflects.{passed}
 use Rattle.worked.proofs.Computed.{Hearing, heardAll, computed, fed-same, heard-same, is-lawful, fed-before, modelFed, model-fed}
 

@@ -20,7 +20,7 @@ use Rattle.promise.specs.Promise.{Start, formatted, begin, systemAfter, modelOf
 use Rattle.promise.specs.WithoutCache.{DirectEvent, ends, flushedAfter, fromFormat}
 use Rattle.promise.proofs.WithoutCache.{from-append}
 use Rattle.worked.specs.WrongPrograms.{Act}
-use Rattle.worked.specs.Parts.{ReadAccepted, BytesRead, BytesStand, EveryRead, EveryDirectRead}
+use Rattle.promise.specs.Parts.{ReadAccepted, BytesRead, BytesStand, EveryRead, EveryDirectRead}
 use Rattle.worked.proofs.Reflects.{passed}
 use Rattle.worked.proofs.Computed.{Hearing, heardAll, computed, fed-same, heard-same, is-lawful, Tested, tested, fed-before, heard-both, modelFed, model-fed}
 

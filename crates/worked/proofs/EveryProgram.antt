@@ -28,7 +28,7 @@ use Rattle.promise.proofs.Theorem.{startCached, running-grows, grows-running, r
 use Rattle.promise.proofs.WithoutCache.{from-append}
 use Rattle.promise.proofs.Windows.{some-disk}
 use Rattle.worked.specs.WrongPrograms.{Act}
-use Rattle.worked.specs.Parts.{StillRuns, Finished, EveryFurther, EveryDirectFurther}
+use Rattle.promise.specs.Parts.{StillRuns, Finished, EveryFurther, EveryDirectFurther}
 use Rattle.worked.proofs.EveryFormat.{some-block}
 
 -- ---- the tally stays within its windows

@@ -18,7 +18,8 @@ use Rattle.promise.specs.WithoutCache.{DirectEvent, ends, flushedAfter, fromFor
 use Rattle.worked.specs.Worked.{workedStart}
 use Rattle.worked.specs.BeyondDoubling.{oneDisk}
 use Rattle.worked.specs.WrongPrograms.{Act, program, neverAdvances, endsEarly, endsLate, madeUpCount, growsToTwice, keepsCopies, growsAlways}
-use Rattle.worked.specs.Parts.{NoneTold, Finished, LastTold, CallsLeftTold, AdvanceAccepted, EveryGrowth, EveryFurther, EveryDirectGrowth, EveryDirectFurther, twoDisks, toThree, fourAdvances, LateEnd}
+use Rattle.promise.specs.Parts.{NoneTold, Finished, LastTold, CallsLeftTold, AdvanceAccepted, EveryGrowth, EveryFurther, EveryDirectGrowth, EveryDirectFurther}
+use Rattle.worked.specs.BrokenParts.{twoDisks, toThree, fourAdvances, LateEnd}
 use Rattle.worked.proofs.Computed.{Tested, tested}
 use Rattle.worked.proofs.Computing.{computing}
 use Rattle.worked.proofs.BrokenGrowths.{GrowthHeard, acceptedOnly, allOf, direct-told, noAdvance, endsUp, growthTest, growth-tested, broken-growth, broken-direct-growth, otherThan, otherCount, someRefused, refusedAdvance, advanceAfterFlushed, refutes-count, refutes-advance}

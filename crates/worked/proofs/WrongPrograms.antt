@@ -1,8 +1,8 @@
 -- For each part of demand 3 a program that breaks it, or that none does: `parts-broken`, `parts-broken-without-cache`. Programs that demand 3
 -- shuts out, each by the part that it breaks: `shut-out`, `shut-out-without-cache`.
 use Rattle.worked.specs.WrongPrograms.{refusesRead, exchangesBlocks, writesNothing, writesWaiting, writesEarly, recordsEarly, neverAdvances, marksLater, endsEarly, endsLate, madeUpCount, growsToTwice, keepsCopies, growsAlways, ShutOut, ShutOutWithoutCache}
-use Rattle.worked.specs.Parts.{PartsBroken, PartsBrokenWithoutCache}
-use Rattle.worked.proofs.Parts.{parts, parts-without-cache}
+use Rattle.worked.specs.BrokenParts.{PartsBroken, PartsBrokenWithoutCache}
+use Rattle.promise.proofs.Parts.{parts, parts-without-cache}
 use Rattle.worked.proofs.EveryProgram.{still-runs, finished-left, still-runs-direct}
 use Rattle.worked.proofs.WrongReads.{refuses-read, exchanges-blocks, writes-nothing, writes-waiting, marks-later, writes-early, records-early}
 use Rattle.worked.proofs.WrongGrowths.{made-up-count, grows-to-twice, keeps-copies, never-advances, never-finishes, ends-early, ends-late, grows-always}

@@ -14,7 +14,8 @@ use Rattle.promise.specs.Promise.{Start, modelOf}
 use Rattle.promise.specs.WithoutCache.{DirectEvent, ends, fromFormat}
 use Rattle.worked.specs.Worked.{blockOf, workedStart}
 use Rattle.worked.specs.WrongPrograms.{Act, program, refusesRead, exchangesBlocks, writesNothing, writesWaiting, writesEarly, recordsEarly, marksLater}
-use Rattle.worked.specs.Parts.{ReadAccepted, BytesRead, BytesStand, EveryRead, EveryDirectRead, twoRows, savedFirst, ExchangedRead}
+use Rattle.promise.specs.Parts.{ReadAccepted, BytesRead, BytesStand, EveryRead, EveryDirectRead}
+use Rattle.worked.specs.BrokenParts.{twoRows, savedFirst, ExchangedRead}
 use Rattle.worked.proofs.FasterCalls.{sameBytes, same-bytes}
 use Rattle.worked.proofs.Computed.{Tested, tested}
 use Rattle.worked.proofs.Computing.{computing}

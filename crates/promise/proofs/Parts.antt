@@ -1,11 +1,13 @@
 -- The parts of demand 3 are the demand: `parts-of-promise`.
+use Rattle.medium.specs.Medium.{Observations}
+use Rattle.volume.specs.declared.Volume.{Volume}
+use Rattle.volume.specs.Calls.{Outcome}
 use Rattle.promise.specs.Calls.{Call}
 use Rattle.promise.specs.Promise.{PromiseOf}
 use Rattle.promise.specs.WithoutCache.{PromiseWithoutCacheOf}
-use Rattle.worked.specs.WrongPrograms.{Act}
-use Rattle.worked.specs.Parts.{Parts, PartsWithoutCache, PartsOfPromise}
+use Rattle.promise.specs.Parts.{Parts, PartsWithoutCache, PartsOfPromise}
 
-module _ (calls : (c : Call) → Act) where
+module _ (calls : (c : Call) (v : Volume) (o : Observations) → Outcome) where
   pub parts : PromiseOf calls → Parts calls
   parts kept =
       record {
