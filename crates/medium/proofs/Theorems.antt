@@ -1,7 +1,7 @@
 -- The laws of stores, as `specs/Laws.antt` states them.
 use Prim.Native.Nat.{ℕ, _≤_}
 use mathlib.Core.Path.{_≡_, refl, subst, _∙_}
-use mathlib.Core.List.{List}
+use mathlib.Core.List.{List, [], _∷_}
 use mathlib.Core.Logic.{inl, inr}
 use native.Mathlib.Omega.{arith}
 use lib.ListN.{length, take, drop}
@@ -9,8 +9,8 @@ use lib.Seq.{sets, length-sets}
 use Rattle.base.proofs.Lists.{part-stored, part-kept, drop-kept}
 use Rattle.layout.specs.declared.Spot.{Spot}
 use Rattle.medium.specs.declared.Geometry.{Geometry}
-use Rattle.medium.specs.Medium.{recordBytes, place, observe, Store, noStore, recordStore, blockStore, apply, StoreFits, AfterCut, tornBlock, oldRecord, newRecord, MayLeave, cutStore, applyCut}
-use Rattle.medium.specs.Laws.{Holds, OtherThanRecord, OtherThanSpot, Stored, MediumLaws}
+use Rattle.medium.specs.Medium.{recordBytes, place, observe, Store, noStore, recordStore, blockStore, apply, StoreFits, AfterCut, tornBlock, oldRecord, newRecord, MayLeave, cutStore, applyCut, Placed, EachMayLeave, applyCuts}
+use Rattle.medium.specs.Laws.{Holds, OtherThanRecord, OtherThanSpot, Stored, Leaves, MediumLaws}
 use Rattle.medium.proofs.Places.{past-record, disjoint, inside}
 
 -- ---- a store that lies in the medium
@@ -77,6 +77,31 @@ cut-other-than-spot (blockStore p stored) (tornBlock bytes) q c n = n
 cut-other-than-spot (blockStore p stored) oldRecord q c n = absurd c
 cut-other-than-spot (blockStore p stored) newRecord q c n = absurd c
 
+-- ---- what a cut may leave, and that it stands then
+
+any-bytes-left : (g : Geometry) (p : Spot) (stored bytes m : List ℕ) → length bytes ≡ length stored
+    → Leaves g (blockStore p stored) (tornBlock bytes) m (sets m (place g p) bytes)
+unfolding MayLeave applyCut cutStore apply
+any-bytes-left g p stored bytes m e = record { may-leave = e; stands = refl }
+
+old-record-left : (g : Geometry) (sector m : List ℕ) → Leaves g (recordStore sector) oldRecord m m
+unfolding MayLeave applyCut cutStore apply
+old-record-left g sector m = record { may-leave = tt; stands = refl }
+
+new-record-left : (g : Geometry) (sector m : List ℕ) → Leaves g (recordStore sector) newRecord m (sets m 0 sector)
+unfolding MayLeave applyCut cutStore apply
+new-record-left g sector m = record { may-leave = tt; stands = refl }
+
+none-pending : (m : List ℕ) → EachMayLeave [] [] × (applyCuts [] [] m ≡ m)
+unfolding EachMayLeave applyCuts
+none-pending m = (tt, refl)
+
+each-left : (s : Placed) (l : AfterCut) (stores : List Placed) (left : List AfterCut) (m before after : List ℕ) → EachMayLeave stores left
+    → applyCuts stores left m ≡ before → Leaves (s .geometry) (s .store) l before after
+    → EachMayLeave (s ∷ stores) (l ∷ left) × (applyCuts (s ∷ stores) (l ∷ left) m ≡ after)
+unfolding EachMayLeave applyCuts
+each-left s l stores left m before after may e leaves = ((leaves .may-leave, may), rw e (leaves .stands))
+
 pub medium-laws : MediumLaws
 unfolding applyCut
 medium-laws = record {
@@ -90,4 +115,9 @@ medium-laws = record {
   cut-other-than-record = cut-other-than-record;
   cut-other-than-spot = cut-other-than-spot;
   cut-beyond-kept = λ g n s l m f c. beyond-kept g n (cutStore s l) m (cut-fits g n s l f c);
+  any-bytes-left = any-bytes-left;
+  old-record-left = old-record-left;
+  new-record-left = new-record-left;
+  none-pending = none-pending;
+  each-left = each-left;
 }

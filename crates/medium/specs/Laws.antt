@@ -1,12 +1,13 @@
 -- What is proved of stores, in one record of facts: `MediumLaws`. `proofs/Theorems.antt` has the proof.
 use Prim.Native.Nat.{ℕ, _+_, _≤_, _<_}
 use mathlib.Core.Path.{_≡_}
-use mathlib.Core.List.{List}
+use mathlib.Core.List.{List, [], _∷_}
 use mathlib.Core.Logic.{_⊎_, _≢_}
 use lib.ListN.{length, drop}
+use lib.Seq.{sets}
 use Rattle.layout.specs.declared.Spot.{Spot}
 use Rattle.medium.specs.declared.Geometry.{Geometry}
-use Rattle.medium.specs.Medium.{recordBytes, place, bytesNeeded, Observations, observe, Store, noStore, recordStore, blockStore, apply, Inside, StoreFits, AfterCut, MayLeave, cutStore, applyCut}
+use Rattle.medium.specs.Medium.{recordBytes, place, bytesNeeded, Observations, observe, Store, noStore, recordStore, blockStore, apply, Inside, StoreFits, AfterCut, tornBlock, oldRecord, newRecord, MayLeave, cutStore, applyCut, Placed, EachMayLeave, applyCuts}
 
 -- what was stored is seen
 unfoldable pub Holds : (g : Geometry) (s : Store) (o : Observations) → Type 0
@@ -32,6 +33,11 @@ pub record Stored (g : Geometry) (s : Store) (before after : Observations) : Typ
   pub record-kept : OtherThanRecord s → after .sector ≡ before .sector
   pub spots-kept : (q : Spot) → q .row .0 < g .rows → OtherThanSpot s q → after .bytesAt g q ≡ before .bytesAt g q
 
+-- What a cut in a store may leave, and that it then stands in the medium: no less, apart from the text of `MayLeave` and `cutStore`
+pub record Leaves (g : Geometry) (s : Store) (l : AfterCut) (m left : List ℕ) : Type 0 where
+  pub may-leave : MayLeave s l
+  pub stands : applyCut g s l m ≡ left
+
 -- All laws. A store is one that lies in the medium.
 pub record MediumLaws : Type 0 where
   -- spots are disjoint from the record and from each other
@@ -52,3 +58,13 @@ pub record MediumLaws : Type 0 where
   pub cut-other-than-spot : (s : Store) (l : AfterCut) (q : Spot) → MayLeave s l → OtherThanSpot s q → OtherThanSpot (cutStore s l) q
   pub cut-beyond-kept : (g : Geometry) (n : ℕ) (s : Store) (l : AfterCut) (m : List ℕ) → StoreFits g n s → MayLeave s l
       → drop n (applyCut g s l m) ≡ drop n m
+  -- "A block store then leaves any bytes in its spot", as many as were stored; "A record store leaves the old record .. or the new"
+  pub any-bytes-left : (g : Geometry) (p : Spot) (stored bytes m : List ℕ) → length bytes ≡ length stored
+      → Leaves g (blockStore p stored) (tornBlock bytes) m (sets m (place g p) bytes)
+  pub old-record-left : (g : Geometry) (sector m : List ℕ) → Leaves g (recordStore sector) oldRecord m m
+  pub new-record-left : (g : Geometry) (sector m : List ℕ) → Leaves g (recordStore sector) newRecord m (sets m 0 sector)
+  -- the same of each store that may not be down (document 02, W4), whatever is left of the others
+  pub none-pending : (m : List ℕ) → EachMayLeave [] [] × (applyCuts [] [] m ≡ m)
+  pub each-left : (s : Placed) (l : AfterCut) (stores : List Placed) (left : List AfterCut) (m before after : List ℕ) → EachMayLeave stores left
+      → applyCuts stores left m ≡ before → Leaves (s .geometry) (s .store) l before after
+      → EachMayLeave (s ∷ stores) (l ∷ left) × (applyCuts (s ∷ stores) (l ∷ left) m ≡ after)

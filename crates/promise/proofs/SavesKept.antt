@@ -1,0 +1,295 @@
+-- What plain volume and tally keep: `saves-kept`.
+use Prim.Native.Nat.{ℕ, _*_, _≤_, _<_}
+use mathlib.Core.Path.{_≡_, refl, sym, ap, _∙_, subst}
+use mathlib.Core.Bool.{Bool, true, false, cond, _||_, _&&_, false≢true}
+use mathlib.Core.List.{List}
+use mathlib.Core.Option.{Option, none, some}
+use lib.Dec.{ltb, eqb}
+use borrow.Author.Tests.{lt-ltb, le-ltb, eq-eqb, eqb-true}
+use Rattle.base.proofs.Booleans.{by-test, cond-cases}
+use Rattle.layout.specs.History.{diskCount}
+use Rattle.layout.specs.Tally.{Mode, notGrowing, growing, isRunning, Tally, nextBlock, windowFull, lastWindow}
+use Rattle.promise.specs.Calls.{Call, grow, growBeyondDoubling, copy, checkpoint, advance, write, read, restart, flushed, settles, CutLeft, sameRecord, recordOld, recordNew, ended, cutIn}
+use Rattle.promise.specs.Model.{noBlock, grownTally, withBlocks, copiedTally, nextWindowTally, finishedTally, recordedTally, restartedTally, checkpointFinishes, Step, leaving, saving, recording, advanceStep, stepOf, PlainVolume, startPlain, withSave, withAdded, unset, Model, startModel, stepped, accepting, CachedModel, nothingPending, isSaved, withStep, following, withCall, modelOr, leftModel, afterCut, modelAfter}
+use Rattle.promise.specs.SavesKept.{Saves, a-write, MayFinish, a-checkpoint, an-advance, Settles, a-restart, a-flushed, made, KeptButWritten, SavesKept}
+
+-- ---- the steps of calls
+
+saved-none : (c : Call) (t : Tally) (x : ℕ) → (Saves c x → ⊥) → isSaved (stepOf c t .save) x ≡ false
+unfolding stepOf recording leaving saving isSaved
+saved-none (grow count) t x other = refl
+saved-none (growBeyondDoubling count) t x other = refl
+saved-none (copy y) t x other = refl
+saved-none checkpoint t x other = refl
+saved-none advance t x other = go (nextBlock t)
+  where
+    go : (next : Option ℕ) → isSaved (advanceStep next t .save) x ≡ false
+    go none = unfold advanceStep recording isSaved in refl
+    go (some y) = unfold advanceStep leaving isSaved in refl
+saved-none (write y piece) t x other = by-test (eqb x y) (λ e. absurd (other (subst (λ (z : ℕ). Saves (write y piece) z) (sym (eqb-true x y e)) a-write))) (λ e. e)
+saved-none (read y piece) t x other = refl
+saved-none restart t x other = refl
+saved-none flushed t x other = refl
+
+-- whether a growth runs after a checkpoint
+mode-recorded : (full last : Bool) (t : Tally)
+    → isRunning (cond full (cond last (finishedTally t) (nextWindowTally t)) (withBlocks t (t .copied) (t .copied)) .mode) ≡ cond (full && last) false (isRunning (t .mode))
+unfolding finishedTally nextWindowTally withBlocks
+mode-recorded true true t = refl
+mode-recorded true false t = refl
+mode-recorded false last t = refl
+
+-- Finishing: what is said of a step, and whether a growth ran before it
+record Ends (t : Tally) (step : Step) : Type 0 where
+  while-running : isRunning (step .tally .mode) ≡ true → step .finishes ≡ false
+  when-over : isRunning (t .mode) ≡ true → isRunning (step .tally .mode) ≡ false → step .finishes ≡ true
+
+ends-kept : (t u : Tally) (save : Option (ℕ × List ℕ)) (stores : Bool) → u .mode ≡ t .mode
+    → Ends t (record { tally = u; finishes = false; save = save; storesRecord = stores })
+ends-kept t u save stores e =
+    record { while-running = λ on. refl; when-over = λ on off. absurd (false≢true (sym off ∙ (ap isRunning e ∙ on))) }
+
+ends-grown : (t : Tally) (count : ℕ) → Ends t (recording (grownTally count t) false)
+unfolding recording grownTally
+ends-grown t count = record { while-running = λ on. refl; when-over = λ on off. absurd (false≢true (sym off)) }
+
+ends-recorded : (t : Tally) → Ends t (recording (recordedTally t) (checkpointFinishes t))
+unfolding recording recordedTally checkpointFinishes
+ends-recorded t =
+    let mode = mode-recorded (windowFull t) (lastWindow t) t in
+    record {
+      while-running = λ on.
+          by-test (windowFull t && lastWindow t) (λ e. absurd (false≢true (sym (mode ∙ ap (λ (b : Bool). cond b false (isRunning (t .mode))) e) ∙ on))) (λ e. e);
+      when-over = λ on off.
+          by-test (windowFull t && lastWindow t) (λ e. e)
+          (λ e. absurd (false≢true (sym off ∙ (mode ∙ (ap (λ (b : Bool). cond b false (isRunning (t .mode))) e ∙ on)))));
+    }
+
+ends-of : (c : Call) (t : Tally) → Ends t (stepOf c t)
+unfolding stepOf leaving saving
+ends-of (grow count) t = ends-grown t count
+ends-of (growBeyondDoubling count) t = ends-grown t count
+ends-of (copy x) t = ends-kept t (copiedTally x t) none false (unfold copiedTally withBlocks in refl)
+ends-of checkpoint t = ends-recorded t
+ends-of advance t = go (nextBlock t)
+  where
+    go : (next : Option ℕ) → Ends t (advanceStep next t)
+    go none = unfold advanceStep in ends-recorded t
+    go (some x) = unfold advanceStep leaving in ends-kept t (copiedTally x t) none false (unfold copiedTally withBlocks in refl)
+ends-of (write x piece) t = ends-kept t t (some (x, piece)) false refl
+ends-of (read x piece) t = ends-kept t t none false refl
+ends-of restart t = ends-kept t (restartedTally t) none false (unfold restartedTally withBlocks in refl)
+ends-of flushed t = ends-kept t t none false refl
+
+no-end : (c : Call) (t : Tally) → (MayFinish c → ⊥) → stepOf c t .finishes ≡ false
+unfolding stepOf recording leaving saving
+no-end (grow count) t other = refl
+no-end (growBeyondDoubling count) t other = refl
+no-end (copy x) t other = refl
+no-end checkpoint t other = absurd (other a-checkpoint)
+no-end advance t other = absurd (other an-advance)
+no-end (write x piece) t other = refl
+no-end (read x piece) t other = refl
+no-end restart t other = refl
+no-end flushed t other = refl
+
+-- ---- the model after an accepted call
+
+current-by : (settled : Bool) (o : Model) (k : CachedModel) → k .current ≡ o → cond settled (nothingPending o) k .current ≡ o
+unfolding nothingPending
+current-by true o k e = refl
+current-by false o k e = e
+
+current-after : (c : Call) (k : CachedModel) → modelAfter (ended c true) k .current ≡ stepped (stepOf c (k .current .tally)) (k .current)
+unfolding modelAfter following accepting withStep
+current-after c k = current-by (settles c) _ _ refl
+
+-- the open blocks after a step, and their bytes
+blocks-kept : (step : Step) (o : Model) → step .finishes ≡ false → stepped step o .plain .blocks ≡ o .plain .blocks
+unfolding stepped
+blocks-kept step o e = rw e (go (step .save))
+  where
+    go : (save : Option (ℕ × List ℕ)) → withSave save (o .plain) .blocks ≡ o .plain .blocks
+    go none = unfold withSave in refl
+    go (some w) = unfold withSave in refl
+
+blocks-added : (step : Step) (o : Model) → step .finishes ≡ true
+    → stepped step o .plain ≡ withAdded (diskCount (o .tally .counts) * o .tally .rows) (o .plain)
+unfolding stepped
+blocks-added step o e = rw e refl
+
+saved-other : (save : Option (ℕ × List ℕ)) (p : PlainVolume) (x : ℕ) → isSaved save x ≡ false → withSave save p .bytes x ≡ p .bytes x
+unfolding withSave isSaved
+saved-other none p x e = refl
+saved-other (some w) p x e = rw e refl
+
+bytes-kept : (step : Step) (o : Model) (x : ℕ) → x < o .plain .blocks → isSaved (step .save) x ≡ false → stepped step o .plain .bytes x ≡ o .plain .bytes x
+unfolding stepped
+bytes-kept step o x below e = go (step .finishes)
+  where
+    go : (finishes : Bool)
+        → cond finishes (withAdded (diskCount (o .tally .counts) * o .tally .rows) (o .plain)) (withSave (step .save) (o .plain)) .bytes x ≡ o .plain .bytes x
+    go true = unfold withAdded in rw (lt-ltb x (o .plain .blocks) below) refl
+    go false = saved-other (step .save) (o .plain) x e
+
+-- ---- the laws
+
+accepted-keeps : (c : Call) (k : CachedModel) (x : ℕ) → x < k .current .plain .blocks → (Saves c x → ⊥)
+    → modelAfter (ended c true) k .current .plain .bytes x ≡ k .current .plain .bytes x
+accepted-keeps c k x below other =
+    rw (current-after c k) (bytes-kept (stepOf c (k .current .tally)) (k .current) x below (saved-none c (k .current .tally) x other))
+
+write-sets : (x : ℕ) (piece : List ℕ) (k : CachedModel) → modelAfter (ended (write x piece) true) k .current .plain .bytes x ≡ some piece
+unfolding modelAfter following settles withStep stepped stepOf saving withSave
+write-sets x piece k = rw (eq-eqb x x refl) refl
+
+open-kept : (c : Call) (k : CachedModel) → (MayFinish c → ⊥) → modelAfter (ended c true) k .current .plain .blocks ≡ k .current .plain .blocks
+open-kept c k other = rw (current-after c k) (blocks-kept (stepOf c (k .current .tally)) (k .current) (no-end c (k .current .tally) other))
+
+mode-after : (c : Call) (k : CachedModel) → modelAfter (ended c true) k .current .tally ≡ stepOf c (k .current .tally) .tally
+mode-after c k = rw (current-after c k) (unfold stepped in refl)
+
+open-running : (c : Call) (k : CachedModel) → isRunning (modelAfter (ended c true) k .current .tally .mode) ≡ true
+    → modelAfter (ended c true) k .current .plain .blocks ≡ k .current .plain .blocks
+open-running c k on =
+    let ends = ends-of c (k .current .tally) in
+    rw (current-after c k)
+    (blocks-kept (stepOf c (k .current .tally)) (k .current) (ends .while-running (sym (ap (λ (t : Tally). isRunning (t .mode)) (mode-after c k)) ∙ on)))
+
+finishes-after : (c : Call) (k : CachedModel) → isRunning (k .current .tally .mode) ≡ true → isRunning (modelAfter (ended c true) k .current .tally .mode) ≡ false
+    → modelAfter (ended c true) k .current .plain ≡ withAdded (diskCount (k .current .tally .counts) * k .current .tally .rows) (k .current .plain)
+finishes-after c k on off =
+    let ends = ends-of c (k .current .tally) in
+    rw (current-after c k)
+    (blocks-added (stepOf c (k .current .tally)) (k .current) (ends .when-over on (sym (ap (λ (t : Tally). isRunning (t .mode)) (mode-after c k)) ∙ off)))
+
+open-finished : (c : Call) (k : CachedModel) → isRunning (k .current .tally .mode) ≡ true → isRunning (modelAfter (ended c true) k .current .tally .mode) ≡ false
+    → modelAfter (ended c true) k .current .plain .blocks ≡ diskCount (k .current .tally .counts) * k .current .tally .rows
+open-finished c k on off = rw (finishes-after c k on off) (unfold withAdded in refl)
+
+added-unset : (c : Call) (k : CachedModel) → isRunning (k .current .tally .mode) ≡ true → isRunning (modelAfter (ended c true) k .current .tally .mode) ≡ false
+    → (x : ℕ) → k .current .plain .blocks ≤ x → modelAfter (ended c true) k .current .plain .bytes x ≡ none
+added-unset c k on off x h = rw (finishes-after c k on off) (unfold withAdded in rw (le-ltb x (k .current .plain .blocks) h) refl)
+
+settled-none : (c : Call) (k : CachedModel) → Settles c → (x : ℕ) → modelAfter (ended c true) k .written x ≡ false
+unfolding modelAfter following settles nothingPending noBlock
+settled-none c k a-restart x = refl
+settled-none c k a-flushed x = refl
+
+save-written : (c : Call) (k : CachedModel) (x : ℕ) → Saves c x → modelAfter (ended c true) k .written x ≡ true
+unfolding modelAfter following settles withStep stepOf saving isSaved
+save-written c k x a-write = rw (eq-eqb x x refl) refl
+
+not-settled : (c : Call) → (Settles c → ⊥) → settles c ≡ false
+unfolding settles
+not-settled (grow count) other = refl
+not-settled (growBeyondDoubling count) other = refl
+not-settled (copy x) other = refl
+not-settled checkpoint other = refl
+not-settled advance other = refl
+not-settled (write x piece) other = refl
+not-settled (read x piece) other = refl
+not-settled restart other = absurd (other a-restart)
+not-settled flushed other = absurd (other a-flushed)
+
+written-kept : (c : Call) (k : CachedModel) (x : ℕ) → (Settles c → ⊥) → (Saves c x → ⊥) → modelAfter (ended c true) k .written x ≡ k .written x
+unfolding modelAfter following withStep
+written-kept c k x unsettled other = rw (not-settled c unsettled) (rw (saved-none c (k .current .tally) x other) refl)
+
+before-by : (settled : Bool) (o : Model) (k : CachedModel) → cond settled (nothingPending o) k .beforeRecord ≡ cond settled none (k .beforeRecord)
+unfolding nothingPending
+before-by true o k = refl
+before-by false o k = refl
+
+before-after : (c : Call) (k : CachedModel)
+    → modelAfter (ended c true) k .beforeRecord ≡ cond (settles c) none (cond (stepOf c (k .current .tally) .storesRecord) (some (k .current)) (k .beforeRecord))
+unfolding modelAfter following withStep
+before-after c k = before-by (settles c) _ _
+
+taken-by : (settled stores : Bool) (before : Option Model) (o current : Model) → before ≡ none
+    → cond settled none (cond stores (some current) before) ≡ some o → o ≡ current
+taken-by true stores before o current e f = cc
+taken-by false true before o current e f = cc
+taken-by false false before o current e f = cc
+
+taken-back : (c : Call) (k : CachedModel) (o : Model) → k .beforeRecord ≡ none → modelAfter (ended c true) k .beforeRecord ≡ some o → o ≡ k .current
+taken-back c k o e f = taken-by (settles c) (stepOf c (k .current .tally) .storesRecord) (k .beforeRecord) o (k .current) e (sym (before-after c k) ∙ f)
+
+cut-keeps : (k : CachedModel) (o : Model) → KeptButWritten k o (record { plain = unset (k .written) (o .plain); tally = o .tally })
+unfolding unset
+cut-keeps k o =
+    record {
+      same-tally = refl;
+      same-open = refl;
+      others-kept = λ x e. rw e refl;
+      written-unset = λ x e. rw e refl;
+    }
+
+made-same : (c : Option Call) (k : CachedModel) → withCall c k ≡ made c k
+unfolding made withCall modelAfter
+made-same none k = refl
+made-same (some c) k = refl
+
+cut-left : (c : Option Call) (left : CutLeft) (k : CachedModel) → KeptButWritten (made c k) (leftModel c left k) (modelAfter (cutIn c left) k .current)
+unfolding modelAfter nothingPending afterCut
+cut-left c left k = rw (sym (made-same c k)) (cut-keeps (withCall c k) (leftModel c left k))
+
+-- what a cut leaves, by the record that it leaves
+same-left : (c : Option Call) (k : CachedModel) → leftModel c sameRecord k ≡ k .current
+unfolding leftModel
+same-left c k = refl
+
+new-left : (c : Option Call) (k : CachedModel) → leftModel c recordNew k ≡ made c k .current
+unfolding leftModel
+new-left c k = ap (λ (l : CachedModel). l .current) (made-same c k)
+
+old-left : (c : Option Call) (k : CachedModel) (o : Model) → made c k .beforeRecord ≡ some o → leftModel c recordOld k ≡ o
+unfolding leftModel
+old-left c k o e = ap (λ (l : Option Model). modelOr l (k .current)) (ap (λ (l : CachedModel). l .beforeRecord) (made-same c k) ∙ e)
+
+cut-same : (c : Option Call) (k : CachedModel) → KeptButWritten (made c k) (k .current) (modelAfter (cutIn c sameRecord) k .current)
+cut-same c k = subst (λ (o : Model). KeptButWritten (made c k) o (modelAfter (cutIn c sameRecord) k .current)) (same-left c k) (cut-left c sameRecord k)
+
+cut-new : (c : Option Call) (k : CachedModel) → KeptButWritten (made c k) (made c k .current) (modelAfter (cutIn c recordNew) k .current)
+cut-new c k = subst (λ (o : Model). KeptButWritten (made c k) o (modelAfter (cutIn c recordNew) k .current)) (new-left c k) (cut-left c recordNew k)
+
+cut-old : (c : Option Call) (k : CachedModel) (o : Model) → made c k .beforeRecord ≡ some o → KeptButWritten (made c k) o (modelAfter (cutIn c recordOld) k .current)
+cut-old c k o e = subst (λ (p : Model). KeptButWritten (made c k) p (modelAfter (cutIn c recordOld) k .current)) (old-left c k o e) (cut-left c recordOld k)
+
+cut-settles : (c : Option Call) (left : CutLeft) (k : CachedModel) (x : ℕ) → modelAfter (cutIn c left) k .written x ≡ false
+unfolding modelAfter nothingPending noBlock
+cut-settles c left k x = refl
+
+cut-record : (c : Option Call) (left : CutLeft) (k : CachedModel) → modelAfter (cutIn c left) k .beforeRecord ≡ none
+unfolding modelAfter nothingPending
+cut-record c left k = refl
+
+start-open : (s n : ℕ) → startModel s n .plain .blocks ≡ n * s
+unfolding startModel startPlain
+start-open s n = refl
+
+refused-keeps : (c : Call) (k : CachedModel) → modelAfter (ended c false) k ≡ k
+unfolding modelAfter
+refused-keeps c k = refl
+
+pub saves-kept : SavesKept
+saves-kept =
+    record {
+      start-open = start-open;
+      refused-keeps = refused-keeps;
+      write-sets = write-sets;
+      accepted-keeps = accepted-keeps;
+      open-kept = open-kept;
+      open-running = open-running;
+      open-finished = open-finished;
+      added-unset = added-unset;
+      settled-none = settled-none;
+      save-written = save-written;
+      written-kept = written-kept;
+      taken-back = taken-back;
+      cut-same = cut-same;
+      cut-new = cut-new;
+      cut-old = cut-old;
+      cut-settles = cut-settles;
+      cut-record = cut-record;
+    }
