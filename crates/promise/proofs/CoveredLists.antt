@@ -11,6 +11,7 @@ use Rattle.volume.specs.Calls.{Outcome}
 use Rattle.promise.specs.Calls.{Call, advance, write, read, restart, flushed}
 use Rattle.promise.specs.Lists.{Event, runs, cut, System, up, down, drivesOf, IsUp, NoEarlyCut, storesAt, isAccepted, after, afterAll, Allowed, Lawful, Further, AllFurther}
 use Rattle.promise.specs.WithoutCache.{DirectEvent, ends, fails, flushedAfter, fromFormat, DirectFurther}
+use Rattle.promise.proofs.WithoutCache.{flushed-append}
 use Rattle.promise.specs.CoveredLists.{CallsOnly, no-call, one-more, EarlyListsCovered, ListsCovered, FurtherCovered, DirectListsCovered}
 
 -- ---- no cut before the first flushed
@@ -76,37 +77,55 @@ module _ (calls : (c : Call) (v : Volume) (o : Observations) → Outcome) where
   further-then s [] e f h = (h, tt)
   further-then s (g ∷ es) e f h = (f .0, further-then (after calls s g) es e (f .1) h)
 
+  a-refused : (s : System) (es : List Event) → AllFurther calls s es → (c : Call) → isAccepted calls c (afterAll calls s es) ≡ false
+      → AllFurther calls s (es ++ (runs c ∷ []))
+  a-refused s es f c e = further-then s es (runs c) f (Further.a-refused e)
+
+  a-flushed : (s : System) (es : List Event) → AllFurther calls s es → AllFurther calls s (es ++ (runs flushed ∷ []))
+  a-flushed s es f = further-then s es (runs flushed) f Further.a-flushed
+
+  a-write : (s : System) (es : List Event) → AllFurther calls s es → (x : ℕ) (piece : List ℕ) → AllFurther calls s (es ++ (runs (write x piece) ∷ []))
+  a-write s es f x piece = further-then s es (runs (write x piece)) f Further.a-write
+
+  a-read : (s : System) (es : List Event) → AllFurther calls s es → (x : ℕ) (piece : List ℕ) → AllFurther calls s (es ++ (runs (read x piece) ∷ []))
+  a-read s es f x piece = further-then s es (runs (read x piece)) f Further.a-read
+
+  an-advance : (s : System) (es : List Event) → AllFurther calls s es → AllFurther calls s (es ++ (runs advance ∷ []))
+  an-advance s es f = further-then s es (runs advance) f Further.an-advance
+
   pub further-covered : FurtherCovered calls
   unfolding AllFurther
   further-covered =
       record {
         no-call-yet = λ s. tt;
-        an-advance = λ s es f. further-then s es (runs advance) f Further.an-advance;
-        a-write = λ s es f x piece. further-then s es (runs (write x piece)) f Further.a-write;
-        a-read = λ s es f x piece. further-then s es (runs (read x piece)) f Further.a-read;
-        a-flushed = λ s es f. further-then s es (runs flushed) f Further.a-flushed;
-        a-refused = λ s es f c e. further-then s es (runs c) f (Further.a-refused e);
+        an-advance = an-advance;
+        a-write = a-write;
+        a-read = a-read;
+        a-flushed = a-flushed;
+        a-refused = a-refused;
       }
 
 -- ---- drives that keep no store
 
 direct-call : (es : List DirectEvent) (c : Call) → flushedAfter (es ++ (ends c ∷ [])) ≡ flushedAfter es ++ (runs c ∷ runs flushed ∷ [])
 unfolding flushedAfter
-direct-call [] c = refl
-direct-call (ends d ∷ es) c = ap (λ (l : List Event). runs d ∷ runs flushed ∷ l) (direct-call es c)
-direct-call (fails d l ∷ es) c = ap (λ (k : List Event). cut (some d) (l ∷ []) ∷ k) (direct-call es c)
+direct-call es c = flushed-append es (ends c ∷ [])
 
 direct-cut : (es : List DirectEvent) (c : Call) (left : AfterCut) → flushedAfter (es ++ (fails c left ∷ [])) ≡ flushedAfter es ++ (cut (some c) (left ∷ []) ∷ [])
 unfolding flushedAfter
-direct-cut [] c left = refl
-direct-cut (ends d ∷ es) c left = ap (λ (l : List Event). runs d ∷ runs flushed ∷ l) (direct-cut es c left)
-direct-cut (fails d l ∷ es) c left = ap (λ (k : List Event). cut (some d) (l ∷ []) ∷ k) (direct-cut es c left)
+direct-cut es c left = flushed-append es (fails c left ∷ [])
 
 direct-then : (es : List DirectEvent) (e : DirectEvent) → DirectFurther (e ∷ []) → DirectFurther es → DirectFurther (es ++ (e ∷ []))
 direct-then [] e more DirectFurther.no-call = more
 direct-then (ends advance ∷ es) e more (DirectFurther.an-advance f) = DirectFurther.an-advance (direct-then es e more f)
 direct-then (ends (write x piece) ∷ es) e more (DirectFurther.a-write f) = DirectFurther.a-write (direct-then es e more f)
 direct-then (ends (read x piece) ∷ es) e more (DirectFurther.a-read f) = DirectFurther.a-read (direct-then es e more f)
+
+direct-write : (es : List DirectEvent) → DirectFurther es → (x : ℕ) (piece : List ℕ) → DirectFurther (es ++ (ends (write x piece) ∷ []))
+direct-write es f x piece = direct-then es (ends (write x piece)) (DirectFurther.a-write DirectFurther.no-call) f
+
+direct-read : (es : List DirectEvent) → DirectFurther es → (x : ℕ) (piece : List ℕ) → DirectFurther (es ++ (ends (read x piece) ∷ []))
+direct-read es f x piece = direct-then es (ends (read x piece)) (DirectFurther.a-read DirectFurther.no-call) f
 
 pub direct-lists-covered : DirectListsCovered
 unfolding flushedAfter fromFormat
@@ -118,6 +137,6 @@ direct-lists-covered =
       a-cut = direct-cut;
       no-call-yet = DirectFurther.no-call;
       an-advance = λ es f. direct-then es (ends advance) (DirectFurther.an-advance DirectFurther.no-call) f;
-      a-write = λ es f x piece. direct-then es (ends (write x piece)) (DirectFurther.a-write DirectFurther.no-call) f;
-      a-read = λ es f x piece. direct-then es (ends (read x piece)) (DirectFurther.a-read DirectFurther.no-call) f;
+      a-write = direct-write;
+      a-read = direct-read;
     }

@@ -123,21 +123,21 @@ unfolding withSave isSaved
 saved-other none p x e = refl
 saved-other (some w) p x e = rw e refl
 
-bytes-kept : (step : Step) (o : Model) (x : ℕ) → x < o .plain .blocks → isSaved (step .save) x ≡ false → stepped step o .plain .bytes x ≡ o .plain .bytes x
-unfolding stepped
-bytes-kept step o x below e = go (step .finishes)
-  where
-    go : (finishes : Bool)
-        → cond finishes (withAdded (diskCount (o .tally .counts) * o .tally .rows) (o .plain)) (withSave (step .save) (o .plain)) .bytes x ≡ o .plain .bytes x
-    go true = unfold withAdded in rw (lt-ltb x (o .plain .blocks) below) refl
-    go false = saved-other (step .save) (o .plain) x e
-
 -- ---- the laws
 
 accepted-keeps : (c : Call) (k : CachedModel) (x : ℕ) → x < k .current .plain .blocks → (Saves c x → ⊥)
     → modelAfter (ended c true) k .current .plain .bytes x ≡ k .current .plain .bytes x
-accepted-keeps c k x below other =
-    rw (current-after c k) (bytes-kept (stepOf c (k .current .tally)) (k .current) x below (saved-none c (k .current .tally) x other))
+unfolding stepped
+accepted-keeps c k x below other = rw (current-after c k) (by (step .finishes))
+  where
+    step : Step
+    step = stepOf c (k .current .tally)
+
+    by : (finishes : Bool)
+        → cond finishes (withAdded (diskCount (k .current .tally .counts) * k .current .tally .rows) (k .current .plain)) (withSave (step .save) (k .current .plain)) .bytes x
+        ≡ k .current .plain .bytes x
+    by true = unfold withAdded in rw (lt-ltb x (k .current .plain .blocks) below) refl
+    by false = saved-other (step .save) (k .current .plain) x (saved-none c (k .current .tally) x other)
 
 write-sets : (x : ℕ) (piece : List ℕ) (k : CachedModel) → modelAfter (ended (write x piece) true) k .current .plain .bytes x ≡ some piece
 unfolding modelAfter following settles withStep stepped stepOf saving withSave
@@ -230,31 +230,20 @@ unfolding made withCall modelAfter
 made-same none k = refl
 made-same (some c) k = refl
 
-cut-left : (c : Option Call) (left : CutLeft) (k : CachedModel) → KeptButWritten (made c k) (leftModel c left k) (modelAfter (cutIn c left) k .current)
-unfolding modelAfter nothingPending afterCut
-cut-left c left k = rw (sym (made-same c k)) (cut-keeps (withCall c k) (leftModel c left k))
-
--- what a cut leaves, by the record that it leaves
-same-left : (c : Option Call) (k : CachedModel) → leftModel c sameRecord k ≡ k .current
-unfolding leftModel
-same-left c k = refl
-
-new-left : (c : Option Call) (k : CachedModel) → leftModel c recordNew k ≡ made c k .current
-unfolding leftModel
-new-left c k = ap (λ (l : CachedModel). l .current) (made-same c k)
-
-old-left : (c : Option Call) (k : CachedModel) (o : Model) → made c k .beforeRecord ≡ some o → leftModel c recordOld k ≡ o
-unfolding leftModel
-old-left c k o e = ap (λ (l : Option Model). modelOr l (k .current)) (ap (λ (l : CachedModel). l .beforeRecord) (made-same c k) ∙ e)
-
+-- by the record that it leaves
 cut-same : (c : Option Call) (k : CachedModel) → KeptButWritten (made c k) (k .current) (modelAfter (cutIn c sameRecord) k .current)
-cut-same c k = subst (λ (o : Model). KeptButWritten (made c k) o (modelAfter (cutIn c sameRecord) k .current)) (same-left c k) (cut-left c sameRecord k)
+unfolding modelAfter nothingPending afterCut leftModel
+cut-same c k = rw (sym (made-same c k)) (cut-keeps (withCall c k) (k .current))
 
 cut-new : (c : Option Call) (k : CachedModel) → KeptButWritten (made c k) (made c k .current) (modelAfter (cutIn c recordNew) k .current)
-cut-new c k = subst (λ (o : Model). KeptButWritten (made c k) o (modelAfter (cutIn c recordNew) k .current)) (new-left c k) (cut-left c recordNew k)
+unfolding modelAfter nothingPending afterCut leftModel
+cut-new c k = rw (sym (made-same c k)) (cut-keeps (withCall c k) (withCall c k .current))
 
 cut-old : (c : Option Call) (k : CachedModel) (o : Model) → made c k .beforeRecord ≡ some o → KeptButWritten (made c k) o (modelAfter (cutIn c recordOld) k .current)
-cut-old c k o e = subst (λ (p : Model). KeptButWritten (made c k) p (modelAfter (cutIn c recordOld) k .current)) (old-left c k o e) (cut-left c recordOld k)
+unfolding modelAfter nothingPending afterCut leftModel withCall
+cut-old c k o e =
+    let f : withCall c k .beforeRecord ≡ some o = ap (λ (l : CachedModel). l .beforeRecord) (made-same c k) ∙ e in
+    rw (sym (made-same c k)) (rw f (cut-keeps (withCall c k) o))
 
 cut-settles : (c : Option Call) (left : CutLeft) (k : CachedModel) (x : ℕ) → modelAfter (cutIn c left) k .written x ≡ false
 unfolding modelAfter nothingPending noBlock

@@ -25,7 +25,7 @@ use Rattle.promise.proofs.Theorem.{running-grows, grows-running, rests-
 
 -- ---- lists
 
-flushed-append : (es fs : List DirectEvent) → flushedAfter (es ++ fs) ≡ flushedAfter es ++ flushedAfter fs
+pub flushed-append : (es fs : List DirectEvent) → flushedAfter (es ++ fs) ≡ flushedAfter es ++ flushedAfter fs
 unfolding flushedAfter
 flushed-append [] fs = refl
 flushed-append (whole c ∷ es) fs = ap (λ (l : List Event). runs c ∷ runs flushed ∷ l) (flushed-append es fs)
