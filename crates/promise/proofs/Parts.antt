@@ -4,22 +4,51 @@ use Rattle.volume.specs.declared.Volume.{Volume}
 use Rattle.volume.specs.Calls.{Outcome}
 use Rattle.promise.specs.Calls.{Call}
 use Rattle.promise.specs.Promise.{PromiseOf}
-use Rattle.promise.specs.WithoutCache.{PromiseWithoutCacheOf}
-use Rattle.promise.specs.Parts.{Parts, PartsWithoutCache, PartsOfPromise}
+use Rattle.promise.specs.WithoutCache.{fromFormat, PromiseWithoutCacheOf}
+use Rattle.promise.specs.Parts.{StillRuns, NoneTold, Finished, LastTold, ReadAccepted, BytesRead, BytesStand, CallsLeftTold, AdvanceAccepted, EveryRead, EveryGrowth, EveryFurther, Parts, EveryDirectRead, EveryDirectGrowth, EveryDirectFurther, PartsWithoutCache, PartsOfPromise}
 
 module _ (calls : (c : Call) (v : Volume) (o : Observations) → Outcome) where
+  -- ---- with a write cache
+
+  reads-accepted : PromiseOf calls → EveryRead calls (ReadAccepted calls)
+  reads-accepted kept a ok es l early before rest x piece e below whole = kept a ok es l early .reads before rest x piece e below whole .is-accepted
+
+  reads-right : PromiseOf calls → EveryRead calls (BytesRead calls)
+  reads-right kept a ok es l early before rest x piece e below whole = kept a ok es l early .reads before rest x piece e below whole .bytes-read
+
+  bytes-standing : PromiseOf calls → EveryRead calls (BytesStand calls)
+  bytes-standing kept a ok es l early before rest x piece e below whole = kept a ok es l early .reads before rest x piece e below whole .bytes-stand
+
+  calls-left : PromiseOf calls → EveryGrowth calls (CallsLeftTold calls)
+  calls-left kept a ok es l early = kept a ok es l early .calls-left
+
+  runs-before : PromiseOf calls → EveryFurther calls StillRuns
+  runs-before kept a ok es l early is-up on further f = kept a ok es l early .finishes is-up on further f .still-runs
+
+  told-before : PromiseOf calls → EveryFurther calls NoneTold
+  told-before kept a ok es l early is-up on further f = kept a ok es l early .finishes is-up on further f .none-told
+
+  finished-then : PromiseOf calls → EveryFurther calls Finished
+  finished-then kept a ok es l early is-up on further f = kept a ok es l early .finishes is-up on further f .finished
+
+  told-then : PromiseOf calls → EveryFurther calls LastTold
+  told-then kept a ok es l early is-up on further f = kept a ok es l early .finishes is-up on further f .last-told
+
+  advances : PromiseOf calls → EveryGrowth calls (AdvanceAccepted calls)
+  advances kept a ok es l early = kept a ok es l early .advances
+
   pub parts : PromiseOf calls → Parts calls
   parts kept =
       record {
-        is-accepted = λ a ok es l early before rest x piece e below whole. kept a ok es l early .reads before rest x piece e below whole .is-accepted;
-        bytes-read = λ a ok es l early before rest x piece e below whole. kept a ok es l early .reads before rest x piece e below whole .bytes-read;
-        bytes-stand = λ a ok es l early before rest x piece e below whole. kept a ok es l early .reads before rest x piece e below whole .bytes-stand;
-        calls-left = λ a ok es l early. kept a ok es l early .calls-left;
-        still-runs = λ a ok es l early is-up on further f. kept a ok es l early .finishes is-up on further f .still-runs;
-        none-told = λ a ok es l early is-up on further f. kept a ok es l early .finishes is-up on further f .none-told;
-        finished = λ a ok es l early is-up on further f. kept a ok es l early .finishes is-up on further f .finished;
-        last-told = λ a ok es l early is-up on further f. kept a ok es l early .finishes is-up on further f .last-told;
-        advances = λ a ok es l early. kept a ok es l early .advances;
+        is-accepted = reads-accepted kept;
+        bytes-read = reads-right kept;
+        bytes-stand = bytes-standing kept;
+        calls-left = calls-left kept;
+        still-runs = runs-before kept;
+        none-told = told-before kept;
+        finished = finished-then kept;
+        last-told = told-then kept;
+        advances = advances kept;
       }
 
   together : Parts calls → PromiseOf calls
@@ -42,17 +71,43 @@ module _ (calls : (c : Call) (v : Volume) (o : Observations) → Outcome) where
         advances = p .advances a ok es l early;
       }
 
+  -- ---- and with none
+
+  direct-reads-accepted : PromiseWithoutCacheOf calls → EveryDirectRead calls (ReadAccepted calls)
+  direct-reads-accepted kept a ok es l before rest x piece e below whole = kept a ok es l .reads before rest x piece e below whole .is-accepted
+
+  direct-reads-right : PromiseWithoutCacheOf calls → EveryDirectRead calls (BytesRead calls)
+  direct-reads-right kept a ok es l before rest x piece e below whole = kept a ok es l .reads before rest x piece e below whole .bytes-read
+
+  direct-bytes-standing : PromiseWithoutCacheOf calls → EveryDirectRead calls (BytesStand calls)
+  direct-bytes-standing kept a ok es l before rest x piece e below whole = kept a ok es l .reads before rest x piece e below whole .bytes-stand
+
+  direct-calls-left : PromiseWithoutCacheOf calls → EveryDirectGrowth calls (λ a es. CallsLeftTold calls a (fromFormat es))
+  direct-calls-left kept a ok es l = kept a ok es l .calls-left
+
+  direct-runs-before : PromiseWithoutCacheOf calls → EveryDirectFurther calls StillRuns
+  direct-runs-before kept a ok es l is-up on further f = kept a ok es l .finishes is-up on further f .still-runs
+
+  direct-told-before : PromiseWithoutCacheOf calls → EveryDirectFurther calls NoneTold
+  direct-told-before kept a ok es l is-up on further f = kept a ok es l .finishes is-up on further f .none-told
+
+  direct-finished-then : PromiseWithoutCacheOf calls → EveryDirectFurther calls Finished
+  direct-finished-then kept a ok es l is-up on further f = kept a ok es l .finishes is-up on further f .finished
+
+  direct-told-then : PromiseWithoutCacheOf calls → EveryDirectFurther calls LastTold
+  direct-told-then kept a ok es l is-up on further f = kept a ok es l .finishes is-up on further f .last-told
+
   pub parts-without-cache : PromiseWithoutCacheOf calls → PartsWithoutCache calls
   parts-without-cache kept =
       record {
-        is-accepted = λ a ok es l before rest x piece e below whole. kept a ok es l .reads before rest x piece e below whole .is-accepted;
-        bytes-read = λ a ok es l before rest x piece e below whole. kept a ok es l .reads before rest x piece e below whole .bytes-read;
-        bytes-stand = λ a ok es l before rest x piece e below whole. kept a ok es l .reads before rest x piece e below whole .bytes-stand;
-        calls-left = λ a ok es l. kept a ok es l .calls-left;
-        still-runs = λ a ok es l is-up on further f. kept a ok es l .finishes is-up on further f .still-runs;
-        none-told = λ a ok es l is-up on further f. kept a ok es l .finishes is-up on further f .none-told;
-        finished = λ a ok es l is-up on further f. kept a ok es l .finishes is-up on further f .finished;
-        last-told = λ a ok es l is-up on further f. kept a ok es l .finishes is-up on further f .last-told;
+        is-accepted = direct-reads-accepted kept;
+        bytes-read = direct-reads-right kept;
+        bytes-stand = direct-bytes-standing kept;
+        calls-left = direct-calls-left kept;
+        still-runs = direct-runs-before kept;
+        none-told = direct-told-before kept;
+        finished = direct-finished-then kept;
+        last-told = direct-told-then kept;
       }
 
   together-without-cache : PartsWithoutCache calls → PromiseWithoutCacheOf calls
