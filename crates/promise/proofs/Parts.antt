@@ -113,19 +113,19 @@ module _ (calls : (c : Call) (v : Volume) (o : Observations) → Outcome) where
   together-without-cache : PartsWithoutCache calls → PromiseWithoutCacheOf calls
   together-without-cache p a ok es l =
       record {
-        reads = λ before rest x piece e below whole.
+        reads = λ first rest x piece e below whole.
             record {
-              is-accepted = p .is-accepted a ok es l before rest x piece e below whole;
-              bytes-read = p .bytes-read a ok es l before rest x piece e below whole;
-              bytes-stand = p .bytes-stand a ok es l before rest x piece e below whole;
+              is-accepted = p .is-accepted a ok es l first rest x piece e below whole;
+              bytes-read = p .bytes-read a ok es l first rest x piece e below whole;
+              bytes-stand = p .bytes-stand a ok es l first rest x piece e below whole;
             };
         calls-left = p .calls-left a ok es l;
-        finishes = λ is-up on further f.
+        finishes = λ is-up runs further f.
             record {
-              still-runs = p .still-runs a ok es l is-up on further f;
-              none-told = p .none-told a ok es l is-up on further f;
-              finished = p .finished a ok es l is-up on further f;
-              last-told = p .last-told a ok es l is-up on further f;
+              still-runs = p .still-runs a ok es l is-up runs further f;
+              none-told = p .none-told a ok es l is-up runs further f;
+              finished = p .finished a ok es l is-up runs further f;
+              last-told = p .last-told a ok es l is-up runs further f;
             };
       }
 
