@@ -15,21 +15,21 @@ use Rattle.promise.specs.SavesKept.{Saves, a-write, MayFinish, a-checkpo
 
 -- ---- the steps of calls
 
-saved-none : (c : Call) (t : Tally) (x : ℕ) → (Saves c x → ⊥) → isSaved (stepOf c t .save) x ≡ false
+only-writes-save : (c : Call) (t : Tally) (x : ℕ) → (Saves c x → ⊥) → isSaved (stepOf c t .save) x ≡ false
 unfolding stepOf recording leaving saving isSaved
-saved-none (grow count) t x other = refl
-saved-none (growBeyondDoubling count) t x other = refl
-saved-none (copy y) t x other = refl
-saved-none checkpoint t x other = refl
-saved-none advance t x other = go (nextBlock t)
+only-writes-save (grow count) t x other = refl
+only-writes-save (growBeyondDoubling count) t x other = refl
+only-writes-save (copy y) t x other = refl
+only-writes-save checkpoint t x other = refl
+only-writes-save advance t x other = go (nextBlock t)
   where
     go : (next : Option ℕ) → isSaved (advanceStep next t .save) x ≡ false
     go none = unfold advanceStep recording isSaved in refl
     go (some y) = unfold advanceStep leaving isSaved in refl
-saved-none (write y piece) t x other = by-test (eqb x y) (λ e. absurd (other (subst (λ (z : ℕ). Saves (write y piece) z) (sym (eqb-true x y e)) a-write))) (λ e. e)
-saved-none (read y piece) t x other = refl
-saved-none restart t x other = refl
-saved-none flushed t x other = refl
+only-writes-save (write y piece) t x other = by-test (eqb x y) (λ e. absurd (other (subst (λ (z : ℕ). Saves (write y piece) z) (sym (eqb-true x y e)) a-write))) (λ e. e)
+only-writes-save (read y piece) t x other = refl
+only-writes-save restart t x other = refl
+only-writes-save flushed t x other = refl
 
 -- whether a growth runs after a checkpoint
 mode-recorded : (full last : Bool) (t : Tally)
@@ -137,7 +137,7 @@ accepted-keeps c k x below other = rw (current-after c k) (by (step .finishes))
         → cond finishes (withAdded (diskCount (k .current .tally .counts) * k .current .tally .rows) (k .current .plain)) (withSave (step .save) (k .current .plain)) .bytes x
         ≡ k .current .plain .bytes x
     by true = unfold withAdded in rw (lt-ltb x (k .current .plain .blocks) below) refl
-    by false = saved-other (step .save) (k .current .plain) x (saved-none c (k .current .tally) x other)
+    by false = saved-other (step .save) (k .current .plain) x (only-writes-save c (k .current .tally) x other)
 
 write-sets : (x : ℕ) (piece : List ℕ) (k : CachedModel) → modelAfter (ended (write x piece) true) k .current .plain .bytes x ≡ some piece
 unfolding modelAfter following settles withStep stepped stepOf saving withSave
@@ -194,7 +194,7 @@ not-settled flushed other = absurd (other a-flushed)
 
 written-kept : (c : Call) (k : CachedModel) (x : ℕ) → (Settles c → ⊥) → (Saves c x → ⊥) → modelAfter (ended c true) k .written x ≡ k .written x
 unfolding modelAfter following withStep
-written-kept c k x unsettled other = rw (not-settled c unsettled) (rw (saved-none c (k .current .tally) x other) refl)
+written-kept c k x unsettled other = rw (not-settled c unsettled) (rw (only-writes-save c (k .current .tally) x other) refl)
 
 before-by : (settled : Bool) (o : Model) (k : CachedModel) → cond settled (nothingPending o) k .beforeRecord ≡ cond settled none (k .beforeRecord)
 unfolding nothingPending
@@ -267,6 +267,7 @@ saves-kept =
       start-open = start-open;
       refused-keeps = refused-keeps;
       write-sets = write-sets;
+      only-writes-save = only-writes-save;
       accepted-keeps = accepted-keeps;
       open-kept = open-kept;
       open-running = open-running;

@@ -6,9 +6,9 @@ use mathlib.Core.Bool.{true, false}
 use mathlib.Core.List.{List}
 use mathlib.Core.Option.{Option, none, some}
 use Rattle.layout.specs.History.{diskCount}
-use Rattle.layout.specs.Tally.{isRunning}
+use Rattle.layout.specs.Tally.{isRunning, Tally}
 use Rattle.promise.specs.Calls.{Call, checkpoint, advance, write, restart, flushed, CutLeft, sameRecord, recordOld, recordNew, ended, cutIn}
-use Rattle.promise.specs.Model.{Model, startModel, CachedModel, modelAfter}
+use Rattle.promise.specs.Model.{stepOf, Model, startModel, CachedModel, isSaved, modelAfter}
 
 -- the block that a call saves
 pub data Saves : (c : Call) (x : ℕ) → Type 0 where
@@ -43,7 +43,8 @@ pub record SavesKept : Type 0 where
   pub refused-keeps : (c : Call) (k : CachedModel) → modelAfter (ended c false) k ≡ k
   -- "Accepted write: the block holds the piece."
   pub write-sets : (x : ℕ) (piece : List ℕ) (k : CachedModel) → modelAfter (ended (write x piece) true) k .current .plain .bytes x ≡ some piece
-  -- "Nothing else but a cut changes it.": no open block but the one that the call saves
+  -- "Nothing else but a cut changes it.": only a write saves, and no open block changes but the one that it saves
+  pub only-writes-save : (c : Call) (t : Tally) (x : ℕ) → (Saves c x → ⊥) → isSaved (stepOf c t .save) x ≡ false
   pub accepted-keeps : (c : Call) (k : CachedModel) (x : ℕ) → x < k .current .plain .blocks → (Saves c x → ⊥)
       → modelAfter (ended c true) k .current .plain .bytes x ≡ k .current .plain .bytes x
   -- "A growth finished in the tally: (m+n)·s open, the added ones unset."; while it runs no more and no fewer are open than before
