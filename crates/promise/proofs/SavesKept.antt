@@ -6,7 +6,7 @@ use mathlib.Core.List.{List}
 use mathlib.Core.Option.{Option, none, some}
 use lib.Dec.{ltb, eqb}
 use borrow.Author.Tests.{lt-ltb, le-ltb, eq-eqb, eqb-true}
-use Rattle.base.proofs.Booleans.{by-test, cond-cases}
+use Rattle.base.proofs.Booleans.{by-test, clash}
 use Rattle.layout.specs.History.{diskCount}
 use Rattle.layout.specs.Tally.{Mode, notGrowing, growing, isRunning, Tally, nextBlock, windowFull, lastWindow}
 use Rattle.promise.specs.Calls.{Call, grow, growBeyondDoubling, copy, checkpoint, advance, write, read, restart, flushed, settles, CutLeft, sameRecord, recordOld, recordNew, ended, cutIn}
@@ -261,6 +261,37 @@ refused-keeps : (c : Call) (k : CachedModel) → modelAfter (ended c false) k �
 unfolding modelAfter
 refused-keeps c k = refl
 
+-- ---- the tally
+
+finished-last : (c : Call) (t : Tally) → isRunning (t .mode) ≡ true → isRunning (stepOf c t .tally .mode) ≡ false → (windowFull t ≡ true) × (lastWindow t ≡ true)
+unfolding stepOf recording leaving saving recordedTally grownTally copiedTally restartedTally withBlocks
+finished-last c t on = by c
+  where
+    recorded : (full last : Bool)
+        → isRunning (cond full (cond last (finishedTally t) (nextWindowTally t)) (withBlocks t (t .copied) (t .copied)) .mode) ≡ false → (full ≡ true) × (last ≡ true)
+    recorded true true off = (refl, refl)
+    recorded true false off = unfold nextWindowTally in clash on off
+    recorded false last off = clash on off
+
+    advanced : (next : Option ℕ) → isRunning (advanceStep next t .tally .mode) ≡ false → (windowFull t ≡ true) × (lastWindow t ≡ true)
+    advanced none off = recorded (windowFull t) (lastWindow t) (unfold advanceStep in off)
+    advanced (some x) off = clash on (unfold advanceStep in off)
+
+    by : (c : Call) → isRunning (stepOf c t .tally .mode) ≡ false → (windowFull t ≡ true) × (lastWindow t ≡ true)
+    by (grow count) off = absurd (false≢true (sym off))
+    by (growBeyondDoubling count) off = absurd (false≢true (sym off))
+    by (copy x) off = clash on off
+    by checkpoint off = recorded (windowFull t) (lastWindow t) off
+    by advance off = advanced (nextBlock t) off
+    by (write x piece) off = clash on off
+    by (read x piece) off = clash on off
+    by restart off = clash on off
+    by flushed off = clash on off
+
+restart-recorded : (t : Tally) (x : ℕ) → stepOf restart t .tally .copied x ≡ t .recorded x
+unfolding stepOf leaving restartedTally withBlocks
+restart-recorded t x = refl
+
 pub saves-kept : SavesKept
 saves-kept =
     record {
@@ -282,4 +313,6 @@ saves-kept =
       cut-old = cut-old;
       cut-settles = cut-settles;
       cut-record = cut-record;
+      finished-last = finished-last;
+      restart-recorded = restart-recorded;
     }

@@ -184,14 +184,15 @@ unfolding advancing telling accepted number
 advance-told v o none = refl
 advance-told v o (some x) = refl
 
+-- a block that is saved and then unset
+unset-saved : (e f : Bool) (b : List ℕ) (z : Option (List ℕ)) → cond (e || f) none (cond e (some b) z) ≡ cond e none (cond f none z)
+unset-saved true f b z = refl
+unset-saved false f b z = refl
+
 -- a copy keeps the record
 copy-keeps : (v : Volume) (x : ℕ) (q : Pending) (t : Tally) → KeepsRecord v (leaving t) (withPending (withCopy v x) q)
 unfolding withCopy withPending withGrowth recordedOnly leaving stepped withSave unset isSaved
 copy-keeps v x q t = record { same-record = refl; no-record = refl; unset-after = λ f o. refl }
-
-unset-saved : (e f : Bool) (b : List ℕ) (z : Option (List ℕ)) → cond (e || f) none (cond e (some b) z) ≡ cond e none (cond f none z)
-unset-saved true f b z = refl
-unset-saved false f b z = refl
 
 write-keeps : (v : Volume) (x : ℕ) (piece : List ℕ) (q : Pending) (t : Tally) → KeepsRecord v (saving x piece t) (withPending v q)
 unfolding withPending withGrowth recordedOnly saving stepped withSave unset isSaved

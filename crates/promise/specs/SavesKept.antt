@@ -6,7 +6,7 @@ use mathlib.Core.Bool.{true, false}
 use mathlib.Core.List.{List}
 use mathlib.Core.Option.{Option, none, some}
 use Rattle.layout.specs.History.{diskCount}
-use Rattle.layout.specs.Tally.{isRunning, Tally}
+use Rattle.layout.specs.Tally.{isRunning, Tally, windowFull, lastWindow}
 use Rattle.promise.specs.Calls.{Call, checkpoint, advance, write, restart, flushed, CutLeft, sameRecord, recordOld, recordNew, ended, cutIn}
 use Rattle.promise.specs.Model.{stepOf, Model, startModel, CachedModel, isSaved, modelAfter}
 
@@ -67,3 +67,6 @@ pub record SavesKept : Type 0 where
   pub cut-old : (c : Option Call) (k : CachedModel) (o : Model) → made c k .beforeRecord ≡ some o → KeptButWritten (made c k) o (modelAfter (cutIn c recordOld) k .current)
   pub cut-settles : (c : Option Call) (left : CutLeft) (k : CachedModel) (x : ℕ) → modelAfter (cutIn c left) k .written x ≡ false
   pub cut-record : (c : Option Call) (left : CutLeft) (k : CachedModel) → modelAfter (cutIn c left) k .beforeRecord ≡ none
+  -- the tally: "at w = R the growth is finished", so where the last window is full and not before; "only the recorded blocks are copied" after restart
+  pub finished-last : (c : Call) (t : Tally) → isRunning (t .mode) ≡ true → isRunning (stepOf c t .tally .mode) ≡ false → (windowFull t ≡ true) × (lastWindow t ≡ true)
+  pub restart-recorded : (t : Tally) (x : ℕ) → stepOf restart t .tally .copied x ≡ t .recorded x
