@@ -26,8 +26,15 @@ unfolding NoEarlyCut
 after-flushed [] rest no-call = inl refl
 after-flushed (runs c ∷ es) rest (one-more h) = inr (after-flushed es rest h)
 
+early-call : (es : List Event) → NoEarlyCut es → (c : Call) → NoEarlyCut (es ++ (runs c ∷ []))
+unfolding NoEarlyCut
+early-call [] h c = inr tt
+early-call (runs d ∷ es) (inl e) c = inl e
+early-call (runs d ∷ es) (inr h) c = inr (early-call es h c)
+early-call (cut d left ∷ es) h c = absurd h
+
 pub early-lists-covered : EarlyListsCovered
-early-lists-covered = record { no-flushed = no-flushed; after-flushed = after-flushed }
+early-lists-covered = record { no-flushed = no-flushed; after-flushed = after-flushed; a-call = early-call }
 
 module _ (calls : (c : Call) (v : Volume) (o : Observations) → Outcome) where
   -- ---- lawful lists

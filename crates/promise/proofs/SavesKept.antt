@@ -146,22 +146,22 @@ write-sets x piece k = rw (eq-eqb x x refl) refl
 open-kept : (c : Call) (k : CachedModel) → (MayFinish c → ⊥) → modelAfter (ended c true) k .current .plain .blocks ≡ k .current .plain .blocks
 open-kept c k other = rw (current-after c k) (blocks-kept (stepOf c (k .current .tally)) (k .current) (no-end c (k .current .tally) other))
 
-mode-after : (c : Call) (k : CachedModel) → modelAfter (ended c true) k .current .tally ≡ stepOf c (k .current .tally) .tally
-mode-after c k = rw (current-after c k) (unfold stepped in refl)
+pub tally-after : (c : Call) (k : CachedModel) → modelAfter (ended c true) k .current .tally ≡ stepOf c (k .current .tally) .tally
+tally-after c k = rw (current-after c k) (unfold stepped in refl)
 
 open-running : (c : Call) (k : CachedModel) → isRunning (modelAfter (ended c true) k .current .tally .mode) ≡ true
     → modelAfter (ended c true) k .current .plain .blocks ≡ k .current .plain .blocks
 open-running c k on =
     let ends = ends-of c (k .current .tally) in
     rw (current-after c k)
-    (blocks-kept (stepOf c (k .current .tally)) (k .current) (ends .while-running (sym (ap (λ (t : Tally). isRunning (t .mode)) (mode-after c k)) ∙ on)))
+    (blocks-kept (stepOf c (k .current .tally)) (k .current) (ends .while-running (sym (ap (λ (t : Tally). isRunning (t .mode)) (tally-after c k)) ∙ on)))
 
 finishes-after : (c : Call) (k : CachedModel) → isRunning (k .current .tally .mode) ≡ true → isRunning (modelAfter (ended c true) k .current .tally .mode) ≡ false
     → modelAfter (ended c true) k .current .plain ≡ withAdded (diskCount (k .current .tally .counts) * k .current .tally .rows) (k .current .plain)
 finishes-after c k on off =
     let ends = ends-of c (k .current .tally) in
     rw (current-after c k)
-    (blocks-added (stepOf c (k .current .tally)) (k .current) (ends .when-over on (sym (ap (λ (t : Tally). isRunning (t .mode)) (mode-after c k)) ∙ off)))
+    (blocks-added (stepOf c (k .current .tally)) (k .current) (ends .when-over on (sym (ap (λ (t : Tally). isRunning (t .mode)) (tally-after c k)) ∙ off)))
 
 open-finished : (c : Call) (k : CachedModel) → isRunning (k .current .tally .mode) ≡ true → isRunning (modelAfter (ended c true) k .current .tally .mode) ≡ false
     → modelAfter (ended c true) k .current .plain .blocks ≡ diskCount (k .current .tally .counts) * k .current .tally .rows
@@ -201,7 +201,7 @@ unfolding nothingPending
 before-by true o k = refl
 before-by false o k = refl
 
-before-after : (c : Call) (k : CachedModel)
+pub before-after : (c : Call) (k : CachedModel)
     → modelAfter (ended c true) k .beforeRecord ≡ cond (settles c) none (cond (stepOf c (k .current .tally) .storesRecord) (some (k .current)) (k .beforeRecord))
 unfolding modelAfter following withStep
 before-after c k = before-by (settles c) _ _
@@ -244,6 +244,12 @@ unfolding modelAfter nothingPending afterCut leftModel withCall
 cut-old c k o e =
     let f : withCall c k .beforeRecord ≡ some o = ap (λ (l : CachedModel). l .beforeRecord) (made-same c k) ∙ e in
     rw (sym (made-same c k)) (rw f (cut-keeps (withCall c k) o))
+
+cut-none-old : (c : Option Call) (k : CachedModel) → made c k .beforeRecord ≡ none → KeptButWritten (made c k) (k .current) (modelAfter (cutIn c recordOld) k .current)
+unfolding modelAfter nothingPending afterCut leftModel withCall
+cut-none-old c k e =
+    let f : withCall c k .beforeRecord ≡ none = ap (λ (l : CachedModel). l .beforeRecord) (made-same c k) ∙ e in
+    rw (sym (made-same c k)) (rw f (cut-keeps (withCall c k) (k .current)))
 
 cut-settles : (c : Option Call) (left : CutLeft) (k : CachedModel) (x : ℕ) → modelAfter (cutIn c left) k .written x ≡ false
 unfolding modelAfter nothingPending noBlock
@@ -311,6 +317,7 @@ saves-kept =
       cut-same = cut-same;
       cut-new = cut-new;
       cut-old = cut-old;
+      cut-none-old = cut-none-old;
       cut-settles = cut-settles;
       cut-record = cut-record;
       finished-last = finished-last;

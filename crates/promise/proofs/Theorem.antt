@@ -49,7 +49,7 @@ module _ (calls : (c : Call) (v : Volume) (o : Observations) → Outcome) where
   lawful-before s [] rest l = tt
   lawful-before s (e ∷ es) rest l = (l .0, lawful-before (after calls s e) es rest (l .1))
 
-  lawful-rest : (s : System) (es rest : List Event) → Lawful calls s (es ++ rest) → Lawful calls (afterAll calls s es) rest
+  pub lawful-rest : (s : System) (es rest : List Event) → Lawful calls s (es ++ rest) → Lawful calls (afterAll calls s es) rest
   unfolding Lawful afterAll
   lawful-rest s [] rest l = l
   lawful-rest s (e ∷ es) rest l = lawful-rest (after calls s e) es rest (l .1)
@@ -88,7 +88,7 @@ keeps-early g v d k told (runs c ∷ es) i l (inl e) =
     first c e = subst (λ (c : Call). Next g k told true (up v d) (runs c)) (sym e) (flushed-keeps g k told false v d i)
 keeps-early g v d k told (runs c ∷ es) i l (inr early) = keeps-early g _ _ _ _ es (runs-keeps g k told false v d i c (l .0)) (l .1) early
 
-early-before : (es rest : List Event) → NoEarlyCut (es ++ rest) → NoEarlyCut es
+pub early-before : (es rest : List Event) → NoEarlyCut (es ++ rest) → NoEarlyCut es
 unfolding NoEarlyCut
 early-before [] rest early = tt
 early-before (runs c ∷ es) rest (inl e) = inl e
@@ -211,7 +211,7 @@ module _ (a : Start) where
   cachedAfter es = modelled (fedAll callOutcome (begin a) es) startCached
 
 module _ (a : Start) (ok : accepted (formatted a .reply .answer) ≡ true) where
-  invariant-after : (es : List Event) → Lawful callOutcome (begin a) es → NoEarlyCut es
+  pub invariant-after : (es : List Event) → Lawful callOutcome (begin a) es → NoEarlyCut es
       → Invariant false (startGeometry a) (systemAfter callOutcome a es) (cachedAfter a es) (lastReported callOutcome (begin a) es none)
   unfolding systemAfter begin
   invariant-after es l early = keeps-early (startGeometry a) _ _ (startCached a) none es (start a ok) l early

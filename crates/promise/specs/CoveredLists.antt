@@ -21,6 +21,7 @@ pub data CallsOnly : List Event → Type 0 where
 pub record EarlyListsCovered : Type 0 where
   pub no-flushed : (es : List Event) → CallsOnly es → NoEarlyCut es
   pub after-flushed : (es rest : List Event) → CallsOnly es → NoEarlyCut (es ++ (runs flushed ∷ rest))
+  pub a-call : (es : List Event) → NoEarlyCut es → (c : Call) → NoEarlyCut (es ++ (runs c ∷ []))
 
 module _ (calls : (c : Call) (v : Volume) (o : Observations) → Outcome) where
   -- "Take every list of the calls .., whichever of their stores the power fails in": what may be added to a lawful list

@@ -65,6 +65,7 @@ pub record SavesKept : Type 0 where
   pub cut-same : (c : Option Call) (k : CachedModel) → KeptButWritten (made c k) (k .current) (modelAfter (cutIn c sameRecord) k .current)
   pub cut-new : (c : Option Call) (k : CachedModel) → KeptButWritten (made c k) (made c k .current) (modelAfter (cutIn c recordNew) k .current)
   pub cut-old : (c : Option Call) (k : CachedModel) (o : Model) → made c k .beforeRecord ≡ some o → KeptButWritten (made c k) o (modelAfter (cutIn c recordOld) k .current)
+  pub cut-none-old : (c : Option Call) (k : CachedModel) → made c k .beforeRecord ≡ none → KeptButWritten (made c k) (k .current) (modelAfter (cutIn c recordOld) k .current)
   pub cut-settles : (c : Option Call) (left : CutLeft) (k : CachedModel) (x : ℕ) → modelAfter (cutIn c left) k .written x ≡ false
   pub cut-record : (c : Option Call) (left : CutLeft) (k : CachedModel) → modelAfter (cutIn c left) k .beforeRecord ≡ none
   -- the tally: "at w = R the growth is finished", so where the last window is full and not before; "only the recorded blocks are copied" after restart
