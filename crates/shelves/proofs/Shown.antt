@@ -1,9 +1,9 @@
 -- `ViewPromise`, from demand 3: a view shows what a read at that place of the list would give.
 use Prim.Native.Nat.{ℕ, _≤_}
 use mathlib.Core.Path.{_≡_, refl, sym, ap, _∙_}
-use mathlib.Core.Bool.{true, false≢true}
-use mathlib.Core.List.{List, [], _∷_, _++_}
-use mathlib.Core.Logic.{_≢_, inl, inr}
+use mathlib.Core.Bool.{true}
+use mathlib.Core.List.{List}
+use mathlib.Core.Logic.{_≢_}
 use lib.ListN.{length, replicate, length-replicate}
 use borrow.Author.Tests.{eqb-true}
 use Rattle.base.specs.Refusals.{refusal}
@@ -11,36 +11,16 @@ use Rattle.medium.specs.Medium.{Observations, observe}
 use Rattle.volume.specs.Answers.{number, accepted}
 use Rattle.volume.specs.Calls.{Outcome, refused, readTable, readEffect, readOutcome}
 use Rattle.volume.specs.States.{disks}
-use Rattle.promise.specs.Calls.{Call, read, settles}
-use Rattle.promise.specs.Lists.{callOutcome, Event, runs, cut, System, up, down, mediumOf, memoryOf, outcome, isAccepted, after, Allowed, afterAll, NoEarlyCut, Lawful, IsUp}
-use Rattle.promise.specs.Promise.{begin, systemAfter}
-use Rattle.promise.proofs.Theorem.{promise}
+use Rattle.promise.specs.Calls.{read}
+use Rattle.promise.specs.Lists.{callOutcome, System, mediumOf, memoryOf, outcome, isAccepted}
+use Rattle.promise.specs.Promise.{systemAfter}
+use Rattle.promise.proofs.FlushedSaves.{read-at-end}
 use Rattle.volume.proofs.Accepted.{read-accepted}
 use Rattle.volume.proofs.Judged.{accepted-when}
 use Rattle.volume.proofs.Theorems.{volume-laws}
 use Rattle.shelves.specs.Views.{viewAnswer, viewNumber, viewOf}
 use Rattle.shelves.proofs.Theorems.{view-laws}
 use Rattle.shelves.specs.Shown.{firstShelf, secondShelf, ViewPromise}
-
--- ---- a list with a read at its end
-
-read-allowed : (s : System) (x : ℕ) (piece : List ℕ) → IsUp s → Allowed callOutcome s (runs (read x piece))
-unfolding Allowed IsUp settles
-read-allowed (up v d) x piece h = λ e. absurd (false≢true (ap settles e))
-read-allowed (down m) x piece h = absurd h
-
-lawful-then : (s : System) (es : List Event) (e : Event) → Lawful callOutcome s es → Allowed callOutcome (afterAll callOutcome s es) e
-    → Lawful callOutcome s (es ++ (e ∷ []))
-unfolding Lawful afterAll
-lawful-then s [] e l h = (h, tt)
-lawful-then s (f ∷ es) e l h = (l .0, lawful-then (after callOutcome s f) es e (l .1) h)
-
-early-then : (es : List Event) (c : Call) → NoEarlyCut es → NoEarlyCut (es ++ (runs c ∷ []))
-unfolding NoEarlyCut
-early-then [] c h = inr tt
-early-then (runs d ∷ es) c (inl e) = inl e
-early-then (runs d ∷ es) c (inr h) = inr (early-then es c h)
-early-then (cut d left ∷ es) c h = absurd h
 
 -- ---- one system
 
@@ -72,9 +52,6 @@ pub view-promise : ViewPromise
 unfolding systemAfter
 view-promise a ok es l early is-up k x n h below =
     let piece : List ℕ = replicate (a .size) 0 in
-    let s = systemAfter callOutcome a es in
-    let then = runs (read x piece) in
-    let kept = promise a ok (es ++ (then ∷ [])) (lawful-then (begin a) es then l (read-allowed s x piece is-up)) (early-then es (read x piece) early) in
-    let right = kept .reads es [] x piece refl below (length-replicate (a .size) 0) in
-    let p = shown s k x piece (right .is-accepted) n h in
+    let right = read-at-end a ok es l early is-up x piece below (length-replicate (a .size) 0) in
+    let p = shown (systemAfter callOutcome a es) k x piece (right .is-accepted) n h in
     record { is-accepted = p .0; bytes-shown = λ b set. p .1 ∙ right .bytes-read b set }

@@ -187,6 +187,12 @@ pub not-lawful : (calls : (c : Call) → Act) {X : Type 0} (hear : Hearing X) (s
 not-lawful calls hear s es before ours e =
     failed (is-lawful calls hear s es before) (subst (λ (p : (c : Call) → Act). computed p hear s es before .lawful ≡ false) (faster-same calls ours) e)
 
+-- whether the first call that plain volume and tally are fed was accepted
+unfoldable pub acceptedFirst : (fs : List Fed) → Bool
+acceptedFirst [] = false
+acceptedFirst (ended c ok ∷ fs) = ok
+acceptedFirst (cutIn c left ∷ fs) = false
+
 -- ---- parts of a list
 
 module _ (calls : (c : Call) → Act) where

@@ -9,14 +9,14 @@ use native.Mathlib.Omega.{arith}
 use lib.ListN.{length, take, drop, replicate, length-replicate}
 use Rattle.layout.specs.Tally.{isRunning, callsLeftOf}
 use Rattle.volume.specs.Answers.{accepted}
-use Rattle.promise.specs.Calls.{grow, advance, write, read, restart, flushed, isAdvance, sameRecord, recordOld, Fed, ended, cutIn}
-use Rattle.promise.specs.Lists.{Event, IsUp, runs, outcome, callOutcome, after, NoEarlyCut, Lawful, AllFurther, an-advance, a-write, a-read, a-flushed, afterAll, fedAll, finishedTold}
+use Rattle.promise.specs.Calls.{grow, copy, advance, write, read, restart, flushed, isAdvance, sameRecord, recordOld, Fed, ended, cutIn}
+use Rattle.promise.specs.Lists.{Event, IsUp, runs, outcome, callOutcome, after, NoEarlyCut, Lawful, AllFurther, an-advance, a-write, a-read, a-flushed, a-refused, afterAll, fed, fedAll, finishedTold}
 use Rattle.promise.specs.Model.{Model}
 use Rattle.promise.specs.Promise.{Finishing, formatted, begin, systemAfter, modelOf}
 use Rattle.promise.proofs.Theorem.{lawful-before, promise}
 use Rattle.worked.specs.Worked.{blockOf, workedStart, firstEvents, copiedEvents, furtherEvents, finishedEvents, takenBack, beforeRead, workedEvents, WorkedFacts}
 use Rattle.worked.proofs.FasterCalls.{faster, OurRestart}
-use Rattle.worked.proofs.Computed.{Hearing, computed, lawfulResult, Facts, faster-facts, fed-before, fed-after, modelFed, model-fed}
+use Rattle.worked.proofs.Computed.{Hearing, computed, lawfulResult, Facts, faster-facts, fed-before, fed-after, modelFed, model-fed, acceptedFirst}
 use Rattle.worked.proofs.Computing.{computing}
 use Rattle.worked.proofs.Running.{left-fed, left-told, finishing-of, advancesFed, tellings-fed}
 
@@ -61,6 +61,8 @@ furtherFed =
     ∷ ended flushed true
     ∷ ended advance true
     ∷ ended (read 0 (blockOf 0)) true
+    ∷ ended (grow 4) false
+    ∷ ended (copy 0) false
     ∷ ended advance false
     ∷ ended flushed true
     ∷ ended advance true
@@ -85,11 +87,11 @@ worked-facts = faster-facts callOutcome hearNothing (begin workedStart) workedEv
 -- and of the first events
 all-fed : fedAll callOutcome (begin workedStart) beforeRead ≡ allFed
 unfolding workedEvents beforeRead finishedEvents firstEvents furtherEvents copiedEvents takenBack
-all-fed = fed-before callOutcome (begin workedStart) beforeRead (runs (read 0 (blockOf 0)) ∷ []) ∙ ap (take 22) (worked-facts .all-fed)
+all-fed = fed-before callOutcome (begin workedStart) beforeRead (runs (read 0 (blockOf 0)) ∷ []) ∙ ap (take 24) (worked-facts .all-fed)
 
 finished-fed : fedAll callOutcome (begin workedStart) finishedEvents ≡ finishedFed
 unfolding beforeRead finishedEvents firstEvents furtherEvents copiedEvents
-finished-fed = fed-before callOutcome (begin workedStart) finishedEvents takenBack ∙ ap (take 20) all-fed
+finished-fed = fed-before callOutcome (begin workedStart) finishedEvents takenBack ∙ ap (take 22) all-fed
 
 first-fed : fedAll callOutcome (begin workedStart) firstEvents ≡ firstFed
 unfolding finishedEvents firstEvents
@@ -174,8 +176,11 @@ finishing-two : (further : List Event) → AllFurther callOutcome (systemAfter c
 finishing-two = finishing-of workedStart is-accepted firstEvents first-lawful first-early first-up firstFed first-fed first-runs 2 first-left
 
 all-further : AllFurther callOutcome (systemAfter callOutcome workedStart firstEvents) furtherEvents
-unfolding furtherEvents copiedEvents AllFurther
-all-further = (a-write, (a-flushed, (an-advance, (a-read, (an-advance, (a-flushed, (an-advance, tt)))))))
+unfolding furtherEvents copiedEvents AllFurther fedAll fed acceptedFirst
+all-further =
+    let refused : (n : ℕ) → acceptedFirst (drop n (fedAll callOutcome (systemAfter callOutcome workedStart firstEvents) furtherEvents)) ≡ acceptedFirst (drop n furtherFed) =
+    λ n. ap (λ (fs : List Fed). acceptedFirst (drop n fs)) further-fed in
+    (a-write, (a-flushed, (an-advance, (a-read, (a-refused (refused 4), (a-refused (refused 5), (an-advance, (a-flushed, (an-advance, tt)))))))))
 
 copied-further : AllFurther callOutcome (systemAfter callOutcome workedStart firstEvents) copiedEvents
 unfolding copiedEvents AllFurther

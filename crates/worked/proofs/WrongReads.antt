@@ -15,6 +15,7 @@ use Rattle.promise.specs.WithoutCache.{DirectEvent, ends, fromFormat}
 use Rattle.worked.specs.Worked.{blockOf, workedStart}
 use Rattle.worked.specs.WrongPrograms.{Act, program, refusesRead, exchangesBlocks, writesNothing, writesWaiting, writesEarly, recordsEarly, marksLater}
 use Rattle.promise.specs.Parts.{ReadAccepted, BytesRead, BytesStand, EveryRead, EveryDirectRead}
+use Rattle.worked.specs.FlushedSaves.{threeRows, wholeGrowth}
 use Rattle.worked.specs.BrokenParts.{twoRows, savedFirst, ExchangedRead}
 use Rattle.worked.proofs.FasterCalls.{sameBytes, same-bytes}
 use Rattle.worked.proofs.Computed.{Tested, tested}
@@ -62,18 +63,15 @@ writes-waiting = broken-twice writesWaiting (BytesRead writesWaiting) otherRead 
 
 -- ---- an advance that copies the first window and later only marks: with three rows block 2 moves in the second window
 
-unfoldable threeRows : Start
-threeRows = record { size = 512; rows = 3; disks = 1; medium = replicate 3_584 0 }
+abbrev savedThenGrown : List DirectEvent
+savedThenGrown = ends (write 2 (blockOf 1)) ∷ wholeGrowth
 
-abbrev wholeGrowth : List DirectEvent
-wholeGrowth = ends (write 2 (blockOf 1)) ∷ ends (grow 2) ∷ ends advance ∷ ends advance ∷ ends advance ∷ ends advance ∷ []
-
-later-tested : Tested marksLater (λ p. readTest p threeRows (fromFormat wholeGrowth) (runs flushed ∷ []) 2 (otherRead threeRows 2))
-unfolding testing marksLater threeRows
+later-tested : Tested marksLater (λ p. readTest p threeRows (fromFormat savedThenGrown) (runs flushed ∷ []) 2 (otherRead threeRows 2))
+unfolding testing marksLater threeRows wholeGrowth
 later-tested = (λ v o. refl, refl)
 
 pub marks-later : BreaksRead marksLater (BytesRead marksLater)
-marks-later = broken-twice marksLater (BytesRead marksLater) otherRead (refutes-read marksLater) threeRows wholeGrowth 2 later-tested
+marks-later = broken-twice marksLater (BytesRead marksLater) otherRead (refutes-read marksLater) threeRows savedThenGrown 2 later-tested
 
 -- ---- a write while the record that ends a growth is pending: the added block 1 is stored at block 0's old spot, and the cut leaves the old
 -- record

@@ -9,7 +9,7 @@ use lib.ListN.{length, replicate}
 use Rattle.layout.specs.Tally.{isRunning, callsLeftOf}
 use Rattle.medium.specs.Medium.{tornBlock, oldRecord}
 use Rattle.volume.specs.Answers.{accepted}
-use Rattle.promise.specs.Calls.{Call, grow, advance, write, read, restart, flushed, ended}
+use Rattle.promise.specs.Calls.{Call, grow, copy, advance, write, read, restart, flushed, ended}
 use Rattle.promise.specs.Lists.{callOutcome, Event, runs, cut, outcome, Lawful, NoEarlyCut, fedAll, lastReported, AllFurther, finishedTold}
 use Rattle.promise.specs.Promise.{Start, formatted, begin, systemAfter, modelOf, Finishing}
 
@@ -46,9 +46,9 @@ firstEvents =
 unfoldable pub copiedEvents : List Event
 copiedEvents = runs (write 0 (blockOf 5)) ∷ runs flushed ∷ runs advance ∷ runs (read 0 (blockOf 0)) ∷ []
 
--- and then an advance refused with 18; after flushed, one that finishes the growth
+-- and then a growth refused with 6, a copy refused with 11, an advance refused with 18; after flushed, one that finishes the growth
 unfoldable pub furtherEvents : List Event
-furtherEvents = copiedEvents ++ (runs advance ∷ runs flushed ∷ runs advance ∷ [])
+furtherEvents = copiedEvents ++ (runs (grow 4) ∷ runs (copy 0) ∷ runs advance ∷ runs flushed ∷ runs advance ∷ [])
 
 unfoldable pub finishedEvents : List Event
 finishedEvents = firstEvents ++ furtherEvents
@@ -71,13 +71,16 @@ pub record WorkedFacts : Type 0 where
   pub open-before : modelOf callOutcome workedStart firstEvents .plain .blocks ≡ 1
   pub calls-left : callsLeftOf (modelOf callOutcome workedStart firstEvents .tally) ≡ 2
   pub calls-told : lastReported callOutcome (begin workedStart) firstEvents none ≡ some 2
-  -- the calls after it are further calls, the save and the read among them accepted, and two accepted advances finish the growth
+  -- the calls after it are further calls, the save and the read among them accepted, a growth, a copy and an advance refused, and two accepted
+  -- advances finish the growth
   pub all-further : AllFurther callOutcome (systemAfter callOutcome workedStart firstEvents) furtherEvents
   pub further-fed : fedAll callOutcome (systemAfter callOutcome workedStart firstEvents) furtherEvents
       ≡ ended (write 0 (blockOf 5)) true
       ∷ ended flushed true
       ∷ ended advance true
       ∷ ended (read 0 (blockOf 0)) true
+      ∷ ended (grow 4) false
+      ∷ ended (copy 0) false
       ∷ ended advance false
       ∷ ended flushed true
       ∷ ended advance true
