@@ -3,36 +3,37 @@ use Prim.Native.Nat.{ℕ, _*_, _≤_, _<_}
 use mathlib.Core.Path.{_≡_, refl, sym, ap, _∙_, subst}
 use mathlib.Core.Bool.{Bool, true, false, cond, true≢false, false≢true}
 use mathlib.Core.List.{List, [], _∷_, _++_}
-use mathlib.Core.Logic.{inl, inr}
+use mathlib.Core.Logic.{inl}
 use mathlib.Core.Option.{Option, none, some, Option·none-ne-some, Option·some-injective}
 use native.Mathlib.Omega.{arith}
 use lib.ListN.{length}
 use borrow.Author.Tests.{eqb-true}
 use Rattle.base.specs.Refusals.{refusal}
-use Rattle.base.proofs.Booleans.{by-test, clash, cond-cases}
-use Rattle.layout.specs.History.{diskCount, oldCount}
+use Rattle.base.proofs.Booleans.{by-test}
+use Rattle.layout.specs.History.{diskCount}
 use Rattle.layout.specs.Tally.{isRunning, Tally, openBlocks, nextBlock, windowFull, lastWindow}
 use Rattle.layout.proofs.Theorems.{old-among}
 use Rattle.medium.specs.declared.Geometry.{Geometry}
-use Rattle.medium.specs.Medium.{Observations, observe, AfterCut}
+use Rattle.medium.specs.Medium.{Observations, observe}
 use Rattle.volume.specs.declared.Volume.{Volume}
 use Rattle.volume.specs.Answers.{number, accepted}
 use Rattle.volume.specs.Calls.{writeTable, writeOutcome}
-use Rattle.volume.specs.States.{tallyOf}
 use Rattle.volume.proofs.Accepted.{write-accepted}
 use Rattle.volume.proofs.Theorems.{volume-laws}
 use Rattle.promise.specs.Calls.{Call, grow, growBeyondDoubling, copy, checkpoint, advance, write, read, restart, flushed, settles, CutLeft, sameRecord, recordOld, recordNew, ended, cutIn}
-use Rattle.promise.specs.Lists.{callOutcome, Event, runs, cut, Drives, System, up, down, memoryOf, mediumOf, cutLeft, outcome, isAccepted, after, afterAll, Allowed, Lawful, NoEarlyCut, fed, fedAll, heard, IsUp}
+use Rattle.promise.specs.Lists.{callOutcome, Event, runs, cut, Drives, System, up, down, memoryOf, cutLeft, outcome, isAccepted, after, Allowed, Lawful, NoEarlyCut, fed, fedAll, heard, IsUp}
 use Rattle.promise.specs.Model.{noBlock, grownTally, withBlocks, copiedTally, nextWindowTally, finishedTally, recordedTally, restartedTally, recording, leaving, saving, advanceStep, stepOf, Model, CachedModel, nothingPending, withStep, following, modelAfter, modelled}
 use Rattle.promise.specs.Promise.{Start, formatted, begin, systemAfter, modelOf, ReadRight}
+use Rattle.promise.specs.WithoutCache.{ends, flushedAfter, fromFormat}
 use Rattle.promise.specs.SavesKept.{Saves, a-write, a-flushed, made, KeptButWritten}
 use Rattle.promise.specs.CoveredLists.{CallsOnly, no-call, one-more}
-use Rattle.promise.specs.FlushedSaves.{Spares, AllSpare, savedAndFlushed, GivesPiece, FlushedSaves}
-use Rattle.promise.proofs.Tallies.{Running, Resting, Stage, running, resting, open-growing}
+use Rattle.promise.specs.FlushedSaves.{Spares, AllSpare, savedAndFlushed, GivesPiece, FlushedSaves, SavesWithoutCache}
+use Rattle.promise.proofs.Tallies.{Stage, running, resting, open-growing}
 use Rattle.promise.proofs.StateTallies.{stage-of}
 use Rattle.promise.proofs.PendingStores.{seen, Live}
 use Rattle.promise.proofs.EventSteps.{Invariant, Next, keeps, runs-keeps, flushed-keeps, settling-accepted, seen-medium}
 use Rattle.promise.proofs.Theorem.{lawful-before, lawful-rest, early-before, invariant-after, modelled-append, startGeometry, startCached, cachedAfter, promise}
+use Rattle.promise.proofs.WithoutCache.{from-append}
 use Rattle.promise.proofs.CoveredLists.{early-lists-covered, lists-covered}
 use Rattle.promise.proofs.SavesKept.{tally-after, before-after, saves-kept}
 
@@ -345,3 +346,13 @@ flushed-saves a ok before x piece between rest l early saved only spared still i
     ap (λ (k : CachedModel). k .current) (modelled-append callOutcome (begin a) (startCached a) before after-save) in
     let r = read-at-end a ok (before ++ after-save) l early is-up x into (rw joined (s .now-held .below)) whole in
     record { is-accepted = r .is-accepted; bytes-read = r .bytes-read piece (rw joined (s .now-held .held)) }
+
+-- ---- drives that keep no store
+
+pub saves-without-cache : SavesWithoutCache
+unfolding savedAndFlushed flushedAfter fromFormat NoEarlyCut AllSpare
+saves-without-cache a ok before x piece rest l saved spared is-up into whole =
+    let joined = from-append before (ends (write x piece) ∷ rest) in
+    subst (λ (es : List Event). GivesPiece callOutcome a es x piece into) (sym joined)
+    (flushed-saves a ok (fromFormat before) x piece [] (flushedAfter rest) (subst (Lawful callOutcome (begin a)) joined l) (inl refl) saved no-call tt spared
+    (subst (λ (es : List Event). IsUp (systemAfter callOutcome a es)) joined is-up) into whole)

@@ -1,16 +1,16 @@
 -- What plain volume and tally keep: `saves-kept`.
 use Prim.Native.Nat.{ℕ, _*_, _≤_, _<_}
 use mathlib.Core.Path.{_≡_, refl, sym, ap, _∙_, subst}
-use mathlib.Core.Bool.{Bool, true, false, cond, _||_, _&&_, false≢true}
+use mathlib.Core.Bool.{Bool, true, false, cond, _&&_, false≢true}
 use mathlib.Core.List.{List}
 use mathlib.Core.Option.{Option, none, some}
-use lib.Dec.{ltb, eqb}
+use lib.Dec.{eqb}
 use borrow.Author.Tests.{lt-ltb, le-ltb, eq-eqb, eqb-true}
 use Rattle.base.proofs.Booleans.{by-test, clash}
 use Rattle.layout.specs.History.{diskCount}
-use Rattle.layout.specs.Tally.{Mode, notGrowing, growing, isRunning, Tally, nextBlock, windowFull, lastWindow}
+use Rattle.layout.specs.Tally.{isRunning, Tally, nextBlock, windowFull, lastWindow}
 use Rattle.promise.specs.Calls.{Call, grow, growBeyondDoubling, copy, checkpoint, advance, write, read, restart, flushed, settles, CutLeft, sameRecord, recordOld, recordNew, ended, cutIn}
-use Rattle.promise.specs.Model.{noBlock, grownTally, withBlocks, copiedTally, nextWindowTally, finishedTally, recordedTally, restartedTally, checkpointFinishes, Step, leaving, saving, recording, advanceStep, stepOf, PlainVolume, startPlain, withSave, withAdded, unset, Model, startModel, stepped, accepting, CachedModel, nothingPending, isSaved, withStep, following, withCall, modelOr, leftModel, afterCut, modelAfter}
+use Rattle.promise.specs.Model.{noBlock, grownTally, withBlocks, copiedTally, nextWindowTally, finishedTally, recordedTally, restartedTally, checkpointFinishes, Step, leaving, saving, recording, advanceStep, stepOf, PlainVolume, startPlain, withSave, withAdded, unset, Model, startModel, stepped, accepting, CachedModel, nothingPending, isSaved, withStep, following, withCall, leftModel, afterCut, modelAfter}
 use Rattle.promise.specs.SavesKept.{Saves, a-write, MayFinish, a-checkpoint, an-advance, Settles, a-restart, a-flushed, made, KeptButWritten, SavesKept}
 
 -- ---- the steps of calls

@@ -1,5 +1,6 @@
 -- Document 02, W4: "Rack users keep the old guarantee for saves made before the last flushed." What a read gives of such a save, said of calls,
--- lists and bytes alone, with no plain volume and no tally: `FlushedSaves`. `proofs/FlushedSaves.antt` has the proof, `flushed-saves`.
+-- lists and bytes alone, with no plain volume and no tally: `FlushedSaves`, and on drives that keep no store `SavesWithoutCache`.
+-- `proofs/FlushedSaves.antt` has the proofs, `flushed-saves` and `saves-without-cache`.
 use Prim.Native.Nat.{ℕ}
 use mathlib.Core.Path.{_≡_}
 use mathlib.Core.Bool.{true}
@@ -13,6 +14,7 @@ use Rattle.volume.specs.Calls.{Outcome}
 use Rattle.promise.specs.Calls.{Call, write, read, flushed}
 use Rattle.promise.specs.Lists.{callOutcome, Event, runs, cut, outcome, isAccepted, NoEarlyCut, Lawful, IsUp}
 use Rattle.promise.specs.Promise.{Start, formatted, begin, systemAfter}
+use Rattle.promise.specs.WithoutCache.{DirectEvent, ends, flushedAfter, fromFormat, systemWithout}
 use Rattle.promise.specs.SavesKept.{Saves}
 use Rattle.promise.specs.CoveredLists.{CallsOnly}
 
@@ -46,6 +48,17 @@ module _ (calls : (c : Call) (v : Volume) (o : Observations) → Outcome) where
       → IsUp (systemAfter calls a (savedAndFlushed before x piece between rest)) → (into : List ℕ) → length into ≡ a .size
       → GivesPiece a (savedAndFlushed before x piece between rest) x piece into
 
+  -- the same on drives that keep no store (document 01): flushed follows every call, so that a save is kept when its call returns
+  abbrev pub SavesWithoutCacheOf : Type 0
+  SavesWithoutCacheOf =
+      (a : Start) → accepted (formatted a .reply .answer) ≡ true → (before : List DirectEvent) (x : ℕ) (piece : List ℕ) (rest : List DirectEvent)
+      → Lawful calls (begin a) (fromFormat (before ++ (ends (write x piece) ∷ rest))) → isAccepted calls (write x piece) (systemWithout calls a before) ≡ true
+      → AllSpare x (flushedAfter rest) → IsUp (systemWithout calls a (before ++ (ends (write x piece) ∷ rest))) → (into : List ℕ) → length into ≡ a .size
+      → GivesPiece a (fromFormat (before ++ (ends (write x piece) ∷ rest))) x piece into
+
 -- of our calls
 abbrev pub FlushedSaves : Type 0
 FlushedSaves = FlushedSavesOf callOutcome
+
+abbrev pub SavesWithoutCache : Type 0
+SavesWithoutCache = SavesWithoutCacheOf callOutcome

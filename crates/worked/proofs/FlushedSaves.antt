@@ -1,16 +1,16 @@
 -- The claim on saves which were flushed: a list that it is about, and programs that break it, each by a list that is computed.
 use Prim.Native.Nat.{ℕ}
-use mathlib.Core.Path.{_≡_, refl, sym, ap, _∙_, subst}
+use mathlib.Core.Path.{_≡_, refl, sym, ap, _∙_}
 use mathlib.Core.Bool.{Bool, true, false, not, _&&_}
-use mathlib.Core.List.{List, [], _∷_, _++_}
+use mathlib.Core.List.{List, [], _∷_}
 use mathlib.Core.Logic.{inl}
-use mathlib.Core.Option.{Option, none, some}
+use mathlib.Core.Option.{none, some}
 use lib.Dec.{eqb}
 use lib.ListN.{drop, getD, length-replicate}
 use borrow.Author.Tests.{eq-eqb, not-true}
 use Rattle.base.proofs.Booleans.{and-left, and-right, clash}
 use Rattle.promise.specs.Calls.{Call, grow, growBeyondDoubling, copy, checkpoint, advance, write, read, restart, flushed, Fed}
-use Rattle.promise.specs.Lists.{callOutcome, Event, runs, cut, isAccepted, after, afterAll, fed, fedAll, IsUp, NoEarlyCut, Lawful}
+use Rattle.promise.specs.Lists.{callOutcome, Event, runs, cut, isAccepted, after, afterAll, fed, fedAll, IsUp, NoEarlyCut}
 use Rattle.promise.specs.Model.{Model}
 use Rattle.promise.specs.Promise.{Start, begin, systemAfter, modelOf}
 use Rattle.promise.specs.WithoutCache.{flushedAfter}

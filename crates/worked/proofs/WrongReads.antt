@@ -4,7 +4,6 @@ use mathlib.Core.Path.{_≡_, refl, sym, ap, _∙_}
 use mathlib.Core.Bool.{Bool, true, false, _&&_, false≢true}
 use mathlib.Core.List.{List, [], _∷_}
 use mathlib.Core.Option.{Option, none, some}
-use lib.ListN.{replicate}
 use Rattle.base.proofs.Booleans.{and-left, and-right}
 use Rattle.medium.specs.Medium.{tornBlock, oldRecord, newRecord}
 use Rattle.promise.specs.Calls.{Call, grow, copy, checkpoint, advance, write, restart, flushed}

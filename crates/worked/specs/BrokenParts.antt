@@ -1,7 +1,7 @@
 -- For each part of demand 3 but one there is a program that breaks it: `PartsBroken` for drives with a write cache (document 02, W4),
 -- `PartsBrokenWithoutCache` for drives that keep no store. Proofs in `proofs/EveryProgram.antt` and `proofs/WrongPrograms.antt`. `LateEnd` and
 -- `ExchangedRead` say what two of the programs do right; their proofs are in `proofs/WrongGrowths.antt` and `proofs/WrongReads.antt`.
-use Prim.Native.Nat.{ℕ, _<_}
+use Prim.Native.Nat.{_<_}
 use mathlib.Core.Path.{_≡_}
 use mathlib.Core.Bool.{true, false}
 use mathlib.Core.List.{List, [], _∷_}
