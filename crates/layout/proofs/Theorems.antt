@@ -35,6 +35,7 @@ use Rattle.layout.proofs.LiveMoves.{live-moves-law}
 use Rattle.layout.proofs.MoveCases.{moves-hold}
 use Rattle.layout.proofs.FewestMoves.{every-growth-law, fewest-law, restripe-law}
 use Rattle.layout.proofs.FewestCases.{spreads-hold, cases-true-law, counterexamples-law, racks-hold}
+use Rattle.layout.proofs.RuleCases.{rules-hold}
 use Rattle.layout.proofs.WindowsCode.{marks-most}
 
 -- the remainder of b-(n-1) is the true one, also for b < n-1
@@ -191,4 +192,5 @@ layout-laws =
       move-cases = moves-hold;
       fewest-moves = fewest-moves;
       layout-cases = layout-cases;
+      rule-cases = rules-hold;
     }

@@ -8,6 +8,7 @@ pub mod Limits
 pub mod Spreads
 pub mod Laws
 pub mod Cases
+pub mod RuleCases
 pub mod MoveCases
 pub mod FewestCases
 pub mod FewestMoves
