@@ -11,6 +11,8 @@ pub mod CopyLaws
 pub mod PartLaws
 pub mod ByteBounds
 pub mod StoresFit
+pub mod RefusalOrders
+pub mod LimitCases
 pub mod Theorems
 pub mod RecordCode
 pub mod LiveCode

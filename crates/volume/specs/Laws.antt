@@ -27,6 +27,8 @@ use Rattle.volume.specs.declared.Pending.{Pending}
 use Rattle.volume.specs.declared.Volume.{Volume}
 use Rattle.volume.specs.Answers.{number, callsTold, blockCopied, partCopied, addressNumber, spotTold, reasonTold, movesTold, partTold, holderNumber, blockTold}
 use Rattle.volume.specs.Calls.{Outcome, formatTable, formatOutcome, restartTable, restartOutcome, sectorTable, sectorOutcome, growTableOf, growTable, growBeyondDoublingTable, growOutcomeOf, growOutcome, growBeyondDoublingOutcome, writeTable, writeOutcome, readTable, readOutcome, copyTable, copyOutcome, nothingToRecord, checkpointTable, checkpointOutcome, advanceTable, advanceOutcome, flushedTable, flushedOutcome, addressTable, addressReply, holderTable, holderReply}
+use Rattle.volume.specs.LimitCases.{LimitCases}
+use Rattle.volume.specs.RefusalOrders.{RefusalOrders}
 use Rattle.volume.specs.Records.{recordOf, stateRead, isSoundRecord}
 use Rattle.volume.specs.Sound.{sizeStep, leastSize, movingOf, sound}
 use Rattle.volume.specs.States.{geometry, historyOf, disks, tallyOf, newState, zeros, grown, withPending, recordedOnly, withCopy, checkpointed}
@@ -152,6 +154,9 @@ pub record VolumeLaws : Type 0 where
   pub copy-fits : (v : Volume) (x : ℕ) (m : List ℕ) → InDisks v (copyOutcome v x (observe m))
   pub checkpoint-fits : (v : Volume) (o : Observations) → InDisks v (checkpointOutcome v o)
   pub advance-fits : (v : Volume) (m : List ℕ) → InDisks v (advanceOutcome v (observe m))
+  -- the numbers of the tables in the documents' order, and cases on the limits
+  pub refusal-orders : RefusalOrders
+  pub limit-cases : LimitCases
   -- refusals
   pub format-refuses : (z s n : ℕ) (o : Observations) → Refuses (formatTable z s n (o .byteCount)) zeros [] (formatOutcome z s n o)
   pub restart-refuses : (o : Observations) → Refuses (restartTable o) zeros [] (restartOutcome o)
