@@ -19,6 +19,7 @@ pub mod LiveMoves
 pub mod MoveCases
 pub mod FewestCases
 pub mod RuleCases
+pub mod WindowCases
 pub mod Theorems
 pub mod HistoryCode
 pub mod GrowthCode

@@ -9,6 +9,7 @@ pub mod Spreads
 pub mod Laws
 pub mod Cases
 pub mod RuleCases
+pub mod WindowCases
 pub mod MoveCases
 pub mod FewestCases
 pub mod FewestMoves

@@ -1,11 +1,17 @@
 -- Document 01, "Layout after t growths": each rule of one growth, worked out by hand beside L1 to L12, forward and back, for m = 1 < n (1 disk to 4),
 -- 2 ≤ m < n (2 to 6 and 3 to 8), m = n (2 to 4) and m > n (4 to 6). (d0, b) is the spot before the growth, at d0 = x mod m, b = x / m.
 -- `proofs/RuleCases.antt` has the proofs.
+use Prim.Native.Nat.{ℕ}
 use mathlib.Core.Path.{_≡_}
 use mathlib.Core.List.{List, [], _∷_, map}
 use Rattle.layout.specs.declared.Part.the-variants.{Head, Body, Tail}
 use Rattle.layout.specs.declared.Change.the-variants.{Moved, Added, Stays}
-use Rattle.layout.specs.Cases.{Case, Placed, at, worked}
+use Rattle.layout.specs.declared.Reason.{Reason}
+use Rattle.layout.specs.declared.Reason.the-variants.{SetOut, AddedBy, MovedBy}
+use Rattle.layout.specs.declared.Spot.{Spot}
+use Rattle.layout.specs.Cases.{Case, Placed, at, Hold}
+use Rattle.layout.specs.History.{blockAt}
+use Rattle.layout.specs.Reasons.{reasonOf}
 
 -- d0+m. Rows 6 and 4 are row 0 of the second window, of 6 rows and of 4.
 abbrev pub heads : List Case
@@ -76,14 +82,37 @@ added =
     ∷ Placed (6 ∷ 4 ∷ []) 10 56 (at 1 8) Added  -- y = 16: (8-1) mod 6 = 1
     ∷ []
 
--- the cases are right: worked out, they are the same cases
-abbrev pub Holds : (cases : List Case) → Type 0
-Holds cases = map worked cases ≡ cases
+-- the way back alone: a spot and the block that it has, of the bodies from 2 disks to 6, with d0 = 0 and 1
+abbrev pub bodiesFound : List (Spot × ℕ)
+bodiesFound = (at 3 2, 4) ∷ (at 4 2, 5) ∷ (at 3 8, 16) ∷ (at 4 8, 17) ∷ []
+
+abbrev pub FoundBelow : Type 0
+FoundBelow = map (λ case. (case .0, blockAt 10 (6 ∷ 2 ∷ []) (case .0))) bodiesFound ≡ bodiesFound
+
+-- why a block is at its spot, with 5 rows: in a volume of 3 disks, after a growth to 5, and after another one to 6
+abbrev pub reasons : List (List ℕ × ℕ × Reason)
+reasons =
+    (3 ∷ [], 0, SetOut)
+    ∷ (5 ∷ 3 ∷ [], 0, MovedBy 1 Head)
+    ∷ (5 ∷ 3 ∷ [], 7, MovedBy 1 Tail)
+    ∷ (5 ∷ 3 ∷ [], 12, SetOut)
+    ∷ (5 ∷ 3 ∷ [], 15, AddedBy 1)
+    ∷ (6 ∷ 5 ∷ 3 ∷ [], 0, MovedBy 1 Head)  -- growth 2 leaves it at (3,0)
+    ∷ (6 ∷ 5 ∷ 3 ∷ [], 12, SetOut)  -- and this one at (0,4)
+    ∷ (6 ∷ 5 ∷ 3 ∷ [], 15, AddedBy 1)  -- and this one at (4,0)
+    ∷ (6 ∷ 5 ∷ 3 ∷ [], 16, MovedBy 2 Head)  -- from (0,0) to (5,0)
+    ∷ (6 ∷ 5 ∷ 3 ∷ [], 25, AddedBy 2)
+    ∷ []
+
+abbrev pub ReasonsHold : Type 0
+ReasonsHold = map (λ case. (case .0, case .1, reasonOf 5 (case .0) (case .1))) reasons ≡ reasons
 
 pub record RulesHold : Type 0 where
-  pub heads-hold : Holds heads
-  pub bodies-below-hold : Holds bodiesBelow
-  pub bodies-above-hold : Holds bodiesAbove
-  pub tails-hold : Holds tails
-  pub stays-hold : Holds stays
-  pub added-hold : Holds added
+  pub heads-hold : Hold heads
+  pub bodies-below-hold : Hold bodiesBelow
+  pub bodies-found : FoundBelow
+  pub bodies-above-hold : Hold bodiesAbove
+  pub tails-hold : Hold tails
+  pub stays-hold : Hold stays
+  pub added-hold : Hold added
+  pub reasons-hold : ReasonsHold
