@@ -4,7 +4,7 @@ use Rattle.layout.specs.Cases.{worked, Hold}
 use Rattle.layout.specs.Growth.{minusMod, moves, partOf, newDisk, diskAfter, movesFrom, oldBlockSpot, addedDisk, addedSpot, spotAfter, changeOf, addedIndex, oldDisk, diskBefore, spotBefore, blockAfter}
 use Rattle.layout.specs.History.{diskCount, earlier, oldCount, addedCount, spotOf, blockAt}
 use Rattle.layout.specs.Reasons.{reasonAfter, reasonOf}
-use Rattle.layout.specs.RuleCases.{heads, bodiesBelow, bodiesAbove, tails, stays, added, FoundBelow, ReasonsHold, RulesHold}
+use Rattle.layout.specs.RuleCases.{heads, bodiesBelow, bodiesAbove, tails, stays, added, FoundBelow, keptReasons, otherReasons, ReasonsHold, RulesHold}
 use Rattle.layout.specs.Windows.{oldSpot}
 
 heads-hold : Hold heads
@@ -35,9 +35,13 @@ added-hold : Hold added
 unfolding worked spotOf blockAt changeOf oldSpot oldCount addedCount earlier diskCount spotAfter spotBefore blockAfter oldBlockSpot addedSpot diskAfter newDisk moves movesFrom partOf addedDisk minusMod diskBefore oldDisk addedIndex
 added-hold = refl
 
-reasons-hold : ReasonsHold
+kept-reasons : ReasonsHold keptReasons
 unfolding reasonOf reasonAfter spotOf changeOf spotAfter oldBlockSpot addedSpot diskAfter newDisk moves movesFrom partOf addedDisk minusMod
-reasons-hold = refl
+kept-reasons = refl
+
+other-reasons : ReasonsHold otherReasons
+unfolding reasonOf reasonAfter spotOf changeOf spotAfter oldBlockSpot addedSpot diskAfter newDisk moves movesFrom partOf addedDisk minusMod
+other-reasons = refl
 
 pub rules-hold : RulesHold
 rules-hold =
@@ -49,5 +53,6 @@ rules-hold =
       tails-hold = tails-hold;
       stays-hold = stays-hold;
       added-hold = added-hold;
-      reasons-hold = reasons-hold;
+      kept-reasons = kept-reasons;
+      other-reasons = other-reasons;
     }

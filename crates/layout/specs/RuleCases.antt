@@ -89,23 +89,25 @@ bodiesFound = (at 3 2, 4) ∷ (at 4 2, 5) ∷ (at 3 8, 16) ∷ (at 4 8, 17) ∷ 
 abbrev pub FoundBelow : Type 0
 FoundBelow = map (λ case. (case .0, blockAt 10 (6 ∷ 2 ∷ []) (case .0))) bodiesFound ≡ bodiesFound
 
--- why a block is at its spot, with 5 rows: in a volume of 3 disks, after a growth to 5, and after another one to 6
-abbrev pub reasons : List (List ℕ × ℕ × Reason)
-reasons =
+-- why a block is at its spot, with 5 rows, after a growth from 3 disks to 5, and after another one to 6: a growth that leaves it, at (0,4), (3,0) and
+-- (0,4), changes nothing
+abbrev pub keptReasons : List (List ℕ × ℕ × Reason)
+keptReasons = (5 ∷ 3 ∷ [], 12, SetOut) ∷ (6 ∷ 5 ∷ 3 ∷ [], 0, MovedBy 1 Head) ∷ (6 ∷ 5 ∷ 3 ∷ [], 12, SetOut) ∷ []
+
+-- others: set out, moved, added, added and left at (4,0), added and moved from (0,0)
+abbrev pub otherReasons : List (List ℕ × ℕ × Reason)
+otherReasons =
     (3 ∷ [], 0, SetOut)
     ∷ (5 ∷ 3 ∷ [], 0, MovedBy 1 Head)
     ∷ (5 ∷ 3 ∷ [], 7, MovedBy 1 Tail)
-    ∷ (5 ∷ 3 ∷ [], 12, SetOut)
     ∷ (5 ∷ 3 ∷ [], 15, AddedBy 1)
-    ∷ (6 ∷ 5 ∷ 3 ∷ [], 0, MovedBy 1 Head)  -- growth 2 leaves it at (3,0)
-    ∷ (6 ∷ 5 ∷ 3 ∷ [], 12, SetOut)  -- and this one at (0,4)
-    ∷ (6 ∷ 5 ∷ 3 ∷ [], 15, AddedBy 1)  -- and this one at (4,0)
-    ∷ (6 ∷ 5 ∷ 3 ∷ [], 16, MovedBy 2 Head)  -- from (0,0) to (5,0)
+    ∷ (6 ∷ 5 ∷ 3 ∷ [], 15, AddedBy 1)
+    ∷ (6 ∷ 5 ∷ 3 ∷ [], 16, MovedBy 2 Head)
     ∷ (6 ∷ 5 ∷ 3 ∷ [], 25, AddedBy 2)
     ∷ []
 
-abbrev pub ReasonsHold : Type 0
-ReasonsHold = map (λ case. (case .0, case .1, reasonOf 5 (case .0) (case .1))) reasons ≡ reasons
+abbrev pub ReasonsHold : (cases : List (List ℕ × ℕ × Reason)) → Type 0
+ReasonsHold cases = map (λ case. (case .0, case .1, reasonOf 5 (case .0) (case .1))) cases ≡ cases
 
 pub record RulesHold : Type 0 where
   pub heads-hold : Hold heads
@@ -115,4 +117,5 @@ pub record RulesHold : Type 0 where
   pub tails-hold : Hold tails
   pub stays-hold : Hold stays
   pub added-hold : Hold added
-  pub reasons-hold : ReasonsHold
+  pub kept-reasons : ReasonsHold keptReasons
+  pub other-reasons : ReasonsHold otherReasons

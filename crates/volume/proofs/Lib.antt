@@ -13,6 +13,8 @@ pub mod ByteBounds
 pub mod StoresFit
 pub mod RefusalOrders
 pub mod LimitCases
+pub mod GrowCases
+pub mod AdvanceCases
 pub mod Theorems
 pub mod RecordCode
 pub mod LiveCode

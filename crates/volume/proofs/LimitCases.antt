@@ -9,9 +9,11 @@ use Rattle.marks.specs.Marks.{noMarks, within, zerosAfter, atRest}
 use Rattle.base.specs.Bits.{bits}
 use Rattle.medium.specs.Medium.{bytesNeeded}
 use Rattle.volume.specs.Calls.{tooShort, doublingRows, growTableOf, growTable}
+use Rattle.volume.specs.Laws.{SoundFacts}
 use Rattle.volume.specs.LimitCases.{Says, sixGrowths, sevenGrowths, eightGrowths, sixteenDisks, seventeenDisks, LimitCases}
 use Rattle.volume.specs.Sound.{sizeHolds, rowsHold, disksHold, limitsHold, stageHolds, typesHold, sound}
 use Rattle.volume.specs.States.{geometry, historyOf, disks, nonePending, newState, withGrowth}
+use Rattle.volume.proofs.SoundLaws.{sound-facts}
 
 size-steps : Says sizeHolds
     ((511, false) ∷ (512, true) ∷ (513, false) ∷ (768, false) ∷ (1_024, true) ∷ (65_024, true) ∷ (65_280, false) ∷ [])
@@ -45,6 +47,10 @@ grow-bounds = refl
 grow-counts : map (λ count. refusal (growTable (newState 512 1 15) count 8_704)) (14 ∷ 15 ∷ 16 ∷ 17 ∷ []) ≡ (8 ∷ 8 ∷ 0 ∷ 8 ∷ [])
 unfolding refusal growTableOf doublingRows tooShort bytesNeeded geometry disks sound typesHold limitsHold sizeHolds rowsHold stageHolds zerosAfter atRest within noMarks bits every rising historyOf history diskCount newState withGrowth nonePending
 grow-counts = refl
+
+pub largest-blocks : SoundFacts (newState 65_536 1 1)
+unfolding sound typesHold limitsHold sizeHolds rowsHold stageHolds zerosAfter atRest within noMarks bits every rising historyOf history diskCount newState nonePending
+largest-blocks = sound-facts (newState 65_536 1 1) refl
 
 pub limit-cases : LimitCases
 limit-cases =

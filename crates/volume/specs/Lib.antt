@@ -5,4 +5,6 @@ pub mod Answers
 pub mod Calls
 pub mod RefusalOrders
 pub mod LimitCases
+pub mod GrowCases
+pub mod AdvanceCases
 pub mod Laws
