@@ -68,6 +68,10 @@ uneven-out : (s w : ℕ) (f : ℕ → ℕ) (d : ℕ) → d < 3 → eqb (onDisk s
 unfolding oldCount addedCount earlier diskCount
 uneven-out s w f d l e c = eqb-false _ 2 e (c .even d l)
 
+restripe-rows : restripeMoves 2 1 4 ≡ 6
+unfolding opened
+restripe-rows = refl
+
 pub counterexamples-law : Counterexamples
 unfolding opened rising
 counterexamples-law =
@@ -98,6 +102,7 @@ counterexamples-law =
       no-next = λ e. true≢false (sym e);
       restripe-less = λ e. eqb-false 4 6 refl e;
       restripe-none = refl;
+      restripe-rows = restripe-rows;
     }
 
 -- ---- racks

@@ -18,6 +18,8 @@ pub mod MovesTrue
 pub mod LiveMoves
 pub mod MoveCases
 pub mod FewestCases
+pub mod RuleCases
+pub mod WindowCases
 pub mod Theorems
 pub mod HistoryCode
 pub mod GrowthCode

@@ -19,7 +19,7 @@ use Rattle.layout.specs.Reasons.{reasonAfter, reasonOf, moveCountOf}
 use Rattle.layout.specs.Tally.{Tally, isRunning, movedBlocks}
 use Rattle.layout.specs.Laws.{RemainderOf, Bijection, Moving, LiveSpots, Marks, MarksFit, Counts, LookUps, AddedAt, HeadBeforeTail, ReasonTrue, MovesTrue, GrowthMoves, LiveMoves, LayoutLaws}
 use Rattle.layout.specs.FewestMoves.{FewestInGrowth, FewestMoves}
-use Rattle.layout.specs.Cases.{TableHolds, table, worked}
+use Rattle.layout.specs.Cases.{table, worked, Hold, TableHolds}
 use Rattle.layout.proofs.Histories.{rising-up}
 use Rattle.layout.proofs.Remainder.{remainder}
 use Rattle.layout.proofs.Bijection.{bijection}
@@ -35,6 +35,8 @@ use Rattle.layout.proofs.LiveMoves.{live-moves-law}
 use Rattle.layout.proofs.MoveCases.{moves-hold}
 use Rattle.layout.proofs.FewestMoves.{every-growth-law, fewest-law, restripe-law}
 use Rattle.layout.proofs.FewestCases.{spreads-hold, cases-true-law, counterexamples-law, racks-hold}
+use Rattle.layout.proofs.RuleCases.{rules-hold}
+use Rattle.layout.proofs.WindowCases.{windows-hold}
 use Rattle.layout.proofs.WindowsCode.{marks-most}
 
 -- the remainder of b-(n-1) is the true one, also for b < n-1
@@ -154,12 +156,12 @@ head-before-tail m =
     }
 
 -- L1 to L4, the blocks that one growth moved
-moved-cases : map worked (take 4 table) ≡ take 4 table
+moved-cases : Hold (take 4 table)
 unfolding worked spotOf blockAt changeOf oldSpot oldCount addedCount earlier diskCount spotAfter spotBefore blockAfter oldBlockSpot diskAfter newDisk moves movesFrom partOf minusMod diskBefore oldDisk addedIndex
 moved-cases = refl
 
 -- L5 to L12
-other-cases : map worked (drop 4 table) ≡ drop 4 table
+other-cases : Hold (drop 4 table)
 unfolding worked spotOf blockAt changeOf callsLeft uncopied count moving movingIn windowOf windowOfRow windows oldSpot oldCount addedCount earlier diskCount spotAfter spotBefore blockAfter oldBlockSpot addedSpot diskAfter newDisk moves movesFrom partOf addedDisk minusMod diskBefore oldDisk addedIndex
 other-cases = refl
 
@@ -191,4 +193,6 @@ layout-laws =
       move-cases = moves-hold;
       fewest-moves = fewest-moves;
       layout-cases = layout-cases;
+      rule-cases = rules-hold;
+      window-cases = windows-hold;
     }

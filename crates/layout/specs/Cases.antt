@@ -42,6 +42,9 @@ unfoldable pub worked : Case → Case
 worked (Placed h s x p c) = Placed h s (blockAt s h p) (spotOf s h x) (changeOf (oldCount h) (addedCount h) s x (oldSpot s h x))
 worked (Calls h s k) = Calls h s (callsLeft s h 0 (λ x. false))
 
--- the table is right: worked out, it is the same table
+-- cases are right: worked out, they are the same cases
+abbrev pub Hold : (cases : List Case) → Type 0
+Hold cases = map worked cases ≡ cases
+
 abbrev pub TableHolds : Type 0
-TableHolds = map worked table ≡ table
+TableHolds = Hold table

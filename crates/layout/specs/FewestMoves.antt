@@ -123,6 +123,8 @@ pub record Counterexamples : Type 0 where
   -- `restripe`: not all blocks, and none where no disk is added
   pub restripe-less : restripeMoves 2 1 3 ≡ 6 → ⊥
   pub restripe-none : restripeMoves 2 0 3 ≡ 0
+  -- with 4 rows, blocks 6 and 7 are on the same disk before and after, in another row
+  pub restripe-rows : restripeMoves 2 1 4 ≡ 6
 
 -- What the computed cases are of: `allSpreads` has every spread, and `hasOnEach` tests `OnEachDisk`.
 pub record CasesTrue : Type 0 where

@@ -22,6 +22,8 @@ use Rattle.layout.specs.Reasons.{reasonOf, firstGrowths, moveCountOf}
 use Rattle.layout.specs.Tally.{Tally, isRunning, openBlocks, movedBlocks, liveSpotOf, liveBlockOf, growthsOf, liveReasonOf, liveMoveCountOf, sourceOf}
 use Rattle.layout.specs.Limits.{Limits}
 use Rattle.layout.specs.Cases.{TableHolds}
+use Rattle.layout.specs.RuleCases.{RulesHold}
+use Rattle.layout.specs.WindowCases.{WindowsHold}
 use Rattle.layout.specs.MoveCases.{MovesHold}
 use Rattle.layout.specs.FewestMoves.{FewestMoves}
 
@@ -240,3 +242,6 @@ pub record LayoutLaws : Type 0 where
   pub fewest-moves : FewestMoves
   -- L1 to L12
   pub layout-cases : TableHolds
+  -- each rule of one growth, and windows and marks
+  pub rule-cases : RulesHold
+  pub window-cases : WindowsHold

@@ -8,6 +8,8 @@ pub mod Limits
 pub mod Spreads
 pub mod Laws
 pub mod Cases
+pub mod RuleCases
+pub mod WindowCases
 pub mod MoveCases
 pub mod FewestCases
 pub mod FewestMoves

@@ -22,6 +22,11 @@ m 15, n 1, s 16: @L
 m 3, n 2, s 7: @L
 m 3, n 2, s 13: @L
 m 3, n 2, s 1: @L
+m 2, n 4, s 10: @L
+m 3, n 5, s 8: @L
+m 3, n 3, s 7: @L
+m 5, n 2, s 8: @L
+m 1, n 1, s 3: @L
 2. The windows of a growth: document 01's, from 1 disk to 16, from 15 to 16, and none
 3 to 5 disks, 5 rows: @W
 3 to 5 disks, 6 rows: @W
@@ -30,7 +35,7 @@ m 3, n 2, s 1: @L
 15 to 16 disks, 16 rows: @W
 15 to 16 disks, 16 rows, window 0: @M
 3 disks, 5 rows: @W
-3. A last window that is cut off to 2 rows, to 3, and to the only row
+3. A last window that is cut off, as to 2 rows, to 3, and to the only row
 3 to 5 disks, 7 rows: @W
 3 to 5 disks, 7 rows, window 0: @M
 3 to 5 disks, 7 rows, window 1: @M
@@ -38,6 +43,12 @@ m 3, n 2, s 1: @L
 3 to 5 disks, 13 rows, window 2: @M
 3 to 5 disks, 1 row: @W
 3 to 5 disks, 1 row, window 0: @M
+2 to 6 disks, 8 rows: @W
+2 to 6 disks, 8 rows, window 0: @M
+2 to 6 disks, 8 rows, window 1: @M
+3 to 8 disks, 12 rows, window 1: @M
+3 to 6 disks, 7 rows, window 1: @M
+5 to 7 disks, 9 rows, window 1: @M
 4. Seven growths, the largest volume, and the most marks in a window
 1 to 2 to 3 to 4 to 5 to 6 to 7 to 8 disks, 8 rows: @W
 1 to 2 to 3 to 4 to 5 to 6 to 7 to 8 disks, 8 rows, window 0: @M

@@ -14,7 +14,8 @@ use Rattle.layout.specs.Tally.{openBlocks}
 use Rattle.volume.specs.declared.Volume.{Volume}
 use Rattle.volume.specs.States.{tallyOf}
 use Rattle.scene_load.specs.declared.Scene.{Scene}
-use Rattle.scene_load.specs.Loads.{sceneAt, servedOfScene, servedOfFirst, reachesPast, loadOfFirst, loadOf, AllOpen}
+use Rattle.scene_load.specs.Cases.{LastScenes}
+use Rattle.scene_load.specs.Loads.{sceneAt, servedOfScene, servedOfFirst, reachesPast, isRefused, loadOfFirst, loadOf, AllOpen}
 use Rattle.scene_load.specs.Laws.{refusalOf, servedOf, Counts, LoadLaws}
 use Rattle.scene_load.proofs.Refusing.{block-within, accepted-sound, accepted-all, load-refuses, first-refused, some-refused, unsound-first, all-accepted, few-scenes}
 use Rattle.scene_load.proofs.Serving.{names-live, no-disk, sum-of-disks}
@@ -36,6 +37,11 @@ reaches-past blocks first count e = omega (arith, ltb-true blocks (first + (coun
 
 reaches-open : (blocks first count : ℕ) → reachesPast blocks (record { first = first; count = count + 1 }) ≡ false → first + count < blocks
 reaches-open blocks first count e = omega (arith, ltb-false blocks (first + (count + 1)) (rw (reaches-is blocks first count) at e))
+
+-- the scenes around the 65,536th, by computing
+last-scenes : LastScenes
+unfolding isRefused reachesPast
+last-scenes = refl
 
 module _ (v : Volume) (scenes : List Scene) (e : refusalOf v scenes ≡ 0) where
   blocks-open : (place : ℕ) → place < length scenes → AllOpen v (sceneAt scenes place)
@@ -68,6 +74,7 @@ load-laws =
       load-refuses = load-refuses;
       first-refused = first-refused;
       some-refused = some-refused;
+      last-scenes = last-scenes;
       unsound-first = unsound-first;
       all-accepted = all-accepted;
       load-counts = load-counts;

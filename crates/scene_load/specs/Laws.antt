@@ -14,6 +14,7 @@ use Rattle.volume.specs.declared.Volume.{Volume}
 use Rattle.volume.specs.Sound.{sound}
 use Rattle.volume.specs.States.{disks, tallyOf}
 use Rattle.scene_load.specs.declared.Scene.{Scene}
+use Rattle.scene_load.specs.Cases.{LastScenes}
 use Rattle.scene_load.specs.Loads.{loadNumber, placeTold, sceneAt, names, servedOfScene, servedOfFirst, reachesPast, refusedAt, mostScenes, loadTable, loadOf, AllOpen}
 
 -- the number that refuses a list, 0 where none does
@@ -63,6 +64,7 @@ pub record LoadLaws : Type 0 where
   pub first-refused : (v : Volume) (scenes : List Scene) → refusalOf v scenes ≡ 17 → FirstRefused v scenes (placeTold (loadOf v scenes .answer))
   pub some-refused : (v : Volume) (scenes : List Scene) (place : ℕ) → sound v ≡ true → place < length scenes
       → refusedAt v scenes place ≡ true → refusalOf v scenes ≡ 17
+  pub last-scenes : LastScenes
   -- 1 comes before 17, and no other list is refused
   pub unsound-first : (v : Volume) (scenes : List Scene) → sound v ≡ false → refusalOf v scenes ≡ 1
   pub all-accepted : (v : Volume) (scenes : List Scene) → sound v ≡ true → ((place : ℕ) → place < length scenes → refusedAt v scenes place ≡ false)

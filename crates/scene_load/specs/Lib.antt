@@ -1,3 +1,4 @@
 pub mod Loads
 pub mod Steps
+pub mod Cases
 pub mod Laws

@@ -19,7 +19,7 @@ use Rattle.layout.specs.Tally.{openBlocks, liveBlockOf, waiting, movesNow, next
 use Rattle.medium.specs.declared.Geometry.{Geometry}
 use Rattle.medium.specs.Medium.{recordBytes, bytesNeeded, Observations}
 use Rattle.volume.specs.declared.Volume.{Volume}
-use Rattle.volume.specs.Calls.{tooShort, recordRows, formatTable, restartTable, sectorTable, doublingRows, growTableOf, writeTable, readTable, copyTable, nothingToRecord, checkpointTable, advanceTable, growthTable, addressTable, holderTable, isNone}
+use Rattle.volume.specs.Calls.{tooShort, recordRows, formatTable, restartTable, sectorTable, doublingRows, growTableOf, writeTable, readTable, copyTable, nothingToRecord, checkpointTable, advanceTable, growthTable, addressTable, holderTable, isNone, pieceTable}
 use Rattle.volume.specs.Laws.{MayGrow}
 use Rattle.volume.specs.Records.{stateRead, isSoundRecord}
 use Rattle.volume.specs.Sound.{sizeHolds, rowsHold, disksHold, sound}
@@ -145,16 +145,8 @@ pub record ReadFacts (v : Volume) (x n len : ℕ) : Type 0 where
   pub block-open : x < openBlocks (tallyOf v)
   pub piece-whole : n ≡ v .size
 
-abbrev afterPiece : (v : Volume) (x n len : ℕ) (table : List (ℕ × Bool)) → List (ℕ × Bool)
-afterPiece v x n len table =
-    (1, not (sound v))
-    ∷ (2, tooShort (geometry v) (disks v) len)
-    ∷ (3, leb (openBlocks (tallyOf v)) x)
-    ∷ (4, not (eqb n (v .size)))
-    ∷ table
-
 -- the tests of a read, whatever comes after them
-read-tests : (v : Volume) (x n len : ℕ) (table : List (ℕ × Bool)) → refusal (afterPiece v x n len table) ≡ 0
+read-tests : (v : Volume) (x n len : ℕ) (table : List (ℕ × Bool)) → refusal (pieceTable v x n len ++ table) ≡ 0
     → ReadFacts v x n len × (refusal table ≡ 0)
 read-tests v x n len table e =
     let a = held 1 (sound v) _ (omega arith) e in

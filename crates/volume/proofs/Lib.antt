@@ -11,6 +11,10 @@ pub mod CopyLaws
 pub mod PartLaws
 pub mod ByteBounds
 pub mod StoresFit
+pub mod RefusalOrders
+pub mod LimitCases
+pub mod GrowCases
+pub mod AdvanceCases
 pub mod Theorems
 pub mod RecordCode
 pub mod LiveCode

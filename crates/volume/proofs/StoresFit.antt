@@ -17,6 +17,7 @@ use Rattle.medium.specs.declared.Geometry.{Geometry}
 use Rattle.medium.specs.Medium.{bytesNeeded, Observations, observe, Store, recordStore, Inside, StoreFits}
 use Rattle.medium.proofs.Theorems.{medium-laws}
 use Rattle.volume.specs.declared.Volume.{Volume}
+use Rattle.volume.specs.Laws.{InDisks}
 use Rattle.volume.specs.Calls.{Outcome, refused, reporting, telling, judged, doing, formatEffect, growEffect, writeEffect, copyEffect, checkpointEffect, advanceEffect, formatTable, formatOutcome, growTableOf, growOutcomeOf, writeTable, writeOutcome, copyTable, copyStore, copyOutcome, checkpointTable, checkpointStore, checkpointOutcome, advanceTable, advancing, advanceOutcome}
 use Rattle.volume.specs.Records.{recordOf}
 use Rattle.volume.specs.Sound.{sound}
@@ -57,7 +58,7 @@ format-fits z s n o =
 abbrev pub FitsDisks : (v : Volume) (o : Observations) (out : Outcome) → Type 0
 FitsDisks v o out = Fits (geometry v) (disks v) (o .byteCount) (out .store)
 
-growth-fits : (v : Volume) (count : ℕ) → StoreFits (geometry v) (bytesNeeded (geometry v) (disks v)) (growEffect v count .store)
+growth-fits : (v : Volume) (count : ℕ) → InDisks v (growEffect v count)
 unfolding growEffect reporting
 growth-fits v count = record-fits (geometry v) (disks v) (grown v count)
 

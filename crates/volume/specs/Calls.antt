@@ -161,16 +161,16 @@ growOutcome v count o = growOutcomeOf true v count o
 abbrev pub growBeyondDoublingOutcome : (v : Volume) (count : ℕ) (o : Observations) → Outcome
 growBeyondDoublingOutcome v count o = growOutcomeOf false v count o
 
+-- ---- "1; 2; 3; 4, piece not Z bytes": the tests that write and read share
+
+abbrev pub pieceTable : (v : Volume) (x pieceBytes byteCount : ℕ) → List (ℕ × Bool)
+pieceTable v x pieceBytes byteCount =
+    (1, not (sound v)) ∷ (2, tooShort (geometry v) (disks v) byteCount) ∷ (3, leb (openBlocks (tallyOf v)) x) ∷ (4, not (eqb pieceBytes (v .size))) ∷ []
+
 -- ---- "Write block x from a lent piece: 1; 2; 3; 4, piece not Z bytes; 7, x copied but not recorded. It stores the piece at the live spot."
 
 unfoldable pub writeTable : (v : Volume) (x pieceBytes byteCount : ℕ) → List (ℕ × Bool)
-writeTable v x pieceBytes byteCount =
-    (1, not (sound v))
-    ∷ (2, tooShort (geometry v) (disks v) byteCount)
-    ∷ (3, leb (openBlocks (tallyOf v)) x)
-    ∷ (4, not (eqb pieceBytes (v .size)))
-    ∷ (7, waiting (tallyOf v) x)
-    ∷ blockRows v
+writeTable v x pieceBytes byteCount = pieceTable v x pieceBytes byteCount ++ ((7, waiting (tallyOf v) x) ∷ blockRows v)
 
 unfoldable pub writeEffect : (v : Volume) (x : ℕ) (piece : List ℕ) → Outcome
 writeEffect v x piece = doing v (blockStore (liveSpotOf (tallyOf v) x) piece) piece
@@ -181,12 +181,7 @@ writeOutcome v x piece o = judged (writeTable v x (length piece) (o .byteCount))
 -- ---- "Read into a lent piece: 1; 2; 3; 4. It fills the piece from the live spot."
 
 unfoldable pub readTable : (v : Volume) (x pieceBytes byteCount : ℕ) → List (ℕ × Bool)
-readTable v x pieceBytes byteCount =
-    (1, not (sound v))
-    ∷ (2, tooShort (geometry v) (disks v) byteCount)
-    ∷ (3, leb (openBlocks (tallyOf v)) x)
-    ∷ (4, not (eqb pieceBytes (v .size)))
-    ∷ []
+readTable v x pieceBytes byteCount = pieceTable v x pieceBytes byteCount
 
 unfoldable pub readEffect : (v : Volume) (x : ℕ) (o : Observations) → Outcome
 readEffect v x o = doing v noStore (o .bytesAt (geometry v) (liveSpotOf (tallyOf v) x))

@@ -27,6 +27,10 @@ use Rattle.volume.specs.declared.Pending.{Pending}
 use Rattle.volume.specs.declared.Volume.{Volume}
 use Rattle.volume.specs.Answers.{number, callsTold, blockCopied, partCopied, addressNumber, spotTold, reasonTold, movesTold, partTold, holderNumber, blockTold}
 use Rattle.volume.specs.Calls.{Outcome, formatTable, formatOutcome, restartTable, restartOutcome, sectorTable, sectorOutcome, growTableOf, growTable, growBeyondDoublingTable, growOutcomeOf, growOutcome, growBeyondDoublingOutcome, writeTable, writeOutcome, readTable, readOutcome, copyTable, copyOutcome, nothingToRecord, checkpointTable, checkpointOutcome, advanceTable, advanceOutcome, flushedTable, flushedOutcome, addressTable, addressReply, holderTable, holderReply}
+use Rattle.volume.specs.AdvanceCases.{PartsTold}
+use Rattle.volume.specs.GrowCases.{GrowCases}
+use Rattle.volume.specs.LimitCases.{LimitCases}
+use Rattle.volume.specs.RefusalOrders.{RefusalOrders}
 use Rattle.volume.specs.Records.{recordOf, stateRead, isSoundRecord}
 use Rattle.volume.specs.Sound.{sizeStep, leastSize, movingOf, sound}
 use Rattle.volume.specs.States.{geometry, historyOf, disks, tallyOf, newState, zeros, grown, withPending, recordedOnly, withCopy, checkpointed}
@@ -152,6 +156,10 @@ pub record VolumeLaws : Type 0 where
   pub copy-fits : (v : Volume) (x : ℕ) (m : List ℕ) → InDisks v (copyOutcome v x (observe m))
   pub checkpoint-fits : (v : Volume) (o : Observations) → InDisks v (checkpointOutcome v o)
   pub advance-fits : (v : Volume) (m : List ℕ) → InDisks v (advanceOutcome v (observe m))
+  -- the numbers of the tables in the documents' order, and cases on the limits; blocks of the largest size are sound
+  pub refusal-orders : RefusalOrders
+  pub limit-cases : LimitCases
+  pub largest-blocks : SoundFacts (newState 65_536 1 1)
   -- refusals
   pub format-refuses : (z s n : ℕ) (o : Observations) → Refuses (formatTable z s n (o .byteCount)) zeros [] (formatOutcome z s n o)
   pub restart-refuses : (o : Observations) → Refuses (restartTable o) zeros [] (restartOutcome o)
@@ -167,6 +175,7 @@ pub record VolumeLaws : Type 0 where
   pub advance-refuses : (v : Volume) (o : Observations) → Refuses (advanceTable v (o .byteCount)) v [] (advanceOutcome v o)
   pub flushed-refuses : (v : Volume) → Refuses (flushedTable v) v [] (flushedOutcome v)
   -- the two grows
+  pub grow-cases : GrowCases
   pub grows : (v : Volume) (count : ℕ) (o : Observations) → TwoGrows v count o
   pub address-refuses : (v : Volume) (x : ℕ) → AddressRefuses v x
   pub holder-refuses : (v : Volume) (p : Spot) → HolderRefuses v p
@@ -178,6 +187,8 @@ pub record VolumeLaws : Type 0 where
   -- while a growth runs, 12's test holds exactly where no copy waits to be recorded
   pub no-copy-waiting : (v : Volume) → sound v ≡ true → v .growing ≢ 0
       → (nothingToRecord v ≡ true → (x : ℕ) → waiting (tallyOf v) x ≡ false) × (((x : ℕ) → waiting (tallyOf v) x ≡ false) → nothingToRecord v ≡ true)
+  -- the parts that advance tells, in cases
+  pub parts-told : PartsTold
   -- the part that advance tells of a block is the part that address tells once the copy is recorded, and the next checkpoint records it
   pub part-told : (v u : Volume) (o : Observations) (x : Block) (part : Part) (n : ℕ) → advanceOutcome v o .reply .answer ≡ Told (Copied x part) n
       → RecordsCopy v u (x .0) → reasonTold (addressReply u (x .0) .answer) ≡ MovedBy (v .growths) part

@@ -3,4 +3,8 @@ pub mod Sound
 pub mod Records
 pub mod Answers
 pub mod Calls
+pub mod RefusalOrders
+pub mod LimitCases
+pub mod GrowCases
+pub mod AdvanceCases
 pub mod Laws

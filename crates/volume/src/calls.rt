@@ -219,7 +219,8 @@ impl Volume {
         if self.is_short(self.disk_count_by(counts), len) {
             return 2;
         }
-        if self.open_blocks_by(counts) <= x.0 {
+        let blocks = self.open_blocks_by(counts);
+        if blocks <= x.0 {
             return 3;
         }
         if piece != self.size {

@@ -1,12 +1,14 @@
 -- `read_refusal` meets its contract.
 use mathlib.Core.Path.{_≡_, sym, _∙_}
 use mathlib.Core.Bool.{true, false}
+use lib.Dec.{leb}
 use borrow.Author.Needs.{needs}
 use borrow.Author.Tests.{le-leb, lt-leb, eq-eqb, ne-eqb, not-true, not-false}
 use Rattle.base.specs.Refusals.{refusal}
+use Rattle.layout.specs.Tally.{openBlocks}
 use Rattle.volume.specs.Calls.{readTable, tooShort}
 use Rattle.volume.specs.Sound.{sound}
-use Rattle.volume.specs.States.{geometry, disks}
+use Rattle.volume.specs.States.{geometry, disks, tallyOf}
 use Rattle.volume.proofs.SoundLaws.{sound-facts}
 use Rattle.volume.proofs.Volume.read_refusal.Statement.{statement}
 use Rattle.volume.proofs.Volume.read_refusal.Tie as tie
@@ -51,13 +53,17 @@ returns-3 c =
       le-leb _ _ (rw (c .before .before .open-blocks-by .ensures) at (c .if3 .taken)),
     )
 
+-- block x is open
+is-open : (c : tie.Else3) → let a = c .before .before .before .before .before .before .before .before .args in leb (openBlocks (tallyOf (a .self))) (a .x .0) ≡ false
+is-open c = lt-leb _ _ (rw (c .before .before .open-blocks-by .ensures) at (c .if3 .left))
+
 returns-4 : tie.Need-returns-4
 unfolding refusal readTable
 returns-4 c =
     simp (
       is-sound (c .before .before .before .before .before .before .before .before),
       is-long (c .before .before .before .before .before),
-      lt-leb _ _ (rw (c .before .before .before .before .open-blocks-by .ensures) at (c .before .before .if3 .left)),
+      is-open (c .before .before),
       ne-eqb _ _ (c .if4 .taken),
     )
 
@@ -67,7 +73,7 @@ returns-5 c =
     simp (
       is-sound (c .before .before .before .before .before .before .before .before),
       is-long (c .before .before .before .before .before),
-      lt-leb _ _ (rw (c .before .before .before .before .open-blocks-by .ensures) at (c .before .before .if3 .left)),
+      is-open (c .before .before),
       eq-eqb _ _ (c .if4 .left),
     )
 
