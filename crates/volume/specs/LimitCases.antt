@@ -13,7 +13,7 @@ use Rattle.volume.specs.States.{newState, withGrowth}
 abbrev pub Says : (test : ℕ → Bool) (cases : List (ℕ × Bool)) → Type 0
 Says test cases = map (λ case. (case .0, test (case .0))) cases ≡ cases
 
--- a volume with one row that was formatted with 1 disk and gained one in each of t growths
+-- a volume at rest with one row and these counts, after t growths
 abbrev pub grownBy : (t : ℕ) (counts : List ℕ) → Volume
 grownBy t counts = withGrowth (newState 512 1 1) t counts 0 0 0 0
 
