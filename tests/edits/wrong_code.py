@@ -1,0 +1,189 @@
+"""Is a wrong line of code wrong? The crates are translated to Rust once, with all their wrong lines, and run with one of
+them at a time:
+
+- A case shows it where a program of the repository writes something else than its file stdout, panics or does not end.
+- A witness shows it: a line `witness: EXPRESSION` behind the pair, of type bool, true of the right code and not true of
+  the wrong one. It stands in the module of the pair's file, and what tests/edits/witness/CRATE.rs has is in its crate's
+  module `witness`. Its author sees to it that the function's contract says that it is true, and that the inputs are
+  ones that the `requires` of the functions called allow.
+
+The right code has to write each file stdout byte by byte, or the translation is not to be trusted."""
+import concurrent.futures
+import dataclasses
+import os
+import resource
+import subprocess
+
+from edits import crates_below, edits_of, files_of, make_edit, module_of, read, wrong_lines
+from translation import constants_of, translate, witnesses_of, wrong_constants
+
+RUST = os.path.join(os.path.dirname(os.path.abspath(__file__)), 'rust')
+KIT = ('wrong', 'num', 'bytes', 'io')
+MOST_SECONDS = 2
+STACK_BYTES = 1 << 28
+
+
+@dataclasses.dataclass
+class Crate:
+    """A crate to translate: its files, the crates that it names, and its wrong lines of code, each with its number."""
+    name: str
+    texts: dict
+    below: list
+    numbered: list
+    helpers: str
+    constants: set
+
+
+@dataclasses.dataclass
+class Shown:
+    """How a wrong line of code is shown to be wrong: 'case', 'witness' or ''; and what is wrong with its witness."""
+    by: str
+    problem: str = ''
+
+
+def key_of(crate, edit, line):
+    return crate, edit.name, line.pairs[0].line
+
+
+def code_lines(folder, name):
+    """The wrong lines of code of an edit that can be put in, with their keys."""
+    edit = make_edit(folder, os.path.join(folder, 'must-fail', name))
+    lines = [] if edit.problem else wrong_lines(edit)
+    fits = [line for line in lines if not any(pair.problem for pair in line.pairs)]
+    return {key_of(os.path.basename(folder), edit, line): line for line in fits if line.pairs[0].file.startswith('src/')}
+
+
+def read_crates(root):
+    """The crates of a repository with their wrong lines, and the number of each wrong line by its key."""
+    crates, numbers = {}, {}
+    for name, below in crates_below(root).items():
+        folder = os.path.join(root, 'crates', name)
+        lines = {key: line for edit in edits_of(folder) for key, line in code_lines(folder, edit).items()}
+        numbers |= {key: at for at, key in enumerate(lines, len(numbers) + 1)}
+        helpers = os.path.join(root, 'tests/edits/witness', name + '.rs')
+        known = [crate for crate in below if crate in crates]
+        texts, numbered = files_of(folder), [(numbers[key], line) for key, line in lines.items()]
+        inherited = set().union(*(crates[crate].constants for crate in known)) - constants_of(texts)
+        constants = wrong_constants(texts, numbered) | inherited
+        crates[name] = Crate(name, texts, known, numbered, read(helpers) if os.path.exists(helpers) else '', constants)
+    return crates, numbers
+
+
+def write(path, text):
+    os.makedirs(os.path.dirname(path), exist_ok=True)
+    with open(path, 'w', encoding='utf-8') as f:
+        f.write(text)
+
+
+def compile_rust(place, name, source, below, kind='rlib'):
+    """Compiles one crate over those that it names, unless nothing has changed since it was compiled."""
+    out = os.path.join(place, name if kind == 'bin' else f'lib{name}.rlib')
+    externs = [word for crate in below for word in ('--extern', f'{crate}={place}/lib{crate}.rlib')]
+    options = ['--edition=2021', '-Copt-level=1', '-Coverflow-checks=on', '-Cdebuginfo=0', '--cap-lints=allow']
+    command = ['rustc', source, '--crate-name', name, '--crate-type', kind, '-L', place, '-o', out] + options + externs
+    ran = subprocess.run(command, capture_output=True, text=True)
+    if ran.returncode:
+        raise SystemExit(f'rustc refuses the translation of {name}:\n{ran.stderr}')
+
+
+def is_program(crate):
+    return 'src/main.rt' in crate.texts
+
+
+def build(root, crates):
+    """Compiles all crates and the program that runs their cases and witnesses; gives its path."""
+    place = os.path.join(os.path.abspath(root), 'target', 'wrong-code')
+    os.makedirs(place, exist_ok=True)
+    for name in KIT:
+        compile_rust(place, name, os.path.join(RUST, name + '.rs'), [])
+    for crate in crates.values():
+        sources = translate(crate.texts, crate.numbered, crate.constants, crate.helpers)
+        folder = os.path.join(place, crate.name)
+        for file, text in sources.items():
+            write(os.path.join(folder, file), text)
+        start = 'src/main.rs' if is_program(crate) else 'src/lib.rs'
+        compile_rust(place, crate.name, os.path.join(folder, start), list(KIT) + crate.below)
+    write(os.path.join(place, 'run.rs'), program_text(os.path.abspath(root), crates))
+    compile_rust(place, 'run', os.path.join(place, 'run.rs'), ['io'] + list(crates), 'bin')
+    return os.path.join(place, 'run')
+
+
+def program_text(root, crates):
+    """The program that runs one program of the repository, or one witness."""
+    arms = ''.join(case_arm(root, crate) for crate in crates.values() if is_program(crate))
+    arms += ''.join(witness_arms(crate) for crate in crates.values())
+    return f'''fn run(word: &str) -> bool {{
+    match word {{
+{arms}        _ => panic!(),
+    }}
+}}
+
+fn main() {{
+    let words: Vec<String> = std::env::args().skip(1).collect();
+    let all = move || words.iter().all(|word| run(word));
+    let held = std::thread::Builder::new().stack_size({STACK_BYTES}).spawn(all).unwrap().join();
+    std::process::exit(match held {{
+        Ok(true) => 0,
+        Ok(false) => 1,
+        Err(_) => 101,
+    }});
+}}
+'''
+
+
+def case_arm(root, crate):
+    """The arm that runs a program, with its files stdin and stdout."""
+    paths = [os.path.join(root, 'crates', crate.name, file) for file in ('stdin', 'stdout')]
+    given, expected = (f'include_bytes!({path!r})'.replace("'", '"') if os.path.exists(path) else 'b""' for path in paths)
+    return f'        "{crate.name}" => {{ io::begin({given}, {expected}); {crate.name}::main(); io::end(); true }}\n'
+
+
+def witness_arms(crate):
+    """An arm for each witness of a crate's wrong lines."""
+    names = [(f'witness_{number}_{at}', line) for number, line in crate.numbered for at in range(len(witnesses_of(line)))]
+    return ''.join(f'        "{n}" => {crate.name}::{module_of(line.pairs[0].file)}{n}(),\n' for n, line in names)
+
+
+def run(program, number, words):
+    """How the program ends: '' where all is as it must be."""
+    environment = dict(os.environ, WRONG_LINE=str(number), RUST_BACKTRACE='0')
+    try:
+        ran = subprocess.run([program] + words, env=environment, capture_output=True, timeout=MOST_SECONDS)
+    except subprocess.TimeoutExpired:
+        return 'does not end'
+    return {0: '', 1: 'differs', 101: 'panics'}.get(ran.returncode, 'is aborted')
+
+
+def witness_problem(program, number, words):
+    """What is wrong with the witnesses of a wrong line, or ''."""
+    for word in words:
+        right, wrong = run(program, 0, [word]) or 'is true', run(program, number, [word]) or 'is true'
+        if right != 'is true' or wrong == 'is true':
+            says = {'differs': 'is false'}
+            return f'its witness {says.get(right, right)} of the right code, and {says.get(wrong, wrong)} of the wrong one'
+    return ''
+
+
+def show(program, cases, number, line):
+    """Runs one wrong line: its witnesses, and where it has none the programs."""
+    words = [f'witness_{number}_{at}' for at in range(len(witnesses_of(line)))]
+    problem = witness_problem(program, number, words)
+    if problem or run(program, number, cases):
+        return Shown('' if problem else 'case', problem)
+    return Shown('witness' if words else '')
+
+
+def show_all(root):
+    """How each wrong line of code is shown to be wrong, by its key, and the processor seconds that it took."""
+    crates, numbers = read_crates(root)
+    program = build(root, crates)
+    cases = [crate.name for crate in crates.values() if is_program(crate)]
+    for name in cases:
+        ends = run(program, 0, [name])
+        if ends:
+            raise SystemExit(f'the translation of {name} {ends} where it should write its file stdout')
+    lines = {number: line for crate in crates.values() for number, line in crate.numbered}
+    with concurrent.futures.ThreadPoolExecutor(2) as pool:
+        shown = dict(zip(lines, pool.map(lambda number: show(program, cases, number, lines[number]), lines)))
+    used = resource.getrusage(resource.RUSAGE_CHILDREN)
+    return {key: shown[number] for key, number in numbers.items()}, used.ru_utime + used.ru_stime
