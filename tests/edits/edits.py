@@ -89,12 +89,15 @@ def problem_of_pairs(pairs):
     """What is wrong with the pairs of an edit, or ''."""
     if not pairs:
         return 'it has no pair of old and new text'
-    wrong = {pair.file.startswith('src/') for pair in pairs if not pair.proved}
+    wrong = {pair.file.partition('/')[0] for pair in pairs if not pair.proved}
+    if 'proofs' in wrong:
+        return 'it changes proofs: an adapted proof stands beside a wrong definition and has a `proved:` line'
     if len(wrong) > 1:
         return 'it changes code and definitions'
-    following = [pair for pair in pairs if pair.proved]
-    if following and (wrong != {False} or not all(pair.file.startswith('src/') for pair in following)):
-        return 'a `proved:` line stands behind a pair that is no code beside a wrong definition'
+    if any(pair.proved for pair in pairs) and wrong != {'specs'}:
+        return 'a `proved:` line stands behind a pair that has no wrong definition beside it'
+    if any(pair.proved and pair.file.startswith('specs/') for pair in pairs):
+        return 'a `proved:` line stands behind a definition'
     return ''
 
 

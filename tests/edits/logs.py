@@ -5,7 +5,8 @@ import dataclasses
 import os
 import re
 
-from edits import files_of, read, wrong_lines
+from claims import declarations, is_lemma
+from edits import claim_of, files_of, read, wrong_lines
 
 NO_FACT = ('not admitted', 'cannot be checked', 'can be named from here')
 NO_FIELD = 'record `'
@@ -22,10 +23,16 @@ class Log:
     unproved: set
     proved: set
     facts: dict
+    misfits: set
+
+
+def owner_of(file):
+    """What the facts of a file of proofs are told of: the function for its Proof.antt, else the file."""
+    return file.removesuffix('/Proof.antt').replace('/', '::') if file.endswith('/Proof.antt') else file
 
 
 def read_log(path):
-    log, misfits = Log(False, set(), set(), collections.defaultdict(set)), set()
+    log = Log(False, set(), set(), collections.defaultdict(set), set())
     for line in read(path).split('\n'):
         log.refused |= line.startswith('logic=not-proved')
         log.proved |= set(PROVED.findall(line))
@@ -37,12 +44,11 @@ def read_log(path):
                 log.facts[unproved.group(1)] |= set(re.findall(r'`([^`]+)`', closed))
         error = ERROR.match(line)
         if error and not any(words in error.group(3) for words in NO_FACT):
-            file = error.group(1)
-            of = file.removesuffix('/Proof.antt').replace('/', '::') if file.endswith('/Proof.antt') else file
+            of = owner_of(error.group(1))
             log.facts[of].add(error.group(2))
             if error.group(3).startswith(NO_FIELD):
-                misfits.add(of)
-    for of in misfits:
+                log.misfits.add(of)
+    for of in log.misfits:
         del log.facts[of]
     return log
 
@@ -81,22 +87,57 @@ def problem_of_log(edit, folder):
     return ''
 
 
-def does_not_follow(pair, log):
+def does_not_follow(pair, edit, log):
+    """Why this pair is not code that follows a wrong definition, nor an adapted proof; or ''."""
+    proof = pair.file.startswith('proofs/')
+    why = pair.problem or (is_not_adapted(pair, edit, log) if proof else is_not_proved(pair, log))
+    return f'line {pair.line}: {why}' if why else ''
+
+
+def is_not_proved(pair, log):
     """Why this pair is not code that follows a wrong definition, or ''."""
     unproved = [name for name in pair.proved if name not in log.proved]
-    if pair.problem or pair.function not in pair.proved:
-        return f'line {pair.line}: {pair.problem or "its `proved:` line names another function than its own"}'
-    return f'line {pair.line}: {unproved[0]} is not proved, so not a law alone refuses the definition' if unproved else ''
+    if pair.function not in pair.proved:
+        return 'its `proved:` line names another function than its own'
+    return f'{unproved[0]} is not proved, so not a law alone refuses the definition' if unproved else ''
 
 
-def judge(edit, folder):
+def is_not_adapted(pair, edit, log):
+    """Why this pair is not an adapted proof, or ''."""
+    file = pair.file.removeprefix('proofs/')
+    own = {f'{file}:{name}' for name in declarations(edit.after[pair.file])}
+    other = [name for name in pair.proved if name not in own]
+    if other:
+        return f'its `proved:` line names {other[0]}, which is no declaration of {file}'
+    fails = log.facts.get(owner_of(file)) or owner_of(file) in log.misfits
+    return f'the adapted proof {file} fails, so not a law alone refuses the definition' if fails else ''
+
+
+def fails_too(edit, log):
+    """What fails by a fact beside what the edit's `fails:` lines name, where proofs are adapted; or ''."""
+    named = {claim_of(name) for pair in edit.pairs for name in pair.names}
+    failing = {(of, fact) for of in log.facts for fact in log.facts[of]} | {(of, '') for of in log.misfits}
+    more = sorted(of + ':' * bool(fact) + fact for of, fact in failing if not {(of, ''), (of, fact)} & named)
+    adapted = any(pair.file.startswith('proofs/') for pair in edit.pairs)
+    return f'{" ".join(more)} fails too, so not a law alone refuses the definition' if adapted and more else ''
+
+
+def names_a_lemma(line, edit):
+    """Which name of a wrong definition's `fails:` line is neither a contract nor the proof of a claim, or ''."""
+    for of, fact in line.claims if line.pairs[0].file.startswith('specs/') else []:
+        if of.endswith('.antt') and is_lemma(edit.before, of, fact):
+            return f'{of}:{fact} is a lemma; name a field of a law record, a case or a contract'
+    return ''
+
+
+def judge(edit, folder, allow_lemmas):
     """Why the edit cannot be judged, or ''; and each wrong line with '' where it is seen to fail, else why not."""
     lines = wrong_lines(edit)
     missing = [line for line in lines if line.problem.startswith('its old text')]
     problem = edit.problem or ('' if missing else problem_of_log(edit, folder))
-    log = Log(False, set(), set(), {}) if problem or missing else read_log(os.path.join(folder, '.log'))
+    log = Log(False, set(), set(), {}, set()) if problem or missing else read_log(os.path.join(folder, '.log'))
     if not problem and not missing:
-        follows = [does_not_follow(pair, log) for pair in edit.pairs if pair.proved]
+        follows = [does_not_follow(pair, edit, log) for pair in edit.pairs if pair.proved] + [fails_too(edit, log)]
         problem = next((why for why in follows if why), '' if log.refused else 'the prover did not refuse it')
     if problem:
         return problem, [(line, problem) for line in lines]
@@ -106,5 +147,6 @@ def judge(edit, folder):
     for line in lines:
         fails = [does_not_fail(claim, log) for claim in line.claims]
         why = line.problem or next((f for f in fails if f), '') or shares(line, [o for o in lines if o is not line])
+        why = why or ('' if allow_lemmas else names_a_lemma(line, edit))
         verdicts.append((line, why))
     return '', verdicts
