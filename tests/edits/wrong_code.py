@@ -19,7 +19,9 @@ from translation import constants_of, translate, witnesses_of, wrong_constants
 
 RUST = os.path.join(os.path.dirname(os.path.abspath(__file__)), 'rust')
 KIT = ('wrong', 'num', 'bytes', 'io')
-MOST_SECONDS = 2
+OPTIONS = ['--edition=2021', '-Copt-level=1', '-Coverflow-checks=on', '-Cdebuginfo=0', '--cap-lints=allow']
+# Of the processor, not of the clock, for a run that takes tenths of one: what else runs does not matter.
+MOST_SECONDS = 5
 STACK_BYTES = 1 << 28
 
 
@@ -70,17 +72,27 @@ def read_crates(root):
 
 
 def write(path, text):
+    """Writes a file, unless it has this text."""
+    if os.path.exists(path) and read(path) == text:
+        return
     os.makedirs(os.path.dirname(path), exist_ok=True)
     with open(path, 'w', encoding='utf-8') as f:
         f.write(text)
 
 
-def compile_rust(place, name, source, below, kind='rlib'):
-    """Compiles one crate over those that it names, unless nothing has changed since it was compiled."""
+def is_newer(out, inputs):
+    times = [os.stat(path).st_mtime_ns for path in inputs + [os.path.abspath(__file__)]]
+    return os.path.exists(out) and max(times) < os.stat(out).st_mtime_ns
+
+
+def compile_rust(place, name, sources, below, kind='rlib'):
+    """Compiles one crate, whose first source names the others, unless it and those that it names are as they were."""
     out = os.path.join(place, name if kind == 'bin' else f'lib{name}.rlib')
-    externs = [word for crate in below for word in ('--extern', f'{crate}={place}/lib{crate}.rlib')]
-    options = ['--edition=2021', '-Copt-level=1', '-Coverflow-checks=on', '-Cdebuginfo=0', '--cap-lints=allow']
-    command = ['rustc', source, '--crate-name', name, '--crate-type', kind, '-L', place, '-o', out] + options + externs
+    libraries = {crate: os.path.join(place, f'lib{crate}.rlib') for crate in below}
+    if is_newer(out, sources + list(libraries.values())):
+        return
+    externs = [word for crate, path in libraries.items() for word in ('--extern', f'{crate}={path}')]
+    command = ['rustc', sources[0], '--crate-name', name, '--crate-type', kind, '-L', place, '-o', out] + OPTIONS + externs
     ran = subprocess.run(command, capture_output=True, text=True)
     if ran.returncode:
         raise SystemExit(f'rustc refuses the translation of {name}:\n{ran.stderr}')
@@ -90,21 +102,27 @@ def is_program(crate):
     return 'src/main.rt' in crate.texts
 
 
+def compile_crate(place, crate):
+    """Translates and compiles one crate of the repository."""
+    sources = translate(crate.texts, crate.numbered, crate.constants, crate.helpers)
+    paths = {file: os.path.join(place, crate.name, file) for file in sources}
+    for file, text in sources.items():
+        write(paths[file], text)
+    first = paths['src/main.rs' if is_program(crate) else 'src/lib.rs']
+    compile_rust(place, crate.name, [first] + list(paths.values()), list(KIT) + crate.below)
+
+
 def build(root, crates):
     """Compiles all crates and the program that runs their cases and witnesses; gives its path."""
-    place = os.path.join(os.path.abspath(root), 'target', 'wrong-code')
+    place, run_source = os.path.join(root, 'target/wrong-code'), os.path.join(root, 'target/wrong-code/run.rs')
     os.makedirs(place, exist_ok=True)
     for name in KIT:
-        compile_rust(place, name, os.path.join(RUST, name + '.rs'), [])
+        compile_rust(place, name, [os.path.join(RUST, name + '.rs')], [])
     for crate in crates.values():
-        sources = translate(crate.texts, crate.numbered, crate.constants, crate.helpers)
-        folder = os.path.join(place, crate.name)
-        for file, text in sources.items():
-            write(os.path.join(folder, file), text)
-        start = 'src/main.rs' if is_program(crate) else 'src/lib.rs'
-        compile_rust(place, crate.name, os.path.join(folder, start), list(KIT) + crate.below)
-    write(os.path.join(place, 'run.rs'), program_text(os.path.abspath(root), crates))
-    compile_rust(place, 'run', os.path.join(place, 'run.rs'), ['io'] + list(crates), 'bin')
+        compile_crate(place, crate)
+    write(run_source, program_text(root, crates))
+    files = [path for crate in crates.values() if is_program(crate) for path in case_files(root, crate) if path]
+    compile_rust(place, 'run', [run_source] + files, ['io'] + list(crates), 'bin')
     return os.path.join(place, 'run')
 
 
@@ -131,10 +149,15 @@ fn main() {{
 '''
 
 
+def case_files(root, crate):
+    """The files stdin and stdout of a program, '' for one that it does not have."""
+    paths = [os.path.join(root, 'crates', crate.name, file) for file in ('stdin', 'stdout')]
+    return [path if os.path.exists(path) else '' for path in paths]
+
+
 def case_arm(root, crate):
     """The arm that runs a program, with its files stdin and stdout."""
-    paths = [os.path.join(root, 'crates', crate.name, file) for file in ('stdin', 'stdout')]
-    given, expected = (f'include_bytes!({path!r})'.replace("'", '"') if os.path.exists(path) else 'b""' for path in paths)
+    given, expected = (f'include_bytes!("{path}")' if path else 'b""' for path in case_files(root, crate))
     return f'        "{crate.name}" => {{ io::begin({given}, {expected}); {crate.name}::main(); io::end(); true }}\n'
 
 
@@ -147,11 +170,9 @@ def witness_arms(crate):
 def run(program, number, words):
     """How the program ends: '' where all is as it must be."""
     environment = dict(os.environ, WRONG_LINE=str(number), RUST_BACKTRACE='0')
-    try:
-        ran = subprocess.run([program] + words, env=environment, capture_output=True, timeout=MOST_SECONDS)
-    except subprocess.TimeoutExpired:
-        return 'does not end'
-    return {0: '', 1: 'differs', 101: 'panics'}.get(ran.returncode, 'is aborted')
+    limited = ['bash', '-c', f'ulimit -t {MOST_SECONDS}; exec "$@"', 'bash', program] + words
+    ran = subprocess.run(limited, env=environment, capture_output=True)
+    return {0: '', 1: 'differs', 101: 'panics'}.get(ran.returncode, 'does not end')
 
 
 def witness_problem(program, number, words):
@@ -167,21 +188,22 @@ def witness_problem(program, number, words):
 def show(program, cases, number, line):
     """Runs one wrong line: its witnesses, and where it has none the programs."""
     words = [f'witness_{number}_{at}' for at in range(len(witnesses_of(line)))]
-    problem = witness_problem(program, number, words)
-    if problem or run(program, number, cases):
-        return Shown('' if problem else 'case', problem)
-    return Shown('witness' if words else '')
+    if words:
+        problem = witness_problem(program, number, words)
+        return Shown('' if problem else 'witness', problem)
+    return Shown('case' if run(program, number, cases) else '')
 
 
 def show_all(root):
     """How each wrong line of code is shown to be wrong, by its key, and the processor seconds that it took."""
+    root = os.path.abspath(root)
     crates, numbers = read_crates(root)
     program = build(root, crates)
     cases = [crate.name for crate in crates.values() if is_program(crate)]
     for name in cases:
         ends = run(program, 0, [name])
         if ends:
-            raise SystemExit(f'the translation of {name} {ends} where it should write its file stdout')
+            raise SystemExit(f'the translation of {name} {ends}, where it should write its file stdout')
     lines = {number: line for crate in crates.values() for number, line in crate.numbered}
     with concurrent.futures.ThreadPoolExecutor(2) as pool:
         shown = dict(zip(lines, pool.map(lambda number: show(program, cases, number, lines[number]), lines)))
