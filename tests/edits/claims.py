@@ -34,13 +34,11 @@ def blocks(text):
     """Each line of a file from its first word on, with the lines behind it that stand further in."""
     lines = [line for line in COMMENT.sub('', text).split('\n') if line.strip()]
     depths = [len(line) - len(line.lstrip()) for line in lines]
-    ends = len(lines) * [len(lines)]
-    open_lines = []
+    found = []
     for at, depth in enumerate(depths):
-        while open_lines and depth <= depths[open_lines[-1]]:
-            ends[open_lines.pop()] = at
-        open_lines.append(at)
-    return ['\n'.join(lines[at:end]).lstrip() for at, end in enumerate(ends)]
+        end = next((k for k in range(at + 1, len(lines)) if depths[k] <= depth), len(lines))
+        found.append('\n'.join(lines[at:end]).lstrip())
+    return found
 
 
 def declarations(text):

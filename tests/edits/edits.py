@@ -1,4 +1,4 @@
-"""Must-fail edits: their pairs of old and new text, the wrong lines that these make, and the code that they stand in."""
+"""Must-fail edits: their pairs of old and new text, the wrong lines that these make, and the code they stand in."""
 import collections
 import dataclasses
 import os

@@ -18,7 +18,8 @@ ERROR = re.compile(r'(?:\S*/)?(?:proofs|specs)/(\S+\.antt):\d+:\d+: error: `([^`
 
 @dataclasses.dataclass
 class Log:
-    """The functions that are not proved, and those that are; and what fails: facts by function, declarations by file."""
+    """The functions that are not proved, those that are, and what fails: facts by function, declarations by file. A
+    misfit is a function or file whose proof does not fit the shape."""
     refused: bool
     unproved: set
     proved: set

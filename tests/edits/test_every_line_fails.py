@@ -281,7 +281,8 @@ class EveryLineFails(unittest.TestCase):
         self.assert_told([told], all_wrong=without_fails(ALL_WRONG))
 
     def test_a_fact_that_does_not_fail(self):
-        self.assert_told(['most does not fail by returns-2'], all_wrong=ALL_WRONG.replace('fails: most', 'fails: most:returns-2'))
+        other = ALL_WRONG.replace('fails: most', 'fails: most:returns-2')
+        self.assert_told(['most does not fail by returns-2'], all_wrong=other)
         self.assert_told(['first is proved all the same'], definition=DEFINITION.replace(': tell', ': first'))
 
     def test_a_fact_of_another_line(self):
@@ -344,7 +345,8 @@ class EveryLineFails(unittest.TestCase):
         self.write('crates/say/src/main.rt', PROGRAM_CODE)
         self.write('crates/say/stdout', '9\n')
         _, lines = self.judge(all_wrong=without('witness: most', ALL_WRONG))
-        self.assertIn('small: 1 edits, 4 wrong lines seen to fail (1 by a case, 3 by a witness, 0 in definitions)', lines)
+        counts = '1 edits, 4 wrong lines seen to fail (1 by a case, 3 by a witness, 0 in definitions)'
+        self.assertIn('small: ' + counts, lines)
         self.write('crates/say/stdout', '8\n')
         ran = subprocess.run([sys.executable, PROGRAM, self.root], capture_output=True, text=True)
         self.assertIn('the translation of say differs, where it should write its file stdout', ran.stderr)
@@ -383,7 +385,7 @@ class EveryLineFails(unittest.TestCase):
         told = 'names Laws.antt:told-one, which is no declaration of Lemmas.antt'
         self.assert_told([told], adapted=ADAPTED.replace('Lemmas.antt:told-first', 'Laws.antt:told-one'))
         told = 'Laws.antt:first-told fails too, so not a law alone refuses'
-        self.assert_told([told], adapted=ADAPTED.replace('Laws.antt:told-one Laws.antt:first-told', 'Laws.antt:told-one'))
+        self.assert_told([told], adapted=ADAPTED.replace(' Laws.antt:first-told', ''))
 
     def test_an_adapted_proof_that_fails(self):
         path = os.path.join(self.root, 'target/must-fail/small/adapted/.log')

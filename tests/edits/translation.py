@@ -47,7 +47,7 @@ def with_pairs(text, pairs):
     """The text with the new texts of a wrong line's pairs."""
     for pair in pairs:
         if text.count(pair.old) != 1:
-            raise ValueError(f'{pair.file}, line {pair.line} of the edit: its old text stands {text.count(pair.old)} times')
+            raise ValueError(f'{pair.file}, line {pair.line} of the edit: its old text is not once in its function')
         text = text.replace(pair.old, pair.new)
     return text
 
@@ -58,19 +58,23 @@ def chosen(right, wrong):
     return '{ match wrong::line() {\n' + arms + f'_ => {right}\n' + '} }'
 
 
+def head_and_body(text):
+    """A function's signature and its body, without its contracts."""
+    head, brace, body = without_contracts(text).partition('{')
+    return head, brace + body
+
+
 def with_bodies(text, lines):
     """A function with its own body and those of its wrong lines, each with its number."""
-    head, brace, body = without_contracts(text).partition('{')
-    bodies = [(number, ''.join(without_contracts(with_pairs(text, line.pairs)).partition('{')[1:])) for number, line in lines]
-    return head + chosen(brace + body, bodies)
+    head, body = head_and_body(text)
+    return head + chosen(body, [(number, head_and_body(with_pairs(text, line.pairs))[1]) for number, line in lines])
 
 
 def as_function(declaration, lines):
     """A constant as a function that gives its own value or that of a wrong line."""
     name, of, value = CONSTANT.search(declaration).groups()
     values = [(number, CONSTANT.search(with_pairs(declaration, line.pairs)).group(3)) for number, line in lines]
-    indent = re.match(r'[ \t]*', declaration).group()
-    return f'{indent}pub fn {name}() -> {of} ' + chosen('{' + value + '}', [(number, '{' + v + '}') for number, v in values])
+    return f'pub fn {name}() -> {of} ' + chosen(f'{{ {value} }}', [(number, f'{{ {v} }}') for number, v in values])
 
 
 def place_of(texts, pair):
@@ -83,13 +87,18 @@ def place_of(texts, pair):
     return spans[0]
 
 
-def with_wrong_lines(texts, file, numbered):
-    """A source file with the bodies of its wrong lines."""
+def by_place(texts, numbered):
+    """Wrong lines by where their function or constant stands."""
     groups = collections.defaultdict(list)
     for number, line in numbered:
         groups[place_of(texts, line.pairs[0])].append((number, line))
+    return groups
+
+
+def with_wrong_lines(texts, file, numbered):
+    """A source file with the bodies of its wrong lines."""
     text = texts[file]
-    for (start, stop), lines in sorted(groups.items(), reverse=True):
+    for (start, stop), lines in sorted(by_place(texts, numbered).items(), reverse=True):
         make = with_bodies if lines[0][1].pairs[0].function else as_function
         text = text[:start] + make(text[start:stop], lines) + text[stop:]
     return text
@@ -102,8 +111,8 @@ def constants_of(texts):
 
 def wrong_constants(texts, numbered):
     """The names of the constants that have wrong lines."""
-    places = [(line.pairs[0].file, place_of(texts, line.pairs[0])) for _, line in numbered if not line.pairs[0].function]
-    return {CONSTANT.search(texts[file][start:stop]).group(1) for file, (start, stop) in places}
+    pairs = [line.pairs[0] for _, line in numbered if not line.pairs[0].function]
+    return {CONSTANT.search(texts[pair.file][slice(*place_of(texts, pair))]).group(1) for pair in pairs}
 
 
 def with_calls(text, constants):
@@ -115,16 +124,21 @@ def with_calls(text, constants):
     return '\n'.join(line if re.match(r'(?:pub )?use ', line) else name.sub(r'\1()', line) for line in lines)
 
 
+def witnesses_of(line):
+    return [expression for pair in line.pairs for expression in pair.witnesses]
+
+
+def witness_names(number, line):
+    """The names of the functions of a wrong line's witnesses."""
+    return [f'witness_{number}_{at}' for at in range(len(witnesses_of(line)))]
+
+
 def with_witnesses(text, numbered):
     """The text with a function for each witness of its wrong lines."""
     for number, line in numbered:
-        for at, expression in enumerate(witnesses_of(line)):
-            text += f'\npub fn witness_{number}_{at}() -> bool {{\n    {expression}\n}}\n'
+        named = zip(witness_names(number, line), witnesses_of(line))
+        text += ''.join(f'\npub fn {name}() -> bool {{\n    {expression}\n}}\n' for name, expression in named)
     return text
-
-
-def witnesses_of(line):
-    return [expression for pair in line.pairs for expression in pair.witnesses]
 
 
 def translate(texts, numbered, constants, helpers):

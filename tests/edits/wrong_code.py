@@ -1,5 +1,5 @@
-"""Is a wrong line of code wrong? The crates are translated to Rust once, with all their wrong lines, and run with one of
-them at a time:
+"""Is a wrong line of code wrong? The crates are translated to Rust once, with all their wrong lines, and run with one
+of them at a time:
 
 - A case shows it where a program of the repository writes something else than its file stdout, panics or does not end.
 - A witness shows it: a line `witness: EXPRESSION` behind the pair, of type bool, true of the right code and not true of
@@ -15,7 +15,7 @@ import resource
 import subprocess
 
 from edits import crates_below, edits_of, files_of, make_edit, module_of, read, wrong_lines
-from translation import constants_of, translate, witnesses_of, wrong_constants
+from translation import constants_of, translate, witness_names, wrong_constants
 
 RUST = os.path.join(os.path.dirname(os.path.abspath(__file__)), 'rust')
 KIT = ('wrong', 'num', 'bytes', 'io')
@@ -23,6 +23,8 @@ OPTIONS = ['--edition=2021', '-Copt-level=1', '-Coverflow-checks=on', '-Cdebugin
 # Of the processor, not of the clock, for a run that takes tenths of one: what else runs does not matter.
 MOST_SECONDS = 3
 STACK_BYTES = 1 << 28
+# What the end of a run says of a witness.
+SAYS = {'': 'is true', 'differs': 'is false'}
 
 
 @dataclasses.dataclass
@@ -51,8 +53,9 @@ def code_lines(folder, name):
     """The wrong lines of code of an edit that can be put in, with their keys."""
     edit = make_edit(folder, os.path.join(folder, 'must-fail', name))
     lines = [] if edit.problem else wrong_lines(edit)
-    fits = [line for line in lines if not any(pair.problem for pair in line.pairs)]
-    return {key_of(os.path.basename(folder), edit, line): line for line in fits if line.pairs[0].file.startswith('src/')}
+    code = [line for line in lines if line.pairs[0].file.startswith('src/')]
+    fits = [line for line in code if not any(pair.problem for pair in line.pairs)]
+    return {key_of(os.path.basename(folder), edit, line): line for line in fits}
 
 
 def read_crates(root):
@@ -92,14 +95,21 @@ def compile_rust(place, name, sources, below, kind='rlib'):
     if is_newer(out, sources + list(libraries.values())):
         return
     externs = [word for crate, path in libraries.items() for word in ('--extern', f'{crate}={path}')]
-    command = ['rustc', sources[0], '--crate-name', name, '--crate-type', kind, '-L', place, '-o', out] + OPTIONS + externs
-    ran = subprocess.run(command, capture_output=True, text=True)
+    what = [sources[0], '--crate-name', name, '--crate-type', kind, '-L', place, '-o', out]
+    ran = subprocess.run(['rustc'] + what + OPTIONS + externs, capture_output=True, text=True)
     if ran.returncode:
         raise SystemExit(f'rustc refuses the translation of {name}:\n{ran.stderr}')
 
 
 def is_program(crate):
     return 'src/main.rt' in crate.texts
+
+
+def compile_kit(place):
+    """Compiles what stands for the kit's libraries."""
+    os.makedirs(place, exist_ok=True)
+    for name in KIT:
+        compile_rust(place, name, [os.path.join(RUST, name + '.rs')], [])
 
 
 def compile_crate(place, crate):
@@ -115,9 +125,7 @@ def compile_crate(place, crate):
 def build(root, crates):
     """Compiles all crates and the program that runs their cases and witnesses; gives its path."""
     place, run_source = os.path.join(root, 'target/wrong-code'), os.path.join(root, 'target/wrong-code/run.rs')
-    os.makedirs(place, exist_ok=True)
-    for name in KIT:
-        compile_rust(place, name, [os.path.join(RUST, name + '.rs')], [])
+    compile_kit(place)
     for crate in crates.values():
         compile_crate(place, crate)
     write(run_source, program_text(root, crates))
@@ -163,8 +171,9 @@ def case_arm(root, crate):
 
 def witness_arms(crate):
     """An arm for each witness of a crate's wrong lines."""
-    names = [(f'witness_{number}_{at}', line) for number, line in crate.numbered for at in range(len(witnesses_of(line)))]
-    return ''.join(f'        "{n}" => {crate.name}::{module_of(line.pairs[0].file)}{n}(),\n' for n, line in names)
+    modules = [(module_of(line.pairs[0].file), witness_names(number, line)) for number, line in crate.numbered]
+    places = [(f'{crate.name}::{module}{word}', word) for module, words in modules for word in words]
+    return ''.join(f'        "{word}" => {place}(),\n' for place, word in places)
 
 
 def run(program, number, words):
@@ -178,16 +187,15 @@ def run(program, number, words):
 def witness_problem(program, number, words):
     """What is wrong with the witnesses of a wrong line, or ''."""
     for word in words:
-        right, wrong = run(program, 0, [word]) or 'is true', run(program, number, [word]) or 'is true'
+        right, wrong = (SAYS.get(ends, ends) for ends in (run(program, 0, [word]), run(program, number, [word])))
         if right != 'is true' or wrong == 'is true':
-            says = {'differs': 'is false'}
-            return f'its witness {says.get(right, right)} of the right code, and {says.get(wrong, wrong)} of the wrong one'
+            return f'its witness {right} of the right code, and {wrong} of the wrong one'
     return ''
 
 
 def show(program, cases, number, line):
     """Runs one wrong line: its witnesses, and where it has none the programs."""
-    words = [f'witness_{number}_{at}' for at in range(len(witnesses_of(line)))]
+    words = witness_names(number, line)
     if words:
         problem = witness_problem(program, number, words)
         return Shown('' if problem else 'witness', problem)
