@@ -159,11 +159,15 @@ new: return 3;
 proved: tell
 '''
 
-# A lemma is adapted besides, so that only the laws refuse them.
+# A lemma is adapted besides, and the proof of the function, so that only the laws refuse them.
 ADAPTED = BOTH_WRONG.replace('told-one', 'told-one Laws.antt:first-told') + '''file: proofs/Lemmas.antt
 old: pub told-first : told true ≡ 1
 new: pub told-first : told true ≡ 3
 proved: Lemmas.antt:told-first
+file: proofs/tell/Proof.antt
+old: returns c = rw (c .if1 .taken) refl
+new: returns c = rw (c .if1 .taken) (refl)
+proved: tell/Proof.antt:returns
 '''
 
 # A program that the small repository has in some tests, and what it writes.
@@ -377,6 +381,7 @@ class EveryLineFails(unittest.TestCase):
         self.assert_told(['it changes proofs'], adapted=without('proved:', alone))
         self.assert_told(['has no wrong definition beside it'], adapted=alone)
         self.assert_told(['it changes proofs'], adapted=without('proved: Lemmas', ADAPTED))
+        self.assert_told(['it changes proofs'], adapted=without('proved: tell/', ADAPTED))
 
     def test_an_adapted_proof(self):
         self.assert_good(adapted=ADAPTED)
@@ -391,8 +396,9 @@ class EveryLineFails(unittest.TestCase):
         path = os.path.join(self.root, 'target/must-fail/small/adapted/.log')
         with open(path, encoding='utf-8') as f:
             log = f.read()
-        self.write(path, 'proofs/Lemmas.antt:6:1: error: `told-first`: 3 and 4 differ\n' + log)
-        self.assert_told(['the adapted proof Lemmas.antt fails'], adapted=ADAPTED)
+        for file, name in [('Lemmas.antt', 'told-first'), ('tell/Proof.antt', 'returns')]:
+            self.write(path, f'proofs/{file}:6:1: error: `{name}`: 3 and 4 differ\n' + log)
+            self.assert_told([f'the adapted proof {file} fails'], adapted=ADAPTED)
         self.write(path, log)
 
 
