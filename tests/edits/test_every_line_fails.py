@@ -358,11 +358,11 @@ class EveryLineFails(unittest.TestCase):
         self.write('crates.txt', 'small:\n')
 
     def test_a_witness_that_shows_nothing(self):
-        told = 'its witness is false of the right code, and is true of the wrong one'
+        told = 'with the right code its witness is false, with the wrong one it is true'
         self.assert_told([told], all_wrong=ALL_WRONG.replace('most() == 9', 'most() == 8'))
-        told = 'its witness is true of the right code, and is true of the wrong one'
+        told = 'with the right code its witness is true, with the wrong one it is true'
         self.assert_told([told], all_wrong=ALL_WRONG.replace('most() == 9', 'most() < 10'))
-        told = 'its witness panics of the right code, and is true of the wrong one'
+        told = 'with the right code its witness panics, with the wrong one it is true'
         self.assert_told([told], all_wrong=ALL_WRONG.replace('most() == 9', '7 / (9 - most()) == 7'))
         self.assert_told(['a `witness:` line stands behind no pair'], all_wrong='witness: true\n' + ALL_WRONG)
 

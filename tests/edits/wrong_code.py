@@ -12,6 +12,7 @@ import concurrent.futures
 import dataclasses
 import os
 import resource
+import signal
 import subprocess
 
 from edits import crates_below, edits_of, files_of, make_edit, module_of, read, wrong_lines
@@ -23,7 +24,8 @@ OPTIONS = ['--edition=2021', '-Copt-level=1', '-Coverflow-checks=on', '-Cdebugin
 # Of the processor, not of the clock, for a run that takes tenths of one: what else runs does not matter.
 MOST_SECONDS = 3
 STACK_BYTES = 1 << 28
-# What the end of a run says of a witness.
+# What the status of a run says, and what that says of a witness.
+ENDS = {0: '', 1: 'differs', 101: 'panics', -signal.SIGKILL: 'does not end', -signal.SIGXCPU: 'does not end'}
 SAYS = {'': 'is true', 'differs': 'is false'}
 
 
@@ -181,7 +183,7 @@ def run(program, number, words):
     environment = dict(os.environ, WRONG_LINE=str(number), RUST_BACKTRACE='0')
     limited = ['bash', '-c', f'ulimit -t {MOST_SECONDS}; exec "$@"', 'bash', program] + words
     ran = subprocess.run(limited, env=environment, capture_output=True)
-    return {0: '', 1: 'differs', 101: 'panics'}.get(ran.returncode, 'does not end')
+    return ENDS.get(ran.returncode, f'ends with status {ran.returncode}')
 
 
 def witness_problem(program, number, words):
@@ -189,7 +191,7 @@ def witness_problem(program, number, words):
     for word in words:
         right, wrong = (SAYS.get(ends, ends) for ends in (run(program, 0, [word]), run(program, number, [word])))
         if right != 'is true' or wrong == 'is true':
-            return f'its witness {right} of the right code, and {wrong} of the wrong one'
+            return f'with the right code its witness {right}, with the wrong one it {wrong}'
     return ''
 
 
