@@ -1,5 +1,5 @@
 #!/usr/bin/env python3
-"""The test of every_line_fails, on logs that rt leaves of a small crate with four edits."""
+"""The test of every_line_fails, on logs that rt leaves of a small crate with five edits."""
 import os
 import subprocess
 import sys
@@ -42,11 +42,19 @@ pub(crate) fn tell(flag: bool) -> usize
 }
 '''
 
-SPECS = '''use mathlib.Core.Bool.{Bool, cond}
+SPECS = '''use mathlib.Core.Path.{_≡_}
+use mathlib.Core.Bool.{Bool, true, false, cond}
 use Prim.Native.Nat.{ℕ}
 
 unfoldable pub told : Bool → ℕ
 told flag = cond flag 1 2
+
+pub record ToldLaws : Type 0 where
+  pub one : told true ≡ 1
+  pub two : told false ≡ 2
+
+abbrev pub FirstTold : (n : ℕ) → Type 0
+FirstTold n = told true ≡ n
 '''
 
 PROOF = '''use mathlib.Core.Path.{refl}
@@ -67,12 +75,33 @@ tell-spec = tie.close (tie.spec returns returns-2)
 '''
 
 LAWS = '''use mathlib.Core.Path.{_≡_, refl}
+use mathlib.Core.Bool.{true, false}
+use Rattle.small.specs.Numbers.{told, ToldLaws, FirstTold}
+
+told-one : told true ≡ 1
+unfolding told
+told-one = refl
+
+told-two : told false ≡ 2
+unfolding told
+told-two = refl
+
+pub told-laws : ToldLaws
+told-laws = record { one = told-one; two = told-two }
+
+pub first-told : FirstTold 1
+unfolding told
+first-told = refl
+'''
+
+# A lemma that no law rests on.
+LEMMAS = '''use mathlib.Core.Path.{_≡_, refl}
 use mathlib.Core.Bool.{true}
 use Rattle.small.specs.Numbers.{told}
 
-pub told-one : told true ≡ 1
+pub told-first : told true ≡ 1
 unfolding told
-told-one = refl
+told-first = refl
 '''
 
 # A constant, a number, an argument, and two numbers that change places: all are wrong.
@@ -80,16 +109,20 @@ ALL_WRONG = '''file: src/lib.rt
 old: const MOST: usize = 9;
 new: const MOST: usize = 8;
 fails: most
+witness: most() == 9
 old:     7
 new:     8
+witness: seven() == crate::witness::SEVEN
 old:     a
 new:     b
+witness: first(1, 2) == 1
 old: return 1;
 new: return 90;
 old:     2
 new:     1
 old: return 90;
 new: return 2;
+witness: tell(true) == 1
 '''
 
 # The first pair is harmless, the others are wrong, the last two in one function.
@@ -98,12 +131,15 @@ old: let _other = b;
 new: let _other = a;
 old:     7
 new:     8
+witness: seven() == 7
 old: return 1;
 new: return 3;
 fails: tell:returns
+witness: tell(true) == 1
 old:     2
 new:     4
 fails: tell:returns-2
+witness: tell(false) == 2
 '''
 
 DEFINITION = '''file: specs/Numbers.antt
@@ -123,19 +159,44 @@ new: return 3;
 proved: tell
 '''
 
+# A lemma is adapted besides, and the proof of the function, so that only the laws refuse them.
+ADAPTED = BOTH_WRONG.replace('told-one', 'told-one Laws.antt:first-told') + '''file: proofs/Lemmas.antt
+old: pub told-first : told true ≡ 1
+new: pub told-first : told true ≡ 3
+proved: Lemmas.antt:told-first
+file: proofs/tell/Proof.antt
+old: returns c = rw (c .if1 .taken) refl
+new: returns c = rw (c .if1 .taken) (refl)
+proved: tell/Proof.antt:returns
+'''
+
+# A program that the small repository has in some tests, and what it writes.
+PROGRAM_CODE = '''fn main() {
+    io::print_decimal(1, small::most() as u64);
+    io::write_all(1, b"\\n");
+}
+'''
+
 FILES = {
     'crates.txt': 'small:\n',
     'crates/small/src/lib.rt': CODE,
     'crates/small/specs/Lib.antt': 'pub mod Numbers\n',
     'crates/small/specs/Numbers.antt': SPECS,
     'crates/small/proofs/tell/Proof.antt': PROOF,
-    'crates/small/proofs/Lib.antt': 'pub mod Laws\n',
+    'crates/small/proofs/Lib.antt': 'pub mod Laws\npub mod Lemmas\n',
     'crates/small/proofs/Laws.antt': LAWS,
+    'crates/small/proofs/Lemmas.antt': LEMMAS,
+    'tests/edits/witness/small.rs': 'pub const SEVEN: usize = 7;\n',
 }
 
 
+def without(word, edit):
+    """The edit without its lines of this kind."""
+    return ''.join(line for line in edit.splitlines(True) if not line.startswith(word))
+
+
 def without_fails(edit):
-    return ''.join(line for line in edit.splitlines(True) if not line.startswith('fails:'))
+    return without('fails:', edit)
 
 
 class EveryLineFails(unittest.TestCase):
@@ -145,7 +206,8 @@ class EveryLineFails(unittest.TestCase):
         cls.root = cls.folder.name
         for path, text in FILES.items():
             cls.write(path, text)
-        cls.put_edits(all_wrong=ALL_WRONG, one_harmless=ONE_HARMLESS, definition=DEFINITION, both_wrong=BOTH_WRONG)
+        edits = dict(all_wrong=ALL_WRONG, one_harmless=ONE_HARMLESS, definition=DEFINITION, both_wrong=BOTH_WRONG)
+        cls.put_edits(adapted=ADAPTED, **edits)
         cls.rt = subprocess.run(['rt', 'must-fail'], cwd=cls.root, capture_output=True, text=True)
 
     @classmethod
@@ -172,7 +234,7 @@ class EveryLineFails(unittest.TestCase):
         self.put_edits(**edits)
         ran = subprocess.run([sys.executable, PROGRAM, self.root], capture_output=True, text=True)
         self.assertEqual(ran.stderr, '')
-        return ran.returncode, ran.stdout.splitlines()
+        return ran.returncode, [line for line in ran.stdout.splitlines() if 'processor seconds' not in line]
 
     def assert_told(self, expected, **edits):
         """Each expected text stands in a line of details of its own, and there are no other ones."""
@@ -183,31 +245,38 @@ class EveryLineFails(unittest.TestCase):
         for text, line in zip(expected, details):
             self.assertIn(text, line)
 
+    def assert_good(self, **edits):
+        status, lines = self.judge(**edits)
+        self.assertEqual(status, 0, lines)
+        self.assertEqual([line for line in lines if line.startswith('  ')], [])
+
     def test_rt_is_content(self):
         self.assertEqual(self.rt.returncode, 0, self.rt.stdout)
-        self.assertIn('4 must-fail edits refused', self.rt.stdout)
+        self.assertIn('5 must-fail edits refused', self.rt.stdout)
 
     def test_all_wrong(self):
+        counts = '2 edits, 5 wrong lines seen to fail (0 by a case, 4 by a witness, 1 in definitions)'
         self.assertEqual(self.judge(all_wrong=ALL_WRONG, definition=DEFINITION), (0, [
-            'small: 2 edits, 5 wrong lines seen to fail',
-            '2 edits, 5 wrong lines seen to fail, 0 not',
+            'small: ' + counts,
+            'the proof no longer fits: 0',
+            counts + '; 0 not',
         ]))
 
     def test_code_that_follows_a_wrong_definition(self):
-        self.assertEqual(self.judge(both_wrong=BOTH_WRONG), (0, [
-            'small: 1 edits, 1 wrong lines seen to fail',
-            '1 edits, 1 wrong lines seen to fail, 0 not',
-        ]))
+        self.assert_good(both_wrong=BOTH_WRONG)
         self.assert_told(['it changes code and definitions'], both_wrong=BOTH_WRONG.replace('proved: tell\n', ''))
         self.assert_told(['names another function'], both_wrong=BOTH_WRONG.replace('proved: tell', 'proved: first'))
         self.assert_told(['none is not proved'], both_wrong=BOTH_WRONG.replace('proved: tell', 'proved: tell none'))
-        self.assert_told(['no code beside'], definition=DEFINITION.replace('fails: tell', 'proved: tell'))
+        self.assert_told(['no wrong definition'], definition=DEFINITION.replace('fails: tell', 'proved: tell'))
+        self.assert_told(['behind a definition'], both_wrong=BOTH_WRONG + DEFINITION.replace('fails', 'proved'))
 
     def test_a_harmless_line(self):
+        counts = '1 edits, 3 wrong lines seen to fail (0 by a case, 3 by a witness, 0 in definitions); 1 not'
         self.assertEqual(self.judge(one_harmless=ONE_HARMLESS), (1, [
-            'small: 1 edits, 3 wrong lines seen to fail, 1 not',
+            'small: ' + counts,
             '  one_harmless: line 3: first is proved all the same: let _other = a;',
-            '1 edits, 3 wrong lines seen to fail, 1 not',
+            'the proof no longer fits: 0',
+            counts,
         ]))
 
     def test_a_definition_or_a_constant_without_its_fact(self):
@@ -216,12 +285,13 @@ class EveryLineFails(unittest.TestCase):
         self.assert_told([told], all_wrong=without_fails(ALL_WRONG))
 
     def test_a_fact_that_does_not_fail(self):
-        self.assert_told(['most does not fail by returns-2'], all_wrong=ALL_WRONG.replace(': most', ': most:returns-2'))
+        other = ALL_WRONG.replace('fails: most', 'fails: most:returns-2')
+        self.assert_told(['most does not fail by returns-2'], all_wrong=other)
         self.assert_told(['first is proved all the same'], definition=DEFINITION.replace(': tell', ': first'))
 
     def test_a_fact_of_another_line(self):
         told = ['rests on the same fact of seven', 'rests on the same fact of seven']
-        self.assert_told(told, all_wrong=ALL_WRONG.replace(': most', ': seven:returns'))
+        self.assert_told(told, all_wrong=ALL_WRONG.replace('fails: most', 'fails: seven:returns'))
 
     def test_two_wrong_lines_in_a_function(self):
         told = ['first is proved', 'tell is reached by', 'tell is reached by']
@@ -263,6 +333,73 @@ class EveryLineFails(unittest.TestCase):
         self.assert_told(['it has no pair'], all_wrong='# nothing\n')
         told = ['its old text stands 0 times', 'another pair', 'another pair', 'another pair']
         self.assert_told(told, one_harmless=ONE_HARMLESS.replace('_other = b', '_other = c'))
+
+    def test_code_of_which_nothing_shows_that_it_is_wrong(self):
+        counts = '2 edits, 4 wrong lines seen to fail (0 by a case, 3 by a witness, 1 in definitions)'
+        unshown = ALL_WRONG.replace('witness: first(1, 2) == 1\n', '')
+        self.assertEqual(self.judge(all_wrong=unshown, definition=DEFINITION), (0, [
+            'small: ' + counts + '; the proof no longer fits: 1',
+            '  all_wrong: line 10: the proof no longer fits: b',
+            'the proof no longer fits: 1',
+            counts + '; 0 not',
+        ]))
+
+    def test_code_that_a_case_shows(self):
+        self.write('crates.txt', 'small:\nsay: small io libc\n')
+        self.write('crates/say/src/main.rt', PROGRAM_CODE)
+        self.write('crates/say/stdout', '9\n')
+        _, lines = self.judge(all_wrong=without('witness: most', ALL_WRONG))
+        counts = '1 edits, 4 wrong lines seen to fail (1 by a case, 3 by a witness, 0 in definitions)'
+        self.assertIn('small: ' + counts, lines)
+        self.write('crates/say/stdout', '8\n')
+        ran = subprocess.run([sys.executable, PROGRAM, self.root], capture_output=True, text=True)
+        self.assertIn('the translation of say differs, where it should write its file stdout', ran.stderr)
+        self.assertEqual(ran.returncode, 1)
+        self.write('crates.txt', 'small:\n')
+
+    def test_a_witness_that_shows_nothing(self):
+        told = 'with the right code its witness is false, with the wrong one it is true'
+        self.assert_told([told], all_wrong=ALL_WRONG.replace('most() == 9', 'most() == 8'))
+        told = 'with the right code its witness is true, with the wrong one it is true'
+        self.assert_told([told], all_wrong=ALL_WRONG.replace('most() == 9', 'most() < 10'))
+        told = 'with the right code its witness panics, with the wrong one it is true'
+        self.assert_told([told], all_wrong=ALL_WRONG.replace('most() == 9', '7 / (9 - most()) == 7'))
+        self.assert_told(['a `witness:` line stands behind no pair'], all_wrong='witness: true\n' + ALL_WRONG)
+
+    def test_a_witness_of_wrong_code_that_panics_or_does_not_end(self):
+        self.assert_good(all_wrong=ALL_WRONG.replace('most() == 9', '7 / (most() - 8) == 7'))
+        self.assert_good(all_wrong=ALL_WRONG.replace('most() == 9', '{ while most() == 8 {} true }'))
+
+    def test_a_lemma(self):
+        told = 'Lemmas.antt:told-first is a lemma; name a field of a law record, a case or a contract'
+        self.assert_told([told], definition=DEFINITION.replace(': tell', ': Lemmas.antt:told-first'))
+        self.assert_good(definition=DEFINITION.replace(': tell', ': Laws.antt:told-one'))
+        self.assert_good(definition=DEFINITION.replace(': tell', ': Laws.antt:first-told'))
+
+    def test_a_changed_proof(self):
+        alone = ''.join(ADAPTED.partition('file: proofs/')[1:])
+        self.assert_told(['it changes proofs'], adapted=without('proved:', alone))
+        self.assert_told(['has no wrong definition beside it'], adapted=alone)
+        self.assert_told(['it changes proofs'], adapted=without('proved: Lemmas', ADAPTED))
+        self.assert_told(['it changes proofs'], adapted=without('proved: tell/', ADAPTED))
+
+    def test_an_adapted_proof(self):
+        self.assert_good(adapted=ADAPTED)
+        told = 'names Lemmas.antt:none, which is no declaration of Lemmas.antt'
+        self.assert_told([told], adapted=ADAPTED.replace('Lemmas.antt:told-first', 'Lemmas.antt:none'))
+        told = 'names Laws.antt:told-one, which is no declaration of Lemmas.antt'
+        self.assert_told([told], adapted=ADAPTED.replace('Lemmas.antt:told-first', 'Laws.antt:told-one'))
+        told = 'Laws.antt:first-told fails too, so not a law alone refuses'
+        self.assert_told([told], adapted=ADAPTED.replace(' Laws.antt:first-told', ''))
+
+    def test_an_adapted_proof_that_fails(self):
+        path = os.path.join(self.root, 'target/must-fail/small/adapted/.log')
+        with open(path, encoding='utf-8') as f:
+            log = f.read()
+        for file, name in [('Lemmas.antt', 'told-first'), ('tell/Proof.antt', 'returns')]:
+            self.write(path, f'proofs/{file}:6:1: error: `{name}`: 3 and 4 differ\n' + log)
+            self.assert_told([f'the adapted proof {file} fails'], adapted=ADAPTED)
+        self.write(path, log)
 
 
 if __name__ == '__main__':

@@ -4,3 +4,4 @@ pub mod Counting
 pub mod Lists
 pub mod Lowest
 pub mod Refusals
+pub mod Theorems

@@ -12,7 +12,7 @@ use Rattle.layout.specs.Windows.{windowOfRow, markOfSpot, oldSpot, moving, wind
 use Rattle.layout.specs.Live.{atNewSpot, liveSpot}
 use Rattle.layout.specs.Tally.{recordedBy, movedBlocks, liveSpotOf, growthsOf}
 use Rattle.layout.specs.Limits.{Limits, mostDisks}
-use Rattle.move_table.specs.Entries.{diskOfMark, entriesOfPair, entriesOfSum, entries, entryCount, marksOfSum, offset, hasMark, placeOf}
+use Rattle.move_table.specs.Entries.{diskOfMark, entriesOfPair, entriesOfSum, entries, entryCount, marksOfSum, offset, offsetFormula, hasMark, placeOf}
 use Rattle.move_table.specs.Tables.{IsMoveTable, diskByTable, spotByTable}
 use Rattle.move_table.specs.Cases.{underWay, Examples, Counterexamples}
 use Rattle.move_table.proofs.PlacesCode.{mark-true}
@@ -21,7 +21,7 @@ use Rattle.move_table.proofs.OnlyTable.{only-numbers-law}
 
 -- unfolded, it opens what the computations below share
 unfoldable opened : Unit {0}
-unfolding entries entriesOfSum entriesOfPair diskOfMark marksOfSum offset hasMark placeOf spotByTable diskByTable markOfSpot movesFrom moves newDisk partOf addedSpot addedDisk minusMod underWay moving markOf oldSpot spotOf spotAfter oldBlockSpot diskAfter oldCount addedCount earlier diskCount liveSpotOf growthsOf atNewSpot liveSpot movedBlocks recordedBy windowOf windowOfRow table joined sum
+unfolding entries entriesOfSum entriesOfPair diskOfMark marksOfSum offset offsetFormula hasMark placeOf spotByTable diskByTable markOfSpot movesFrom moves newDisk partOf addedSpot addedDisk minusMod underWay moving markOf oldSpot spotOf spotAfter oldBlockSpot diskAfter oldCount addedCount earlier diskCount liveSpotOf growthsOf atNewSpot liveSpot movedBlocks recordedBy windowOf windowOfRow table joined sum
 opened = tt
 
 pub examples-law : Examples
@@ -30,6 +30,7 @@ examples-law =
     record {
       first-place = refl;
       last-place = refl;
+      last-formula = refl;
       three-to-five-place = refl;
       three-to-five = refl;
       two-to-five-place = refl;
@@ -38,6 +39,7 @@ examples-law =
       its-number = refl;
       moves = refl;
       stays = refl;
+      stays-on-another = refl;
       moves-later = refl;
       added-later = refl;
       recorded-live = refl;

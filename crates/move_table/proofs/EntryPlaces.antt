@@ -29,12 +29,9 @@ length-entries : length entries ≡ sum marksOfSum (suc mostDisks)
 unfolding entries
 length-entries = length-joined-sum entriesOfSum (suc mostDisks) ∙ sum-ext _ _ (suc mostDisks) (λ k _. length-sum k)
 
-marks-computed : sum marksOfSum (suc mostDisks) ≡ entryCount
-unfolding sum marksOfSum
-marks-computed = refl
-
 pub size-law : length entries ≡ entryCount
-size-law = length-entries ∙ marks-computed
+unfolding sum marksOfSum
+size-law = length-entries
 
 -- ---- a mark's place
 

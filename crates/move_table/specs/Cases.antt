@@ -10,7 +10,7 @@ use Rattle.layout.specs.Windows.{markOf}
 use Rattle.layout.specs.Tally.{Tally, growing, liveSpotOf, growthsOf}
 use Rattle.layout.specs.Limits.{mostDisks}
 use Rattle.move_table.specs.declared.Place.the-variants.{At, NoMark}
-use Rattle.move_table.specs.Entries.{entriesOfPair, entriesOfSum, entries, offset, placeOf}
+use Rattle.move_table.specs.Entries.{entriesOfPair, entriesOfSum, entries, offset, offsetFormula, placeOf}
 use Rattle.move_table.specs.Tables.{IsMoveTable, spotByTable, AddressAgrees}
 
 -- c entries from a place on
@@ -28,6 +28,7 @@ pub record Examples : Type 0 where
   -- the first pair, 1 and 1, has one mark; the last, 15 and 1, has 15
   pub first-place : placeOf 1 1 0 ≡ At 0
   pub last-place : placeOf 15 1 14 ≡ At 3_059
+  pub last-formula : offsetFormula 15 1 14 ≡ 3_059
   -- from 3 disks to 5, document 01's example: six marks
   pub three-to-five-place : placeOf 3 2 0 ≡ At 25
   pub three-to-five : entriesFrom 25 6 ≡ 3 ∷ 3 ∷ 4 ∷ 3 ∷ 4 ∷ 4 ∷ []
@@ -37,10 +38,11 @@ pub record Examples : Type 0 where
   -- `moving-block`: block 4 of that growth is on disk 1 in row 1, and moves to disk 4
   pub its-mark : markOf 5 (5 ∷ 3 ∷ []) 4 ≡ 2
   pub its-number : getD entries (offset 3 2 2) 0 ≡ 4
-  -- `every-block`, at document 01's cases L2, L5, L8 and L9: a block that moves and one that stays, and after another growth one that moves
-  -- once more and one that is added
+  -- `every-block`, at document 01's cases L2, L5, L8 and L9: a block that moves and one that stays, also on another disk than 0, and after
+  -- another growth one that moves once more and one that is added
   pub moves : spotByTable entries offset 5 (5 ∷ 3 ∷ []) 4 ≡ at 4 1
   pub stays : spotByTable entries offset 5 (5 ∷ 3 ∷ []) 12 ≡ at 0 4
+  pub stays-on-another : spotByTable entries offset 5 (5 ∷ 3 ∷ []) 1 ≡ at 1 0
   pub moves-later : spotByTable entries offset 5 (6 ∷ 5 ∷ 3 ∷ []) 16 ≡ at 5 0
   pub added-later : spotByTable entries offset 5 (6 ∷ 5 ∷ 3 ∷ []) 25 ≡ at 0 0
   -- `live-block`: in a growth under way block 3, which is recorded, is told at its new spot, and block 0 at its old one

@@ -37,6 +37,5 @@ unfolding ending
 length-ending = simp length-append
 
 pub length-sector : (numbers : List ℕ) (marks : List Bool) → length (sector numbers marks) ≡ 512
-unfolding sector
-length-sector numbers marks =
-    simp (length-append, length-columns numbers columnCount, length-marks marks markCount, length-ending)
+unfolding sector ending
+length-sector numbers marks = simp (length-append, length-columns numbers columnCount, length-marks marks markCount)

@@ -68,7 +68,7 @@ module _ (v : Volume) (first second : List ℕ) (k x : ℕ) where
   shown-cut (Second at) s = part-of-front second (secondNeeds (geometry v) (disks v) k) at (v .size) (s .2) (s .1)
 
 -- a refusal shows nothing
-shown-empty : (z : ℕ) (first second : List ℕ) (a : ViewAnswer) → viewNumber a ≢ 0 → partShown z first second a ≡ []
+pub shown-empty : (z : ℕ) (first second : List ℕ) (a : ViewAnswer) → viewNumber a ≢ 0 → partShown z first second a ≡ []
 unfolding partShown viewNumber
 shown-empty z first second (Refused n) h = refl
 shown-empty z first second (First at) h = absurd (h refl)
@@ -79,12 +79,6 @@ shown-empty z first second (Second at) h = absurd (h refl)
 module _ (g : Geometry) (n k : ℕ) (first second : List ℕ) (a : firstNeeds g k ≤ length first) (b : secondNeeds g n k ≤ length second) where
   front-length : length (take (firstNeeds g k) first) ≡ firstNeeds g k
   front-length = length-take-le (firstNeeds g k) first a
-
-  pub joined-bytes : k ≤ n → length (joined g n k first second) ≡ bytesNeeded g n
-  unfolding joined
-  joined-bytes h =
-      length-append (take (firstNeeds g k) first) (take (secondNeeds g n k) second)
-      ∙ rw (front-length, length-take-le (secondNeeds g n k) second b) (both-need g n k h)
 
   first-bytes : (p : Spot) → p .disk < k → p .row .0 < g .rows
       → observe (joined g n k first second) .bytesAt g p ≡ take (g .size) (drop (place g p) first)
@@ -118,8 +112,13 @@ module _ (g : Geometry) (n k : ℕ) (first second : List ℕ) (a : firstNeeds g 
 
 pub joined-length : (v : Volume) (first second : List ℕ) (k : ℕ) → Fitting v (length first) (length second) k
     → length (joinedOf v k first second) ≡ bytesNeeded (geometry v) (disks v)
+unfolding joined
 joined-length v first second k f =
-    joined-bytes (geometry v) (disks v) k first second (f .first-long) (f .second-long) (f .disks-there)
+    let front = take (firstNeeds (geometry v) k) first in
+    let rest = take (secondNeeds (geometry v) (disks v) k) second in
+    let a : length front ≡ firstNeeds (geometry v) k = length-take-le (firstNeeds (geometry v) k) first (f .first-long) in
+    let b : length rest ≡ secondNeeds (geometry v) (disks v) k = length-take-le (secondNeeds (geometry v) (disks v) k) second (f .second-long) in
+    length-append front rest ∙ rw (a, b) (both-need (geometry v) (disks v) k (f .disks-there))
 
 -- the medium of read
 long-enough : (v : Volume) (first second : List ℕ) (k : ℕ) → Fitting v (length first) (length second) k
@@ -179,10 +178,6 @@ module _ (v : Volume) (first second : List ℕ) (k x : ℕ) where
     view-shows = record { one-block = one-block; equals-read = equals-read; read-accepted = read-done }
 
   -- ---- "A refusal shows an empty part", and no accepted view does
-
-  pub refused-empty : viewNumber (viewAnswer v (length first) (length second) k x) ≢ 0 → viewOf v first second k x ≡ []
-  unfolding viewOf
-  refused-empty h = shown-empty (v .size) first second (viewAnswer v (length first) (length second) k x) h
 
   pub empty-refused : viewOf v first second k x ≡ [] → viewNumber (viewAnswer v (length first) (length second) k x) ≢ 0
   empty-refused e h =
