@@ -18,13 +18,14 @@ ERROR = re.compile(r'(?:\S*/)?(?:proofs|specs)/(\S+\.antt):\d+:\d+: error: `([^`
 
 @dataclasses.dataclass
 class Log:
-    """The functions that are not proved, those that are, and what fails: facts by function, declarations by file. A
-    misfit is a function or file whose proof does not fit the shape."""
-    refused: bool
-    unproved: set
-    proved: set
-    facts: dict
-    misfits: set
+    """The functions that are not proved, those that are, and what fails: facts by function, declarations by file. What
+    rests on them is not admitted either. A misfit is a function or file whose proof does not fit the shape."""
+    refused: bool = False
+    unproved: set = dataclasses.field(default_factory=set)
+    proved: set = dataclasses.field(default_factory=set)
+    facts: dict = dataclasses.field(default_factory=lambda: collections.defaultdict(set))
+    resting: dict = dataclasses.field(default_factory=lambda: collections.defaultdict(set))
+    misfits: set = dataclasses.field(default_factory=set)
 
 
 def owner_of(file):
@@ -33,7 +34,7 @@ def owner_of(file):
 
 
 def read_log(path):
-    log = Log(False, set(), set(), collections.defaultdict(set), set())
+    log = Log()
     for line in read(path).split('\n'):
         log.refused |= line.startswith('logic=not-proved')
         log.proved |= set(PROVED.findall(line))
@@ -44,9 +45,9 @@ def read_log(path):
             for closed in UNCLOSED.findall(line):
                 log.facts[unproved.group(1)] |= set(re.findall(r'`([^`]+)`', closed))
         error = ERROR.match(line)
-        if error and not any(words in error.group(3) for words in NO_FACT):
-            of = owner_of(error.group(1))
-            log.facts[of].add(error.group(2))
+        if error:
+            of, rests = owner_of(error.group(1)), any(words in error.group(3) for words in NO_FACT)
+            (log.resting if rests else log.facts)[of].add(error.group(2))
             if error.group(3).startswith(NO_FIELD):
                 log.misfits.add(of)
     for of in log.misfits:
@@ -110,7 +111,9 @@ def is_not_adapted(pair, edit, log):
     other = [name for name in pair.proved if name not in own]
     if other:
         return f'its `proved:` line names {other[0]}, which is no declaration of {file}'
-    fails = log.facts.get(owner_of(file)) or owner_of(file) in log.misfits
+    of, names = owner_of(file), {claim_of(name)[1] for name in pair.proved}
+    failing = log.facts.get(of, set()) | log.resting.get(of, set())
+    fails = of in log.misfits or (failing if file.endswith('/Proof.antt') else failing & names)
     return f'the adapted proof {file} fails, so not a law alone refuses the definition' if fails else ''
 
 
@@ -131,12 +134,12 @@ def names_a_lemma(line, edit):
     return ''
 
 
-def judge(edit, folder, allow_lemmas):
+def judge(edit, folder):
     """Why the edit cannot be judged, or ''; and each wrong line with '' where it is seen to fail, else why not."""
     lines = wrong_lines(edit)
     missing = [line for line in lines if line.problem.startswith('its old text')]
     problem = edit.problem or ('' if missing else problem_of_log(edit, folder))
-    log = Log(False, set(), set(), {}, set()) if problem or missing else read_log(os.path.join(folder, '.log'))
+    log = Log() if problem or missing else read_log(os.path.join(folder, '.log'))
     if not problem and not missing:
         follows = [does_not_follow(pair, edit, log) for pair in edit.pairs if pair.proved] + [fails_too(edit, log)]
         problem = next((why for why in follows if why), '' if log.refused else 'the prover did not refuse it')
@@ -148,6 +151,5 @@ def judge(edit, folder, allow_lemmas):
     for line in lines:
         fails = [does_not_fail(claim, log) for claim in line.claims]
         why = line.problem or next((f for f in fails if f), '') or shares(line, [o for o in lines if o is not line])
-        why = why or ('' if allow_lemmas else names_a_lemma(line, edit))
-        verdicts.append((line, why))
+        verdicts.append((line, why or names_a_lemma(line, edit)))
     return '', verdicts

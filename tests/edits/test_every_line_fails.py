@@ -396,9 +396,19 @@ class EveryLineFails(unittest.TestCase):
         path = os.path.join(self.root, 'target/must-fail/small/adapted/.log')
         with open(path, encoding='utf-8') as f:
             log = f.read()
-        for file, name in [('Lemmas.antt', 'told-first'), ('tell/Proof.antt', 'returns')]:
-            self.write(path, f'proofs/{file}:6:1: error: `{name}`: 3 and 4 differ\n' + log)
+        whys = ['3 and 4 differ', '`told-one` was not admitted, so this cannot be checked']
+        places = [('Lemmas.antt', 'told-first'), ('tell/Proof.antt', 'returns')]
+        for file, name, why in [(*place, why) for place in places for why in whys]:
+            self.write(path, f'proofs/{file}:6:1: error: `{name}`: {why}\n' + log)
             self.assert_told([f'the adapted proof {file} fails'], adapted=ADAPTED)
+        self.write(path, log)
+
+    def test_a_law_that_fails_beside_an_adapted_proof(self):
+        path = os.path.join(self.root, 'target/must-fail/small/adapted/.log')
+        with open(path, encoding='utf-8') as f:
+            log = f.read()
+        self.write(path, 'proofs/Lemmas.antt:9:1: error: `other`: 3 and 4 differ\n' + log)
+        self.assert_told(['Lemmas.antt:other fails too'], adapted=ADAPTED)
         self.write(path, log)
 
 
