@@ -193,7 +193,7 @@ module _ (calls : (c : Call) (v : Volume) (o : Observations) → Outcome) where
       go e (quiet {c = c} q) z more = more (rw (q .none-told _) at z) ∙ q .tally-kept k
 
 -- the invariant
-further-keeps : (sure : Bool) (g : Geometry) (v : Volume) (d : Drives) (k : CachedModel) (told : Option ℕ) → Live sure g v d k told → (e : Event)
+pub further-keeps : (sure : Bool) (g : Geometry) (v : Volume) (d : Drives) (k : CachedModel) (told : Option ℕ) → Live sure g v d k told → (e : Event)
     → Further callOutcome (up v d) e → Next g k told sure (up v d) e
 unfolding settles after
 further-keeps sure g v d k told i e an-advance = other-keeps g k told sure v d i advance refl
@@ -222,11 +222,11 @@ module _ (sure : Bool) (g : Geometry) (v : Volume) (d : Drives) (k : CachedModel
       (sym (seen-medium g k told v d i)) (told-finished (i .up) on) a
 
 -- the events are calls that come to their end
-abbrev IsRun : (e : Event) → Type 0
+abbrev pub IsRun : (e : Event) → Type 0
 IsRun (runs c) = Unit {0}
 IsRun (cut c left) = ⊥
 
-is-run : (s : System) (e : Event) → Further callOutcome s e → IsRun e
+pub is-run : (s : System) (e : Event) → Further callOutcome s e → IsRun e
 is-run s e an-advance = tt
 is-run s e a-write = tt
 is-run s e a-read = tt

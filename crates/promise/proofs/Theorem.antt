@@ -179,20 +179,20 @@ read-after g (down m) k told d x piece l below whole = absurd (not-restart l)
     not-restart : read x piece ≡ restart → ⊥
     not-restart e = false≢true (unfold settles in ap settles e)
 
-left-after : (g : Geometry) (s : System) (k : CachedModel) (told : Option ℕ) → Invariant false g s k told → IsUp s → k .current .tally .mode ≡ growing
+pub left-after : (g : Geometry) (s : System) (k : CachedModel) (told : Option ℕ) → Invariant false g s k told → IsUp s → k .current .tally .mode ≡ growing
     → told ≡ some (callsLeftOf (k .current .tally))
 unfolding IsUp
 left-after g (up v d) k told i is-up on = rw (i .up .same-tally) (i .up .calls-told (state-grows (i .up) on))
 left-after g (down m) k told i is-up on = absurd is-up
 
-ending-after : (g : Geometry) (s : System) (k : CachedModel) (told : Option ℕ) → Invariant false g s k told → IsUp s → k .current .tally .mode ≡ growing
+pub ending-after : (g : Geometry) (s : System) (k : CachedModel) (told : Option ℕ) → Invariant false g s k told → IsUp s → k .current .tally .mode ≡ growing
     → (es : List Event) → AllFurther callOutcome s es
     → Ending (finishedTold callOutcome s es) (modelled (fedAll callOutcome s es) k .current .tally .mode) (callsLeftOf (k .current .tally))
 unfolding IsUp
 ending-after g (up v d) k told i is-up on es f = ending es false g v d k told i on f
 ending-after g (down m) k told i is-up on es f = absurd is-up
 
-advances-after : (g : Geometry) (s : System) (k : CachedModel) (told : Option ℕ) → Invariant false g s k told → IsUp s → k .current .tally .mode ≡ growing
+pub advances-after : (g : Geometry) (s : System) (k : CachedModel) (told : Option ℕ) → Invariant false g s k told → IsUp s → k .current .tally .mode ≡ growing
     → isAccepted callOutcome advance (after callOutcome s (runs flushed)) ≡ true
 unfolding IsUp after outcome callOutcome memoryOf
 advances-after g (up v d) k told i is-up on =
