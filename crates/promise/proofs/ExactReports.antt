@@ -1,19 +1,18 @@
 -- The number last reported is exact: `exact-reports`, from demand 3.
 use Prim.Native.Nat.{ℕ, _<_}
 use mathlib.Core.Path.{_≡_, refl, sym, ap, _∙_, subst}
-use mathlib.Core.Bool.{Bool, true, false, true≢false, false≢true}
+use mathlib.Core.Bool.{true, false, false≢true}
 use mathlib.Core.List.{List, [], _∷_}
 use mathlib.Core.Logic.{_≢_}
-use mathlib.Core.Option.{Option, none, some}
+use mathlib.Core.Option.{Option, none}
 use borrow.Author.Tests.{eqb-true}
-use Rattle.base.specs.Refusals.{refusal}
 use Rattle.base.proofs.Booleans.{by-test}
-use Rattle.layout.specs.Tally.{Mode, notGrowing, growing, isRunning, Tally, callsLeftOf}
+use Rattle.layout.specs.Tally.{notGrowing, growing, isRunning, Tally, callsLeftOf}
 use Rattle.medium.specs.declared.Geometry.{Geometry}
 use Rattle.medium.specs.Medium.{Observations, observe}
 use Rattle.volume.specs.declared.Volume.{Volume}
 use Rattle.volume.specs.Answers.{number, accepted}
-use Rattle.volume.specs.Calls.{advanceTable, advanceOutcome}
+use Rattle.volume.specs.Calls.{advanceOutcome}
 use Rattle.volume.proofs.Accepted.{advance-accepted}
 use Rattle.volume.proofs.Theorems.{volume-laws}
 use Rattle.promise.specs.Calls.{Call, advance, flushed, settles, isAdvance}
@@ -25,7 +24,7 @@ use Rattle.promise.proofs.CallsCounted.{in-window, left-positive}
 use Rattle.promise.proofs.PendingStores.{seen, Live}
 use Rattle.promise.proofs.StateTallies.{running-of}
 use Rattle.promise.proofs.EventSteps.{Invariant, flushed-keeps, other-keeps, seen-medium}
-use Rattle.promise.proofs.FurtherCalls.{Ending, tally-runs, quiet-by, is-run, further-keeps}
+use Rattle.promise.proofs.FurtherCalls.{tally-runs, quiet-by, is-run, further-keeps}
 use Rattle.promise.proofs.SavesKept.{tally-after}
 use Rattle.promise.proofs.Theorem.{invariant-after, startGeometry, cachedAfter, left-after, ending-after, advances-after}
 

@@ -94,7 +94,7 @@ are-same (true ∷ told) (false ∷ others) t = absurd (false≢true t)
 are-same (false ∷ told) (true ∷ others) t = absurd (false≢true t)
 are-same (false ∷ told) (false ∷ others) t = ap (λ (l : List Bool). false ∷ l) (are-same told others t)
 
-not-same : (told others : List Bool) → not (sameTold told others) ≡ true → told ≡ others → ⊥
+pub not-same : (told others : List Bool) → not (sameTold told others) ≡ true → told ≡ others → ⊥
 not-same told others t e = clash (same-told told) (ap (sameTold told) e ∙ not-true _ t)
 
 -- finished is told by one of fewer calls; it runs after all; the last of them does not tell it, or another does
