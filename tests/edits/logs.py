@@ -5,7 +5,7 @@ import dataclasses
 import os
 import re
 
-from claims import declarations, is_lemma
+from claims import declarations, is_lemma, records_of
 from edits import claim_of, files_of, read, wrong_lines
 
 NO_FACT = ('not admitted', 'cannot be checked', 'can be named from here')
@@ -107,7 +107,8 @@ def is_not_proved(pair, log):
 def is_not_adapted(pair, edit, log):
     """Why this pair is not an adapted proof, or ''."""
     file = pair.file.removeprefix('proofs/')
-    own = {f'{file}:{name}' for name in declarations(edit.after[pair.file])}
+    text = edit.after[pair.file]
+    own = {f'{file}:{name}' for name in [*declarations(text), *records_of(text)]}
     other = [name for name in pair.proved if name not in own]
     if other:
         return f'its `proved:` line names {other[0]}, which is no declaration of {file}'

@@ -159,7 +159,7 @@ module _ (x : ℕ) (piece : List ℕ) where
   left-holds c recordOld k idle new old now = by (made c k .beforeRecord) refl
     where
       by : (before : Option Model) → made c k .beforeRecord ≡ before → Holds x piece (modelAfter (cutIn c recordOld) k .current)
-      by none e = kept-holds (made c k) _ _ (saves-kept .cut-none-old c k e) idle now
+      by none e = kept-holds (made c k) _ _ (saves-kept .cut-old-none c k e) idle now
       by (some o) e = kept-holds (made c k) _ _ (saves-kept .cut-old c k o e) idle (old o e)
 
   stands-cut : (c : Option Call) (left : CutLeft) (k : CachedModel) → Holds x piece (modelAfter (cutIn c left) k .current) → Stands x piece (modelAfter (cutIn c left) k)

@@ -245,9 +245,9 @@ cut-old c k o e =
     let f : withCall c k .beforeRecord ≡ some o = ap (λ (l : CachedModel). l .beforeRecord) (made-same c k) ∙ e in
     rw (sym (made-same c k)) (rw f (cut-keeps (withCall c k) o))
 
-cut-none-old : (c : Option Call) (k : CachedModel) → made c k .beforeRecord ≡ none → KeptButWritten (made c k) (k .current) (modelAfter (cutIn c recordOld) k .current)
+cut-old-none : (c : Option Call) (k : CachedModel) → made c k .beforeRecord ≡ none → KeptButWritten (made c k) (k .current) (modelAfter (cutIn c recordOld) k .current)
 unfolding modelAfter nothingPending afterCut leftModel withCall
-cut-none-old c k e =
+cut-old-none c k e =
     let f : withCall c k .beforeRecord ≡ none = ap (λ (l : CachedModel). l .beforeRecord) (made-same c k) ∙ e in
     rw (sym (made-same c k)) (rw f (cut-keeps (withCall c k) (k .current)))
 
@@ -317,7 +317,7 @@ saves-kept =
       cut-same = cut-same;
       cut-new = cut-new;
       cut-old = cut-old;
-      cut-none-old = cut-none-old;
+      cut-old-none = cut-old-none;
       cut-settles = cut-settles;
       cut-record = cut-record;
       finished-last = finished-last;

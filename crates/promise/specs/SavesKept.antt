@@ -61,11 +61,12 @@ pub record SavesKept : Type 0 where
   pub written-kept : (c : Call) (k : CachedModel) (x : ℕ) → (Settles c → ⊥) → (Saves c x → ⊥) → modelAfter (ended c true) k .written x ≡ k .written x
   -- "A record store leaves the old record, as if the call was never made": what is taken back is the model before that call
   pub taken-back : (c : Call) (k : CachedModel) (o : Model) → k .beforeRecord ≡ none → modelAfter (ended c true) k .beforeRecord ≡ some o → o ≡ k .current
-  -- a cut keeps every other block, as the record that it leaves has it; and nothing is pending then
+  -- a cut keeps every other block, as the record that it leaves has it (where no record store is pending nothing is taken back); and nothing is
+  -- pending then
   pub cut-same : (c : Option Call) (k : CachedModel) → KeptButWritten (made c k) (k .current) (modelAfter (cutIn c sameRecord) k .current)
   pub cut-new : (c : Option Call) (k : CachedModel) → KeptButWritten (made c k) (made c k .current) (modelAfter (cutIn c recordNew) k .current)
   pub cut-old : (c : Option Call) (k : CachedModel) (o : Model) → made c k .beforeRecord ≡ some o → KeptButWritten (made c k) o (modelAfter (cutIn c recordOld) k .current)
-  pub cut-none-old : (c : Option Call) (k : CachedModel) → made c k .beforeRecord ≡ none → KeptButWritten (made c k) (k .current) (modelAfter (cutIn c recordOld) k .current)
+  pub cut-old-none : (c : Option Call) (k : CachedModel) → made c k .beforeRecord ≡ none → KeptButWritten (made c k) (k .current) (modelAfter (cutIn c recordOld) k .current)
   pub cut-settles : (c : Option Call) (left : CutLeft) (k : CachedModel) (x : ℕ) → modelAfter (cutIn c left) k .written x ≡ false
   pub cut-record : (c : Option Call) (left : CutLeft) (k : CachedModel) → modelAfter (cutIn c left) k .beforeRecord ≡ none
   -- the tally: "at w = R the growth is finished", so where the last window is full and not before; "only the recorded blocks are copied" after restart
