@@ -9,15 +9,16 @@ use lib.Dec.{eqb}
 use lib.ListN.{drop, getD, length-replicate}
 use borrow.Author.Tests.{eq-eqb, not-true}
 use Rattle.base.proofs.Booleans.{and-left, and-right, clash}
-use Rattle.promise.specs.Calls.{Call, grow, growBeyondDoubling, copy, checkpoint, advance, write, read, restart, flushed, Fed}
+use Rattle.promise.specs.Calls.{Call, write, flushed, Fed, ended}
 use Rattle.promise.specs.Lists.{callOutcome, Event, runs, cut, isAccepted, after, afterAll, fed, fedAll, IsUp, NoEarlyCut}
-use Rattle.promise.specs.Model.{Model}
+use Rattle.promise.specs.Model.{Model, startModel, nothingPending, modelAfter}
 use Rattle.promise.specs.Promise.{Start, begin, systemAfter, modelOf}
 use Rattle.promise.specs.WithoutCache.{flushedAfter}
-use Rattle.promise.specs.SavesKept.{Saves, a-write}
+use Rattle.promise.specs.SavesKept.{Saves}
 use Rattle.promise.specs.CoveredLists.{no-call}
 use Rattle.promise.specs.FlushedSaves.{Spares, AllSpare, savedAndFlushed, GivesPiece, FlushedSavesOf}
 use Rattle.promise.proofs.FlushedSaves.{flushed-saves}
+use Rattle.promise.proofs.SavesKept.{saves-kept}
 use Rattle.promise.proofs.Theorem.{lawful-before}
 use Rattle.worked.specs.FlushedSaves.{cutTwice, threeRows, wholeGrowth, FlushedSavesWorked}
 use Rattle.worked.specs.Worked.{blockOf, workedStart}
@@ -29,36 +30,26 @@ use Rattle.worked.proofs.BrokenReads.{ReadHeard, heardThere, emptyPiece
 
 -- ---- calls that save nothing
 
-unfoldable isWrite : (c : Call) → Bool
-isWrite (grow count) = false
-isWrite (growBeyondDoubling count) = false
-isWrite (copy x) = false
-isWrite checkpoint = false
-isWrite advance = false
-isWrite (write x piece) = true
-isWrite (read x piece) = false
-isWrite restart = false
-isWrite flushed = false
+-- whether a call saves block x, as a model with nothing pending tells it
+unfoldable savesBlock : (x : ℕ) (c : Call) → Bool
+savesBlock x c = modelAfter (ended c true) (nothingPending (startModel 1 1)) .written x
 
-saves-write : (c : Call) (x : ℕ) → Saves c x → isWrite c ≡ true
-unfolding isWrite
-saves-write c x a-write = refl
+spares : (x : ℕ) (c : Call) → savesBlock x c ≡ false → Saves c x → ⊥
+unfolding savesBlock
+spares x c e s = clash (saves-kept .save-written c (nothingPending (startModel 1 1)) x s) e
 
-spares : (c : Call) (x : ℕ) → isWrite c ≡ false → Saves c x → ⊥
-spares c x e s = clash (saves-write c x s) e
+unfoldable noneSaves : (x : ℕ) (es : List Event) → Bool
+noneSaves x [] = true
+noneSaves x (runs c ∷ es) = not (savesBlock x c) && noneSaves x es
+noneSaves x (cut none left ∷ es) = noneSaves x es
+noneSaves x (cut (some c) left ∷ es) = not (savesBlock x c) && noneSaves x es
 
-unfoldable noneWrites : (es : List Event) → Bool
-noneWrites [] = true
-noneWrites (runs c ∷ es) = not (isWrite c) && noneWrites es
-noneWrites (cut none left ∷ es) = noneWrites es
-noneWrites (cut (some c) left ∷ es) = not (isWrite c) && noneWrites es
-
-all-spare : (x : ℕ) (es : List Event) → noneWrites es ≡ true → AllSpare x es
-unfolding noneWrites AllSpare Spares
+all-spare : (x : ℕ) (es : List Event) → noneSaves x es ≡ true → AllSpare x es
+unfolding noneSaves AllSpare Spares
 all-spare x [] e = tt
-all-spare x (runs c ∷ es) e = (spares c x (not-true _ (and-left (not (isWrite c)) _ e)), all-spare x es (and-right (not (isWrite c)) _ e))
+all-spare x (runs c ∷ es) e = (spares x c (not-true _ (and-left (not (savesBlock x c)) _ e)), all-spare x es (and-right (not (savesBlock x c)) _ e))
 all-spare x (cut none left ∷ es) e = (tt, all-spare x es e)
-all-spare x (cut (some c) left ∷ es) e = (spares c x (not-true _ (and-left (not (isWrite c)) _ e)), all-spare x es (and-right (not (isWrite c)) _ e))
+all-spare x (cut (some c) left ∷ es) e = (spares x c (not-true _ (and-left (not (savesBlock x c)) _ e)), all-spare x es (and-right (not (savesBlock x c)) _ e))
 
 -- ---- a list with a save that is flushed, computed
 
@@ -110,7 +101,7 @@ module _ (a : Start) (x : ℕ) (piece : List ℕ) (rest : List Event) where
 -- ---- the programs
 
 unfoldable testing : Unit {0}
-unfolding computing readTest program saveTest acceptedFirst savedAndFlushed cutTwice threeRows wholeGrowth
+unfolding computing readTest program saveTest acceptedFirst savedAndFlushed cutTwice threeRows wholeGrowth noneSaves savesBlock
 testing = tt
 
 refuses-read : FlushedSavesOf refusesRead → ⊥
@@ -124,7 +115,7 @@ writes-nothing = breaks-bytes workedStart 0 (blockOf 5) [] writesNothing (λ v o
 marks-later : FlushedSavesOf marksLater → ⊥
 unfolding testing marksLater systemAfter afterAll after IsUp
 marks-later =
-    breaks-bytes threeRows 2 (blockOf 1) (flushedAfter wholeGrowth) marksLater (λ v o. refl, refl) (λ v o. refl, refl) (all-spare 2 (flushedAfter wholeGrowth) (unfold noneWrites isWrite in refl)) tt
+    breaks-bytes threeRows 2 (blockOf 1) (flushedAfter wholeGrowth) marksLater (λ v o. refl, refl) (λ v o. refl, refl) (all-spare 2 (flushedAfter wholeGrowth) refl) tt
 
 -- ---- and ours
 
@@ -133,7 +124,7 @@ unfolding testing systemAfter afterAll after IsUp
 read-back =
     let any : ReadHeard → Model → Bool = λ h k. true in
     gives workedStart 0 (blockOf 5) cutTwice callOutcome any (tested callOutcome (λ p. readTest p workedStart (savedList workedStart 0 (blockOf 5) cutTwice) [] 0 any) (λ v o. refl, refl))
-    (tested callOutcome (saveTest workedStart 0 (blockOf 5) cutTwice) (λ v o. refl, refl)) (all-spare 0 cutTwice (unfold noneWrites isWrite in refl)) tt flushed-saves .1
+    (tested callOutcome (saveTest workedStart 0 (blockOf 5) cutTwice) (λ v o. refl, refl)) (all-spare 0 cutTwice refl) tt flushed-saves .1
 
 pub flushed-saves-worked : FlushedSavesWorked
 flushed-saves-worked = record { read-back = read-back; accepted-broken = refuses-read; bytes-broken = writes-nothing; bytes-broken-later = marks-later }
