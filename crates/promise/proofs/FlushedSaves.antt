@@ -11,7 +11,7 @@ use borrow.Author.Tests.{eqb-true}
 use Rattle.base.specs.Refusals.{refusal}
 use Rattle.base.proofs.Booleans.{by-test}
 use Rattle.layout.specs.History.{diskCount}
-use Rattle.layout.specs.Tally.{isRunning, Tally, openBlocks, nextBlock, windowFull, lastWindow}
+use Rattle.layout.specs.Tally.{isRunning, Tally, openBlocks, windowFull, lastWindow}
 use Rattle.layout.proofs.Theorems.{old-among}
 use Rattle.medium.specs.declared.Geometry.{Geometry}
 use Rattle.medium.specs.Medium.{Observations, observe}
@@ -20,9 +20,9 @@ use Rattle.volume.specs.Answers.{number, accepted}
 use Rattle.volume.specs.Calls.{writeTable, writeOutcome}
 use Rattle.volume.proofs.Accepted.{write-accepted}
 use Rattle.volume.proofs.Theorems.{volume-laws}
-use Rattle.promise.specs.Calls.{Call, grow, growBeyondDoubling, copy, checkpoint, advance, write, read, restart, flushed, settles, CutLeft, sameRecord, recordOld, recordNew, ended, cutIn}
+use Rattle.promise.specs.Calls.{Call, write, read, restart, flushed, settles, CutLeft, sameRecord, recordOld, recordNew, ended, cutIn}
 use Rattle.promise.specs.Lists.{callOutcome, Event, runs, cut, Drives, System, up, down, memoryOf, cutLeft, outcome, isAccepted, after, Allowed, Lawful, NoEarlyCut, fed, fedAll, heard, IsUp}
-use Rattle.promise.specs.Model.{noBlock, grownTally, withBlocks, copiedTally, nextWindowTally, finishedTally, recordedTally, restartedTally, recording, leaving, saving, advanceStep, stepOf, Model, CachedModel, nothingPending, withStep, following, modelAfter, modelled}
+use Rattle.promise.specs.Model.{noBlock, grownTally, withBlocks, nextWindowTally, finishedTally, recordedTally, restartedTally, recording, leaving, Step, stepOf, Model, CachedModel, nothingPending, withStep, following, modelAfter, modelled}
 use Rattle.promise.specs.Promise.{Start, formatted, begin, systemAfter, modelOf, ReadRight}
 use Rattle.promise.specs.WithoutCache.{ends, flushedAfter, fromFormat}
 use Rattle.promise.specs.SavesKept.{Saves, a-write, a-flushed, made, KeptButWritten}
@@ -35,41 +35,23 @@ use Rattle.promise.proofs.EventSteps.{Invariant, Next, keeps, runs-keep
 use Rattle.promise.proofs.Theorem.{lawful-before, lawful-rest, early-before, invariant-after, modelled-append, startGeometry, startCached, cachedAfter, promise}
 use Rattle.promise.proofs.WithoutCache.{from-append}
 use Rattle.promise.proofs.CoveredLists.{early-lists-covered, lists-covered}
-use Rattle.promise.proofs.SavesKept.{tally-after, before-after, saves-kept}
+use Rattle.promise.proofs.SavesKept.{Kind, stays, begins, checkpoints, kind-of, tally-after, before-after, saves-kept}
 
 -- ---- how many blocks are open
 
--- a step after which no growth runs leaves counts and rows
-record SameSize (t u : Tally) : Type 0 where
-  same-counts : u .counts ≡ t .counts
-  same-rows : u .rows ≡ t .rows
-
-size-kept : (c : Call) (t : Tally) → isRunning (stepOf c t .tally .mode) ≡ false → SameSize t (stepOf c t .tally)
-unfolding stepOf recording leaving saving recordedTally grownTally copiedTally restartedTally withBlocks
-size-kept c t = by c
+-- a step after which no growth runs leaves the disks and the rows
+disks-kept : (c : Call) (t : Tally) (step : Step) → Kind c t step → isRunning (step .tally .mode) ≡ false
+    → diskCount (step .tally .counts) * step .tally .rows ≡ diskCount (t .counts) * t .rows
+unfolding recording grownTally recordedTally finishedTally nextWindowTally withBlocks
+disks-kept c t step (stays u save same) off = λ i. diskCount (same .same-counts i) * same .same-rows i
+disks-kept c t step (begins count) off = absurd (false≢true (sym off))
+disks-kept c t step (checkpoints may) off = by (windowFull t) (lastWindow t)
   where
-    same : SameSize t t
-    same = record { same-counts = refl; same-rows = refl }
-
-    recorded : (full last : Bool) → SameSize t (cond full (cond last (finishedTally t) (nextWindowTally t)) (withBlocks t (t .copied) (t .copied)))
-    recorded true true = unfold finishedTally in record { same-counts = refl; same-rows = refl }
-    recorded true false = unfold nextWindowTally in record { same-counts = refl; same-rows = refl }
-    recorded false last = record { same-counts = refl; same-rows = refl }
-
-    advanced : (next : Option ℕ) → SameSize t (advanceStep next t .tally)
-    advanced none = unfold advanceStep in recorded (windowFull t) (lastWindow t)
-    advanced (some x) = unfold advanceStep in record { same-counts = refl; same-rows = refl }
-
-    by : (c : Call) → isRunning (stepOf c t .tally .mode) ≡ false → SameSize t (stepOf c t .tally)
-    by (grow count) off = absurd (false≢true (sym off))
-    by (growBeyondDoubling count) off = absurd (false≢true (sym off))
-    by (copy x) off = record { same-counts = refl; same-rows = refl }
-    by checkpoint off = recorded (windowFull t) (lastWindow t)
-    by advance off = advanced (nextBlock t)
-    by (write x piece) off = same
-    by (read x piece) off = same
-    by restart off = record { same-counts = refl; same-rows = refl }
-    by flushed off = same
+    by : (full last : Bool) → (let u = cond full (cond last (finishedTally t) (nextWindowTally t)) (withBlocks t (t .copied) (t .copied)) in
+        diskCount (u .counts) * u .rows ≡ diskCount (t .counts) * t .rows)
+    by true true = refl
+    by true false = refl
+    by false last = refl
 
 -- the open blocks are among those of all disks
 open-among : (t : Tally) → Stage t → openBlocks t ≤ diskCount (t .counts) * t .rows
@@ -87,11 +69,10 @@ still-open : (c : Call) (k : CachedModel) → Stage (k .current .tally) → k .c
 still-open c k stage before after x below =
     by-test (isRunning (modelAfter (ended c true) k .current .tally .mode)) (λ on. rw (saves-kept .open-running c k on) below)
     (λ off.
-    let size = size-kept c (k .current .tally) (rw (tally-after c k) at off) in
     let all : modelAfter (ended c true) k .current .plain .blocks ≡ diskCount (k .current .tally .counts) * k .current .tally .rows =
     after ∙ open-resting _ off
     ∙ ap (λ (u : Tally). diskCount (u .counts) * u .rows) (tally-after c k)
-    ∙ (λ i. diskCount (size .same-counts i) * size .same-rows i) in
+    ∙ disks-kept c (k .current .tally) _ (kind-of c (k .current .tally)) (rw (tally-after c k) at off) in
     omega (arith, below, before, open-among (k .current .tally) stage, all))
 
 -- ---- what the invariant says of open blocks

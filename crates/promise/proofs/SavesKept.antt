@@ -10,7 +10,7 @@ use Rattle.base.proofs.Booleans.{by-test, clash}
 use Rattle.layout.specs.History.{diskCount}
 use Rattle.layout.specs.Tally.{isRunning, Tally, nextBlock, windowFull, lastWindow}
 use Rattle.promise.specs.Calls.{Call, grow, growBeyondDoubling, copy, checkpoint, advance, write, read, restart, flushed, settles, CutLeft, sameRecord, recordOld, recordNew, ended, cutIn}
-use Rattle.promise.specs.Model.{noBlock, grownTally, withBlocks, copiedTally, nextWindowTally, finishedTally, recordedTally, restartedTally, checkpointFinishes, Step, leaving, saving, recording, advanceStep, stepOf, PlainVolume, startPlain, withSave, withAdded, unset, Model, startModel, stepped, accepting, CachedModel, nothingPending, isSaved, withStep, following, withCall, leftModel, afterCut, modelAfter}
+use Rattle.promise.specs.Model.{noBlock, grownTally, withBlocks, copiedTally, nextWindowTally, finishedTally, recordedTally, restartedTally, checkpointFinishes, Step, leaving, saving, recording, copying, checkpointing, advanceStep, stepOf, PlainVolume, startPlain, withSave, withAdded, unset, Model, startModel, stepped, accepting, CachedModel, nothingPending, isSaved, withStep, following, withCall, leftModel, afterCut, modelAfter}
 use Rattle.promise.specs.SavesKept.{Saves, a-write, MayFinish, a-checkpoint, an-advance, Settles, a-restart, a-flushed, made, KeptButWritten, SavesKept}
 
 -- ---- the steps of calls
@@ -31,6 +31,41 @@ only-writes-save (read y piece) t x other = refl
 only-writes-save restart t x other = refl
 only-writes-save flushed t x other = refl
 
+-- Three kinds of steps: one that leaves the growth as it is, one that begins one, and that of a checkpoint.
+pub record SameGrowth (t u : Tally) : Type 0 where
+  pub same-mode : u .mode ≡ t .mode
+  pub same-counts : u .counts ≡ t .counts
+  pub same-rows : u .rows ≡ t .rows
+
+pub data Kind (c : Call) (t : Tally) : Step → Type 0 where
+  stays : (u : Tally) (save : Option (ℕ × List ℕ)) → SameGrowth t u → Kind c t (record { tally = u; finishes = false; save = save; storesRecord = false })
+  begins : (count : ℕ) → Kind c t (recording (grownTally count t) false)
+  checkpoints : MayFinish c → Kind c t (checkpointing t)
+
+blocks-stay : (t : Tally) (copied recorded : ℕ → Bool) → SameGrowth t (withBlocks t copied recorded)
+unfolding withBlocks
+blocks-stay t copied recorded = record { same-mode = refl; same-counts = refl; same-rows = refl }
+
+copy-stays : (c : Call) (x : ℕ) (t : Tally) → Kind c t (copying x t)
+unfolding leaving copiedTally
+copy-stays c x t = stays (copiedTally x t) none (blocks-stay t _ _)
+
+pub kind-of : (c : Call) (t : Tally) → Kind c t (stepOf c t)
+unfolding stepOf leaving saving restartedTally
+kind-of (grow count) t = begins count
+kind-of (growBeyondDoubling count) t = begins count
+kind-of (copy x) t = copy-stays (copy x) x t
+kind-of checkpoint t = checkpoints a-checkpoint
+kind-of advance t = by (nextBlock t)
+  where
+    by : (next : Option ℕ) → Kind advance t (advanceStep next t)
+    by none = unfold advanceStep in checkpoints an-advance
+    by (some x) = unfold advanceStep in copy-stays advance x t
+kind-of (write x piece) t = stays t (some (x, piece)) (record { same-mode = refl; same-counts = refl; same-rows = refl })
+kind-of (read x piece) t = stays t none (record { same-mode = refl; same-counts = refl; same-rows = refl })
+kind-of restart t = stays (restartedTally t) none (blocks-stay t _ _)
+kind-of flushed t = stays t none (record { same-mode = refl; same-counts = refl; same-rows = refl })
+
 -- whether a growth runs after a checkpoint
 mode-recorded : (full last : Bool) (t : Tally)
     → isRunning (cond full (cond last (finishedTally t) (nextWindowTally t)) (withBlocks t (t .copied) (t .copied)) .mode) ≡ cond (full && last) false (isRunning (t .mode))
@@ -39,59 +74,29 @@ mode-recorded true true t = refl
 mode-recorded true false t = refl
 mode-recorded false last t = refl
 
--- Finishing: what is said of a step, and whether a growth ran before it
-record Ends (t : Tally) (step : Step) : Type 0 where
-  while-running : isRunning (step .tally .mode) ≡ true → step .finishes ≡ false
-  when-over : isRunning (t .mode) ≡ true → isRunning (step .tally .mode) ≡ false → step .finishes ≡ true
+-- a step that does not finish a growth, and one that does
+module _ (c : Call) (t : Tally) where
+  running-on : (step : Step) → Kind c t step → isRunning (step .tally .mode) ≡ true → step .finishes ≡ false
+  unfolding recording recordedTally checkpointFinishes
+  running-on step (stays u save same) on = refl
+  running-on step (begins count) on = refl
+  running-on step (checkpoints may) on =
+      by-test (windowFull t && lastWindow t)
+      (λ e. absurd (false≢true (sym (mode-recorded (windowFull t) (lastWindow t) t ∙ ap (λ (b : Bool). cond b false (isRunning (t .mode))) e) ∙ on))) (λ e. e)
 
-ends-kept : (t u : Tally) (save : Option (ℕ × List ℕ)) (stores : Bool) → u .mode ≡ t .mode
-    → Ends t (record { tally = u; finishes = false; save = save; storesRecord = stores })
-ends-kept t u save stores e =
-    record { while-running = λ on. refl; when-over = λ on off. absurd (false≢true (sym off ∙ (ap isRunning e ∙ on))) }
+  over-then : (step : Step) → Kind c t step → isRunning (t .mode) ≡ true → isRunning (step .tally .mode) ≡ false → step .finishes ≡ true
+  unfolding recording recordedTally checkpointFinishes grownTally
+  over-then step (stays u save same) on off = absurd (false≢true (sym off ∙ (ap isRunning (same .same-mode) ∙ on)))
+  over-then step (begins count) on off = absurd (false≢true (sym off))
+  over-then step (checkpoints may) on off =
+      by-test (windowFull t && lastWindow t) (λ e. e)
+      (λ e. absurd (false≢true (sym off ∙ (mode-recorded (windowFull t) (lastWindow t) t ∙ (ap (λ (b : Bool). cond b false (isRunning (t .mode))) e ∙ on)))))
 
-ends-grown : (t : Tally) (count : ℕ) → Ends t (recording (grownTally count t) false)
-unfolding recording grownTally
-ends-grown t count = record { while-running = λ on. refl; when-over = λ on off. absurd (false≢true (sym off)) }
-
-ends-recorded : (t : Tally) → Ends t (recording (recordedTally t) (checkpointFinishes t))
-unfolding recording recordedTally checkpointFinishes
-ends-recorded t =
-    let mode = mode-recorded (windowFull t) (lastWindow t) t in
-    record {
-      while-running = λ on.
-          by-test (windowFull t && lastWindow t) (λ e. absurd (false≢true (sym (mode ∙ ap (λ (b : Bool). cond b false (isRunning (t .mode))) e) ∙ on))) (λ e. e);
-      when-over = λ on off.
-          by-test (windowFull t && lastWindow t) (λ e. e)
-          (λ e. absurd (false≢true (sym off ∙ (mode ∙ (ap (λ (b : Bool). cond b false (isRunning (t .mode))) e ∙ on)))));
-    }
-
-ends-of : (c : Call) (t : Tally) → Ends t (stepOf c t)
-unfolding stepOf leaving saving
-ends-of (grow count) t = ends-grown t count
-ends-of (growBeyondDoubling count) t = ends-grown t count
-ends-of (copy x) t = ends-kept t (copiedTally x t) none false (unfold copiedTally withBlocks in refl)
-ends-of checkpoint t = ends-recorded t
-ends-of advance t = go (nextBlock t)
-  where
-    go : (next : Option ℕ) → Ends t (advanceStep next t)
-    go none = unfold advanceStep in ends-recorded t
-    go (some x) = unfold advanceStep leaving in ends-kept t (copiedTally x t) none false (unfold copiedTally withBlocks in refl)
-ends-of (write x piece) t = ends-kept t t (some (x, piece)) false refl
-ends-of (read x piece) t = ends-kept t t none false refl
-ends-of restart t = ends-kept t (restartedTally t) none false (unfold restartedTally withBlocks in refl)
-ends-of flushed t = ends-kept t t none false refl
-
-no-end : (c : Call) (t : Tally) → (MayFinish c → ⊥) → stepOf c t .finishes ≡ false
-unfolding stepOf recording leaving saving
-no-end (grow count) t other = refl
-no-end (growBeyondDoubling count) t other = refl
-no-end (copy x) t other = refl
-no-end checkpoint t other = absurd (other a-checkpoint)
-no-end advance t other = absurd (other an-advance)
-no-end (write x piece) t other = refl
-no-end (read x piece) t other = refl
-no-end restart t other = refl
-no-end flushed t other = refl
+  no-end : (step : Step) → Kind c t step → (MayFinish c → ⊥) → step .finishes ≡ false
+  unfolding recording
+  no-end step (stays u save same) other = refl
+  no-end step (begins count) other = refl
+  no-end step (checkpoints may) other = absurd (other may)
 
 -- ---- the model after an accepted call
 
@@ -144,7 +149,7 @@ unfolding modelAfter following settles withStep stepped stepOf saving withSave
 write-sets x piece k = rw (eq-eqb x x refl) refl
 
 open-kept : (c : Call) (k : CachedModel) → (MayFinish c → ⊥) → modelAfter (ended c true) k .current .plain .blocks ≡ k .current .plain .blocks
-open-kept c k other = rw (current-after c k) (blocks-kept (stepOf c (k .current .tally)) (k .current) (no-end c (k .current .tally) other))
+open-kept c k other = rw (current-after c k) (blocks-kept (stepOf c (k .current .tally)) (k .current) (no-end c (k .current .tally) _ (kind-of c (k .current .tally)) other))
 
 pub tally-after : (c : Call) (k : CachedModel) → modelAfter (ended c true) k .current .tally ≡ stepOf c (k .current .tally) .tally
 tally-after c k = rw (current-after c k) (unfold stepped in refl)
@@ -152,16 +157,16 @@ tally-after c k = rw (current-after c k) (unfold stepped in refl)
 open-running : (c : Call) (k : CachedModel) → isRunning (modelAfter (ended c true) k .current .tally .mode) ≡ true
     → modelAfter (ended c true) k .current .plain .blocks ≡ k .current .plain .blocks
 open-running c k on =
-    let ends = ends-of c (k .current .tally) in
     rw (current-after c k)
-    (blocks-kept (stepOf c (k .current .tally)) (k .current) (ends .while-running (sym (ap (λ (t : Tally). isRunning (t .mode)) (tally-after c k)) ∙ on)))
+    (blocks-kept (stepOf c (k .current .tally)) (k .current)
+    (running-on c (k .current .tally) _ (kind-of c (k .current .tally)) (sym (ap (λ (t : Tally). isRunning (t .mode)) (tally-after c k)) ∙ on)))
 
 finishes-after : (c : Call) (k : CachedModel) → isRunning (k .current .tally .mode) ≡ true → isRunning (modelAfter (ended c true) k .current .tally .mode) ≡ false
     → modelAfter (ended c true) k .current .plain ≡ withAdded (diskCount (k .current .tally .counts) * k .current .tally .rows) (k .current .plain)
 finishes-after c k on off =
-    let ends = ends-of c (k .current .tally) in
     rw (current-after c k)
-    (blocks-added (stepOf c (k .current .tally)) (k .current) (ends .when-over on (sym (ap (λ (t : Tally). isRunning (t .mode)) (tally-after c k)) ∙ off)))
+    (blocks-added (stepOf c (k .current .tally)) (k .current)
+    (over-then c (k .current .tally) _ (kind-of c (k .current .tally)) on (sym (ap (λ (t : Tally). isRunning (t .mode)) (tally-after c k)) ∙ off)))
 
 open-finished : (c : Call) (k : CachedModel) → isRunning (k .current .tally .mode) ≡ true → isRunning (modelAfter (ended c true) k .current .tally .mode) ≡ false
     → modelAfter (ended c true) k .current .plain .blocks ≡ diskCount (k .current .tally .counts) * k .current .tally .rows
@@ -270,29 +275,19 @@ refused-keeps c k = refl
 -- ---- the tally
 
 finished-last : (c : Call) (t : Tally) → isRunning (t .mode) ≡ true → isRunning (stepOf c t .tally .mode) ≡ false → (windowFull t ≡ true) × (lastWindow t ≡ true)
-unfolding stepOf recording leaving saving recordedTally grownTally copiedTally restartedTally withBlocks
-finished-last c t on = by c
+unfolding recording recordedTally grownTally nextWindowTally withBlocks
+finished-last c t on = by (stepOf c t) (kind-of c t)
   where
     recorded : (full last : Bool)
         → isRunning (cond full (cond last (finishedTally t) (nextWindowTally t)) (withBlocks t (t .copied) (t .copied)) .mode) ≡ false → (full ≡ true) × (last ≡ true)
     recorded true true off = (refl, refl)
-    recorded true false off = unfold nextWindowTally in clash on off
+    recorded true false off = clash on off
     recorded false last off = clash on off
 
-    advanced : (next : Option ℕ) → isRunning (advanceStep next t .tally .mode) ≡ false → (windowFull t ≡ true) × (lastWindow t ≡ true)
-    advanced none off = recorded (windowFull t) (lastWindow t) (unfold advanceStep in off)
-    advanced (some x) off = clash on (unfold advanceStep in off)
-
-    by : (c : Call) → isRunning (stepOf c t .tally .mode) ≡ false → (windowFull t ≡ true) × (lastWindow t ≡ true)
-    by (grow count) off = absurd (false≢true (sym off))
-    by (growBeyondDoubling count) off = absurd (false≢true (sym off))
-    by (copy x) off = clash on off
-    by checkpoint off = recorded (windowFull t) (lastWindow t) off
-    by advance off = advanced (nextBlock t) off
-    by (write x piece) off = clash on off
-    by (read x piece) off = clash on off
-    by restart off = clash on off
-    by flushed off = clash on off
+    by : (step : Step) → Kind c t step → isRunning (step .tally .mode) ≡ false → (windowFull t ≡ true) × (lastWindow t ≡ true)
+    by step (stays u save same) off = clash (ap isRunning (same .same-mode) ∙ on) off
+    by step (begins count) off = absurd (false≢true (sym off))
+    by step (checkpoints may) off = recorded (windowFull t) (lastWindow t) off
 
 restart-recorded : (t : Tally) (x : ℕ) → stepOf restart t .tally .copied x ≡ t .recorded x
 unfolding stepOf leaving restartedTally withBlocks
