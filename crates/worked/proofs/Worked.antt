@@ -38,7 +38,7 @@ hearNothing c m out before = tt
 
 -- ---- what plain volume and tally are fed
 
-abbrev firstFed : List Fed
+abbrev pub firstFed : List Fed
 firstFed =
     ended flushed true
     ∷ ended (write 0 (blockOf 1)) true
@@ -105,7 +105,7 @@ first-left : callsLeftOf (modelFed workedStart firstFed .tally) ≡ 2
 unfolding computing
 first-left = refl
 
-first-runs : isRunning (modelFed workedStart firstFed .tally .mode) ≡ true
+pub first-runs : isRunning (modelFed workedStart firstFed .tally .mode) ≡ true
 unfolding computing
 first-runs = refl
 
@@ -131,7 +131,7 @@ last-set = refl
 
 -- ---- what the promise says of it
 
-first-model : modelOf callOutcome workedStart firstEvents ≡ modelFed workedStart firstFed
+pub first-model : modelOf callOutcome workedStart firstEvents ≡ modelFed workedStart firstFed
 first-model = model-fed callOutcome workedStart firstEvents firstFed first-fed
 
 finished-model : modelOf callOutcome workedStart finishedEvents ≡ modelFed workedStart finishedFed
@@ -145,18 +145,18 @@ read-follows : workedEvents ≡ beforeRead ++ (runs (read 0 (blockOf 0)) ∷ [])
 unfolding workedEvents
 read-follows = refl
 
-first-lawful : Lawful callOutcome (begin workedStart) firstEvents
+pub first-lawful : Lawful callOutcome (begin workedStart) firstEvents
 unfolding workedEvents beforeRead finishedEvents
 first-lawful =
     lawful-before callOutcome (begin workedStart) firstEvents furtherEvents
     (lawful-before callOutcome (begin workedStart) (firstEvents ++ furtherEvents) takenBack
     (lawful-before callOutcome (begin workedStart) ((firstEvents ++ furtherEvents) ++ takenBack) (runs (read 0 (blockOf 0)) ∷ []) (worked-facts .lawful)))
 
-first-early : NoEarlyCut firstEvents
+pub first-early : NoEarlyCut firstEvents
 unfolding NoEarlyCut firstEvents
 first-early = inl refl
 
-first-up : IsUp (systemAfter callOutcome workedStart firstEvents)
+pub first-up : IsUp (systemAfter callOutcome workedStart firstEvents)
 unfolding systemAfter afterAll after IsUp firstEvents
 first-up = tt
 
