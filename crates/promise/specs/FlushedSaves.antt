@@ -18,7 +18,7 @@ use Rattle.promise.specs.WithoutCache.{DirectEvent, ends, flushedAfter, 
 use Rattle.promise.specs.SavesKept.{Saves}
 use Rattle.promise.specs.CoveredLists.{CallsOnly}
 
--- events that do not save block x, whole or cut
+-- events with no write of block x, accepted, refused or cut
 unfoldable pub Spares : (x : ℕ) (e : Event) → Type 0
 Spares x (runs c) = Saves c x → ⊥
 Spares x (cut none left) = Unit {0}
@@ -38,8 +38,8 @@ module _ (calls : (c : Call) (v : Volume) (o : Observations) → Outcome) where
     pub is-accepted : isAccepted calls (read x into) (systemAfter calls a es) ≡ true
     pub bytes-read : outcome calls (read x into) (systemAfter calls a es) .piece ≡ piece
 
-  -- an accepted save, with no cut before the next flushed, and not saved again since: whatever else is called, and wherever the power fails after
-  -- that flushed, a read into a piece of its size gives it
+  -- an accepted save, with no cut before the next flushed, and no write of its block since: whatever else is called, and wherever the power fails
+  -- after that flushed, a read into a piece of its size gives it
   abbrev pub FlushedSavesOf : Type 0
   FlushedSavesOf =
       (a : Start) → accepted (formatted a .reply .answer) ≡ true → (before : List Event) (x : ℕ) (piece : List ℕ) (between rest : List Event)
