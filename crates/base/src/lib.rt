@@ -1,1 +1,2 @@
 // Definitions and laws that several crates need: numbers below a bound, tests, lists. No code.
+#![tactic(auto)]

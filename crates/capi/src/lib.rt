@@ -4,6 +4,8 @@
 // include/streterva.h.
 //
 // The exported functions take any input. What has a `requires` is seen in this crate alone.
+#![tactic(auto)]
+
 mod client_calls;
 mod figures;
 mod growth;

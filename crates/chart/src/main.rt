@@ -1,5 +1,7 @@
 // Reads a record sector on standard input and prints the wall chart of its volume or, where it is refused, the
 // number alone.
+#![tactic(auto)]
+
 use printing::{number, text};
 use wall_chart::ChartAnswer;
 

@@ -1,6 +1,8 @@
 // Two clients on one volume (document 02, W10): each reads and writes through its span, and the rack's calls stay as they are.
 // Both functions are offered to others and take any input. What a client reads does not depend on the other:
 // `specs/TwoRuns.antt`.
+#![tactic(auto)]
+
 ghost use Rattle.std.specs.Prelude.{◌≡◌, cond};
 ghost use Rattle.medium.specs.Medium.{observe, apply};
 ghost use Rattle.volume.specs.declared.Answer.TheVariants as Answer;

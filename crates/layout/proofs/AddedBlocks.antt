@@ -81,7 +81,7 @@ module _ (s c m : ℕ) (h : List ℕ) (r : rising (c ∷ m ∷ h) ≡ true) wher
         (λ k.
         record {
           not_old = omega arith;
-          is_open = rw whole (subst (λ (x : ℕ). x < c * s) (block_added p k) (B.block_Within p l));
+          is_open = rw whole (subst (λ (x : ℕ). x < c * s) (block_added p k) (B.block_within p l));
           lives = subst (λ (x : ℕ). spot_of s (c ∷ m ∷ h) x ≡ p) (block_added p k) (B.spot_of_block p l);
         })
         (λ x a.

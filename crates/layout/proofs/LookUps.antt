@@ -31,7 +31,7 @@ module _ (s : ℕ) (h : List ℕ) (w : ℕ) (copied recorded : ℕ → Bool) whe
         block_of_live = λ x k. ap some (B.block_of_spot x k);
         live_of_block = λ p x k e.
             let i : block_at s h p ≡ x = cc in
-            subst (λ (y : ℕ). (y < disk_count h * s) × (spot_of s h y ≡ p)) i (B.block_Within p k, B.spot_of_block p k);
+            subst (λ (y : ℕ). (y < disk_count h * s) × (spot_of s h y ≡ p)) i (B.block_within p k, B.spot_of_block p k);
         each_spot_taken = λ m p e. true≢false cc;
         live_growths = λ x. refl;
         all_or_earlier = λ x. inl refl;

@@ -3,6 +3,8 @@
 //
 // The functions here serve the crates above and are not offered to others: their `requires` are the
 // limits of a sound volume.
+#![tactic(auto)]
+
 mod growth;
 mod history;
 
@@ -10,29 +12,29 @@ pub use growth::{added_index, change_of, moves_from, part_of, spot_after, spot_b
 pub use history::{address_of, block_at, newest_growth, spot_of};
 
 // Document 01's block: an address in the volume.
-#[derive(Drop)]
+#[derive(Clone, Copy)]
 pub struct Block(pub usize);
 
 // Document 01's row: a position on one disk.
-#[derive(Drop)]
+#[derive(Clone, Copy)]
 pub struct Row(pub usize);
 
 // Document 01's spot (d, b).
-#[derive(Drop)]
+#[derive(Clone, Copy)]
 pub struct Spot {
     pub disk: usize,
     pub row: Row,
 }
 
 // Document 01's m and n of a growth: the old disks, and the disks added.
-#[derive(Drop)]
+#[derive(Clone, Copy)]
 pub struct GrowthDisks {
     pub old: usize,
     pub added: usize,
 }
 
 // Document 01's head, body and tail: by which rule a moving block gets its new disk.
-#[derive(Drop)]
+#[derive(Clone, Copy)]
 pub enum Part {
     Head,
     Body,
@@ -40,7 +42,7 @@ pub enum Part {
 }
 
 // What one growth does with a block.
-#[derive(Drop)]
+#[derive(Clone, Copy)]
 pub enum Change {
     Moved(Part),
     Added,
@@ -49,7 +51,7 @@ pub enum Change {
 
 // Document 01's "why it is there", of a block at its spot: set out at format, added by a growth, or moved
 // there by one. Growths are told by number, from 1.
-#[derive(Drop)]
+#[derive(Clone, Copy)]
 pub enum Reason {
     SetOut,
     AddedBy(usize),
@@ -57,7 +59,7 @@ pub enum Reason {
 }
 
 // What address tells of a block: its spot, why it is there, and by how many growths it was moved.
-#[derive(Drop)]
+#[derive(Clone, Copy)]
 pub struct Address {
     pub spot: Spot,
     pub reason: Reason,

@@ -3,6 +3,8 @@
 //
 // The functions here serve the crates above and are not offered to others: their `requires` are the
 // limits of a sound volume.
+#![tactic(auto)]
+
 mod blocks;
 mod copies;
 mod counts;
@@ -17,14 +19,14 @@ pub use stages::{at_rest, in_growth};
 pub use words::{has_mark, marks_of, with_mark, word_of};
 
 // The block that lives at a spot, or that none does.
-#[derive(Drop)]
+#[derive(Clone, Copy)]
 pub enum LiveBlock {
     Lives(Block),
     Nothing,
 }
 
 // The block of window w to copy next, with its part, its old spot and its mark, or that all are copied.
-#[derive(Drop)]
+#[derive(Clone, Copy)]
 pub enum NextCopy {
     CopyOf(Block, Part, Spot, usize),
     AllCopied,

@@ -3,6 +3,8 @@
 //
 // The functions here serve the crates above and are not offered to others: what they require is that
 // the spot lies in the medium.
+#![tactic(auto)]
+
 ghost use Rattle.std.specs.Prelude.{◌≡◌, ◌+◌, ◌≤◌, ◌<◌, ◌^◌, length, take, drop};
 ghost use Rattle.std.proofs.lemmas.List.Edits.{sets};
 ghost use Rattle.medium.specs.Medium.{most_size, place, bytes_needed, observe, block_store, apply, Inside};
@@ -10,7 +12,7 @@ ghost use Rattle.medium.specs.Medium.{most_size, place, bytes_needed, observe, b
 use layout::Spot;
 
 // Document 01's Z and s: the bytes in a block, and the rows on each disk.
-#[derive(Drop)]
+#[derive(Clone, Copy)]
 pub struct Geometry {
     pub size: usize,
     pub rows: usize,

@@ -1,6 +1,8 @@
 // The printed table of moves: document 02, W9. For firmware that takes the new disk of a moving block from a constant table.
 //
 // What is offered to others takes any input.
+#![tactic(auto)]
+
 mod places;
 mod table;
 
@@ -10,7 +12,7 @@ pub use places::{disk_at, offset};
 pub const ENTRY_COUNT: usize = 3_060;
 
 // Where the entry of a mark is in the table: at an offset, counted from 0; or that there is no such mark.
-#[derive(Drop)]
+#[derive(Clone, Copy)]
 pub enum Place {
     At(usize),
     NoMark,

@@ -1,5 +1,7 @@
 // Prints the table of moves, document 02, W9: the new disk for each mark of each pair m, n with m + n at most 16, in decimal, one a
 // line. Order is m + n rising, then m rising, then mark rising. What it must print is in the file stdout.
+#![tactic(auto)]
+
 use printing::{number, text};
 
 fn main() {

@@ -2,6 +2,8 @@
 // changed, and writes a line for each. What it must write is in the file stdout. The cases of calls are in the crate `script`.
 // The lines are printed as they stand, but for a letter after `@`: that is a question, listed in the file cases.rt. It is asked with
 // the numbers before it in its line, a, b and c, and the answer is printed.
+#![tactic(auto)]
+
 mod cases;
 mod changes;
 mod columns;

@@ -1,7 +1,7 @@
 // A line of text, byte by byte, and the numbers in it.
 
 // The first eight numbers of a line, how many numbers have ended, the last two, and the last byte.
-#[derive(Drop)]
+#[derive(Clone, Copy)]
 pub struct Line {
     pub numbers: [usize; 8],
     pub count: usize,

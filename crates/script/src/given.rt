@@ -74,7 +74,7 @@ pub const NOTHING: usize = 33;
 pub const VIEW_OF_LENGTHS: usize = 34;
 
 // A call with its numbers; NOTHING where no call has the word, or not so many numbers follow it.
-#[derive(Drop)]
+#[derive(Clone, Copy)]
 pub struct Given {
     pub call: usize,
     pub a: usize,

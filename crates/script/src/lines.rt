@@ -2,14 +2,14 @@
 use printing::{is_digit, with_digit};
 
 // A number of a line, and where it ends.
-#[derive(Drop)]
+#[derive(Clone, Copy)]
 struct NumberFound {
     value: usize,
     end: usize,
 }
 
 // The numbers of a line, and how many they are: 17 where there are more than sixteen.
-#[derive(Drop)]
+#[derive(Clone, Copy)]
 pub struct Numbers {
     pub list: [usize; 16],
     pub count: usize,

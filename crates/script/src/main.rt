@@ -1,6 +1,8 @@
 // Makes the calls that it reads on standard input, a line each, on a medium in memory, and prints for each what it answers, the state if
 // it changed, and which bytes of the medium changed. An empty line, and one that starts with #, is printed as it is. README.md lists the
 // lines. The cases are in the file stdin, and what it must write in the file stdout.
+#![tactic(auto)]
+
 mod answers;
 mod calls;
 mod charts;

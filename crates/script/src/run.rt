@@ -5,7 +5,7 @@ use volume::Volume;
 
 // The state, the span table, the medium, how many of its bytes are lent to a call, a medium that was kept, and whether
 // the drives have a write cache: where they have none, flushed is called after each call.
-#[derive(Drop)]
+#[derive(Clone, Copy)]
 pub struct Run {
     pub v: Volume,
     pub table: Spans,

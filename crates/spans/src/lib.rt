@@ -1,6 +1,8 @@
 // The span table of two clients on one volume (document 02, W10), checked when made. Any input may be offered: no sum is
 // made. The tests read the words of a table one by one, and a word only where its test is due: so the compiler keeps them
 // apart, and a client's call has few instructions more than the volume's.
+#![tactic(auto)]
+
 ghost use Rattle.std.specs.Prelude.{◌≤◌, ◌<◌, ◌≡◌, ◌&&◌, eqb, length, get_or};
 ghost use Rattle.spans.specs.Spans.{short, in_span, spans_hold, allowed, made, span_words, span_at, spans_from};
 
@@ -11,21 +13,21 @@ const MOST_REACHED: usize = 16_000_000;
 pub const SPAN_WORDS: usize = 4;
 
 // A first block and a count.
-#[derive(Drop)]
+#[derive(Clone, Copy)]
 pub struct Span {
     pub first: usize,
     pub count: usize,
 }
 
 // The spans of client 0 and of client 1.
-#[derive(Drop)]
+#[derive(Clone, Copy)]
 pub struct Spans {
     pub zero: Span,
     pub one: Span,
 }
 
 // A table made and 0, or zeros and 21.
-#[derive(Drop)]
+#[derive(Clone, Copy)]
 pub struct MadeSpans {
     pub spans: Spans,
     pub refusal: usize,

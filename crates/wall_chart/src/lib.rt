@@ -3,13 +3,15 @@
 //
 // `put_chart` and `put_chart_of_record` are offered to others and take any input. What has a `requires` is seen in this
 // crate alone.
+#![tactic(auto)]
+
 mod lines;
 mod pages;
 
 pub use pages::{put_chart, put_chart_of_record};
 
 // The answer: refused with a number, or so many bytes of the page used.
-#[derive(Drop)]
+#[derive(Clone, Copy)]
 pub enum ChartAnswer {
     Refused(usize),
     Used(usize),

@@ -3,6 +3,8 @@
 //
 // The functions here serve the crates above and are not offered to others: their `requires` are the
 // limits of a sound volume.
+#![tactic(auto)]
+
 ghost use Rattle.std.specs.Prelude.{◌≡◌, true, ◌+◌, ◌-◌, ◌*◌, ◌<◌, ◌≤◌};
 ghost use Rattle.layout.specs.Limits.{Limits, Grows, most_disks, most_rows};
 ghost use Rattle.layout.specs.Growth.{moves_from};

@@ -1,0 +1,8 @@
+-- `added_spot` meets its contract.
+use Rattle.std.proofs.Common.{mod-lt, arith, rules}
+use Rattle.layout.specs.Growth.{added_spot}
+use Rattle.layout.proofs.growth.added_spot.Goals as goal
+
+pub returns : goal.returns
+unfolding added_spot
+returns c = rw c.added_disk-disk.ensures

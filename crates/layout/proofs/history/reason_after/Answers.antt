@@ -1,0 +1,16 @@
+-- `reason_after` meets its contract.
+use Rattle.std.proofs.Common.{rules}
+use Rattle.layout.specs.Reasons.{reason_after}
+use Rattle.layout.proofs.history.reason_after.Goals as goal
+
+pub returns-in-Moved : goal.returns-in-Moved
+unfolding reason_after
+returns-in-Moved c = rw c.in-Moved.is
+
+pub returns-in-Added : goal.returns-in-Added
+unfolding reason_after
+returns-in-Added c = rw c.in-Added.is
+
+pub returns-in-Stays : goal.returns-in-Stays
+unfolding reason_after
+returns-in-Stays c = rw c.in-Stays.is

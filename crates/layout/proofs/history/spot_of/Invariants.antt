@@ -1,0 +1,11 @@
+use Rattle.std.proofs.Common.{◌≡◌, ◌-◌, ◌≤◌, arith, rules}
+use Rattle.layout.specs.Limits.{most_growths}
+use Rattle.layout.specs.History.{history, spot_of}
+use Rattle.layout.proofs.HistoryCode.{growths_most, limits_at, There, turn_up, turn_grows, turn_there, turn_disk, spot_next}
+use Rattle.layout.proofs.history.spot_of.Given as goal
+
+abbrev pub invariant-loop-k : goal.invariant-loop-k
+invariant-loop-k l = (l.k ≤ l.t) × (l.t ≤ most_growths) × There l.s l.k l.counts l.number × (l.p ≡ spot_of l.s (history l.k l.counts) l.number)
+
+abbrev pub decreases-loop-k : goal.decreases-loop-k
+decreases-loop-k l = l.t - l.k
