@@ -9,7 +9,7 @@ use borrow.Author.Tests.{ne_eqb}
 use Rattle.base.proofs.Booleans.{clash}
 use Rattle.layout.specs.History.{disk_count}
 use Rattle.layout.specs.Tally.{Tally}
-use Rattle.promise.specs.Calls.{Call, read, write, settles, CutLeft, same_record, recordOld, recordNew, ended, cut_in}
+use Rattle.promise.specs.Calls.{Call, read, write, settles, CutLeft, same_record, record_old, record_new, ended, cut_in}
 use Rattle.promise.specs.Model.{Step, leaving, saving, step_of, PlainVolume, with_save, with_added, unset, Model, stepped, accepting, CachedModel, nothing_pending, is_saved, with_step, following, with_call, model_or, left_model, after_cut, model_after}
 
 module _ (mine : ℕ → Bool) where
@@ -152,8 +152,8 @@ module _ (mine : ℕ → Bool) where
   left_alike : (c : Option Call) (left : CutLeft) (h k : CachedModel) → CachedAlike h k → ModelAlike (left_model c left h) (left_model c left k)
   unfolding left_model
   left_alike c same_record h k a = a.current
-  left_alike c recordOld h k a = or_alike (with_call_alike c h k a).before a.current
-  left_alike c recordNew h k a = (with_call_alike c h k a).current
+  left_alike c record_old h k a = or_alike (with_call_alike c h k a).before a.current
+  left_alike c record_new h k a = (with_call_alike c h k a).current
 
   pub cut_alike : (c : Option Call) (left : CutLeft) (h k : CachedModel) → CachedAlike h k → CachedAlike (model_after (cut_in c left) h) (model_after (cut_in c left) k)
   unfolding model_after after_cut

@@ -16,7 +16,7 @@ use Rattle.volume.specs.Answers.{accepted}
 use Rattle.volume.specs.Records.{record_of}
 use Rattle.volume.specs.States.{geometry, recorded_only}
 use Rattle.volume.proofs.StoresFit.{sized}
-use Rattle.promise.specs.Calls.{Call, flushed, settles, same_record, recordOld, recordNew}
+use Rattle.promise.specs.Calls.{Call, flushed, settles, same_record, record_old, record_new}
 use Rattle.promise.specs.Lists.{call_outcome, Event, runs, cut, Drives, System, up, down, drives_of, memory_of, medium_of, IsUp, cut_left, NoEarlyCut, outcome, is_accepted, drives_after, stores_at, after, Allowed, fed}
 use Rattle.promise.specs.Model.{CachedModel, model_after}
 use Rattle.promise.proofs.PendingStores.{seen, Live, Safe, not_yet, record_pending, blocks_pending}
@@ -143,8 +143,8 @@ runs_alike c s t a m =
 
 -- what it leaves in one of them
 data CutMedium (v : Volume) (d : Drives) (left : List AfterCut) (m : List ℕ) : Type 0 where
-  left_old : cut_left left ≡ recordOld → m ≡ d.landed → CutMedium v d left m
-  left_new : cut_left left ≡ recordNew → m ≡ seen d → CutMedium v d left m
+  left_old : cut_left left ≡ record_old → m ≡ d.landed → CutMedium v d left m
+  left_new : cut_left left ≡ record_new → m ≡ seen d → CutMedium v d left m
   left_same : cut_left left ≡ same_record → length m ≡ length (seen d) → (observe m).sector ≡ record_of (recorded_only v) → CutMedium v d left m
 
 cut_medium : (g : Geometry) (v : Volume) (d : Drives) (k : CachedModel) (told : Option ℕ) → Live true g v d k told → (left : List AfterCut)
@@ -172,13 +172,13 @@ cut_medium g v d k told i left may = go i.safe
 same_media : (v w : Volume) (d e : Drives) (left other : List AfterCut) (m n : List ℕ) → v ≡ w → Same (observe d.landed) (observe e.landed)
     → Same (observe (seen d)) (observe (seen e)) → cut_left left ≡ cut_left other → CutMedium v d left m → CutMedium w e other n → Same (observe m) (observe n)
 same_media v w d e left other m n same landed seen q (left_old a b) (left_old a1 b1) = rw (b, b1) landed
-same_media v w d e left other m n same landed seen q (left_old a b) (left_new a1 b1) = let z : recordOld ≡ recordNew = sym a ∙ q ∙ a1 in absurd (true≢false cc)
-same_media v w d e left other m n same landed seen q (left_old a b) (left_same a1 b1 c1) = let z : recordOld ≡ same_record = sym a ∙ q ∙ a1 in absurd (true≢false cc)
-same_media v w d e left other m n same landed seen q (left_new a b) (left_old a1 b1) = let z : recordNew ≡ recordOld = sym a ∙ q ∙ a1 in absurd (true≢false cc)
+same_media v w d e left other m n same landed seen q (left_old a b) (left_new a1 b1) = let z : record_old ≡ record_new = sym a ∙ q ∙ a1 in absurd (true≢false cc)
+same_media v w d e left other m n same landed seen q (left_old a b) (left_same a1 b1 c1) = let z : record_old ≡ same_record = sym a ∙ q ∙ a1 in absurd (true≢false cc)
+same_media v w d e left other m n same landed seen q (left_new a b) (left_old a1 b1) = let z : record_new ≡ record_old = sym a ∙ q ∙ a1 in absurd (true≢false cc)
 same_media v w d e left other m n same landed seen q (left_new a b) (left_new a1 b1) = rw (b, b1) seen
-same_media v w d e left other m n same landed seen q (left_new a b) (left_same a1 b1 c1) = let z : recordNew ≡ same_record = sym a ∙ q ∙ a1 in absurd (true≢false cc)
-same_media v w d e left other m n same landed seen q (left_same a b c) (left_old a1 b1) = let z : same_record ≡ recordOld = sym a ∙ q ∙ a1 in absurd (true≢false cc)
-same_media v w d e left other m n same landed seen q (left_same a b c) (left_new a1 b1) = let z : same_record ≡ recordNew = sym a ∙ q ∙ a1 in absurd (true≢false cc)
+same_media v w d e left other m n same landed seen q (left_new a b) (left_same a1 b1 c1) = let z : record_new ≡ same_record = sym a ∙ q ∙ a1 in absurd (true≢false cc)
+same_media v w d e left other m n same landed seen q (left_same a b c) (left_old a1 b1) = let z : same_record ≡ record_old = sym a ∙ q ∙ a1 in absurd (true≢false cc)
+same_media v w d e left other m n same landed seen q (left_same a b c) (left_new a1 b1) = let z : same_record ≡ record_new = sym a ∙ q ∙ a1 in absurd (true≢false cc)
 same_media v w d e left other m n same landed seen q (left_same a b c) (left_same a1 b1 c1) =
     same_of m n (b ∙ unfold observe in seen.byte_count ∙ sym b1) (c ∙ ap (λ (u : Volume). record_of (recorded_only u)) same ∙ sym c1)
 

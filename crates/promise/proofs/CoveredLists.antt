@@ -20,11 +20,13 @@ no_flushed : (es : List Event) → CallsOnly es → NoEarlyCut es
 unfolding NoEarlyCut
 no_flushed [] no_call = tt
 no_flushed (runs c ∷ es) (one_more h) = inr (no_flushed es h)
+no_flushed (cut c left ∷ es) h = elim h [ ]
 
 after_flushed : (es rest : List Event) → CallsOnly es → NoEarlyCut (es ++ (runs flushed ∷ rest))
 unfolding NoEarlyCut
 after_flushed [] rest no_call = inl refl
 after_flushed (runs c ∷ es) rest (one_more h) = inr (after_flushed es rest h)
+after_flushed (cut c left ∷ es) rest h = elim h [ ]
 
 early_call : (es : List Event) → NoEarlyCut es → (c : Call) → NoEarlyCut (es ++ (runs c ∷ []))
 unfolding NoEarlyCut
@@ -127,6 +129,13 @@ direct_then [] e more DirectFurther.no_call = more
 direct_then (ends advance ∷ es) e more (DirectFurther.an_advance f) = DirectFurther.an_advance (direct_then es e more f)
 direct_then (ends (write x piece) ∷ es) e more (DirectFurther.a_write f) = DirectFurther.a_write (direct_then es e more f)
 direct_then (ends (read x piece) ∷ es) e more (DirectFurther.a_read f) = DirectFurther.a_read (direct_then es e more f)
+direct_then (ends (Rattle.promise.specs.Calls.grow count) ∷ es) e more f = elim f [ ]
+direct_then (ends (Rattle.promise.specs.Calls.grow_beyond_doubling count) ∷ es) e more f = elim f [ ]
+direct_then (ends (Rattle.promise.specs.Calls.copy x) ∷ es) e more f = elim f [ ]
+direct_then (ends Rattle.promise.specs.Calls.checkpoint ∷ es) e more f = elim f [ ]
+direct_then (ends restart ∷ es) e more f = elim f [ ]
+direct_then (ends flushed ∷ es) e more f = elim f [ ]
+direct_then (fails c left ∷ es) e more f = elim f [ ]
 
 direct_write : (es : List DirectEvent) → DirectFurther es → (x : ℕ) (piece : List ℕ) → DirectFurther (es ++ (ends (write x piece) ∷ []))
 direct_write es f x piece = direct_then es (ends (write x piece)) (DirectFurther.a_write DirectFurther.no_call) f

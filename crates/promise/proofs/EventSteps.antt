@@ -17,7 +17,7 @@ use Rattle.volume.specs.Calls.{Outcome, refused, doing, reporting, read_table, r
 use Rattle.volume.specs.States.{geometry, none_pending, pending_with, with_pending, with_growth, recorded_only, zeros}
 use Rattle.volume.proofs.Judged.{judged_cases, accepted_when}
 use Rattle.volume.proofs.StoresFit.{FitsDisks, grow_fits, write_fits, Sized, sized, copy_fits, checkpoint_fits, advance_fits}
-use Rattle.promise.specs.Calls.{Call, grow, grow_beyond_doubling, copy, checkpoint, advance, write, read, restart, flushed, settles, CutLeft, same_record, recordOld, recordNew, ended}
+use Rattle.promise.specs.Calls.{Call, grow, grow_beyond_doubling, copy, checkpoint, advance, write, read, restart, flushed, settles, CutLeft, same_record, record_old, record_new, ended}
 use Rattle.promise.specs.Lists.{call_outcome, Event, runs, cut, Drives, System, up, down, drives_of, memory_of, medium_of, cut_left, later, outcome, drives_after, stores_at, after, Allowed, fed, heard}
 use Rattle.promise.specs.Model.{no_block, leaving, step_of, unset, with_save, stepped, accepting, CachedModel, nothing_pending, with_step, following, with_call, left_model, after_cut, model_or, model_after}
 use Rattle.promise.proofs.Steps.{Down, up_down, up_pending, Judgement, is_refused, has_effect, restart_found, restart_up, call_judged}
@@ -166,8 +166,8 @@ module _ (g : Geometry) (v : Volume) (d : Drives) (k : CachedModel) (told : Opti
             tally = (left_after (step_of c k.current.tally) k l).tally;
           }
       go same_record = λ i. record { plain = unset (same i).written k.current.plain; tally = k.current.tally }
-      go recordOld = λ i. record { plain = unset (same i).written (model_or (same i).before_record k.current).plain; tally = (model_or (same i).before_record k.current).tally }
-      go recordNew = λ i. record { plain = unset (same i).written (same i).current.plain; tally = (same i).current.tally }
+      go record_old = λ i. record { plain = unset (same i).written (model_or (same i).before_record k.current).plain; tally = (model_or (same i).before_record k.current).tally }
+      go record_new = λ i. record { plain = unset (same i).written (same i).current.plain; tally = (same i).current.tally }
 
   judged_cut : (c : Call) → settles c ≡ false → (out : Outcome)
       → Judgement g v (observe (seen d)) k.current told (step_of c k.current.tally) out → StoreFits g (length (seen d)) out.store

@@ -15,7 +15,7 @@ use Rattle.volume.specs.Answers.{number, accepted}
 use Rattle.volume.specs.Calls.{advance_outcome}
 use Rattle.volume.proofs.Accepted.{advance_accepted}
 use Rattle.volume.proofs.Theorems.{volume_laws}
-use Rattle.promise.specs.Calls.{Call, advance, flushed, settles, is_advance}
+use Rattle.promise.specs.Calls.{Call, advance, flushed, settles, is_advance, ended}
 use Rattle.promise.specs.Lists.{call_outcome, Event, runs, cut, Drives, System, up, down, memory_of, outcome, is_accepted, after, after_all, fed, fed_all, heard, NoEarlyCut, Lawful, IsUp, AllFurther, last_reported}
 use Rattle.promise.specs.Model.{grown_tally, leaving, recording, step_of, CachedModel, model_after, modelled}
 use Rattle.promise.specs.Promise.{Start, formatted, begin, system_after}
@@ -82,22 +82,28 @@ agree_further (runs c ∷ es) g v d k told i f =
 agree_after : (g : Geometry) (s : System) (k : CachedModel) (told : Option ℕ) → Invariant false g s k told → IsUp s → (es : List Event) → AllFurther call_outcome s es
     → Agree (after_all call_outcome s es) (modelled (fed_all call_outcome s es) k)
 unfolding IsUp
-agree_after g (up v d) k told i is_up_law es f = agree_further es g v d k told i f
-agree_after g (down m) k told i is_up_law es f = absurd is_up_law
+agree_after g (up v d) k told i is_up es f = agree_further es g v d k told i f
+agree_after g (down m) k told i is_up es f = absurd is_up
 
 grows_after : (g : Geometry) (s : System) (k : CachedModel) (told : Option ℕ) → Invariant false g s k told → IsUp s → growth_runs call_outcome s ≡ true
     → k.current.tally.mode ≡ growing
 unfolding IsUp
-grows_after g (up v d) k told i is_up_law on = runs_growing g v d k told i on
-grows_after g (down m) k told i is_up_law on = absurd is_up_law
+grows_after g (up v d) k told i is_up on = runs_growing g v d k told i on
+grows_after g (down m) k told i is_up on = absurd is_up
 
 some_left : (g : Geometry) (s : System) (k : CachedModel) (told : Option ℕ) → Invariant false g s k told → IsUp s → k.current.tally.mode ≡ growing
     → 0 < calls_left_of k.current.tally
 unfolding IsUp
-some_left g (up v d) k told i is_up_law on = left_positive k.current.tally (in_window (tally_runs i.up on))
-some_left g (down m) k told i is_up_law on = absurd is_up_law
+some_left g (up v d) k told i is_up on = left_positive k.current.tally (in_window (tally_runs i.up on))
+some_left g (down m) k told i is_up on = absurd is_up
 
 -- ---- an accepted grow
+
+-- what an accepted call is fed as
+fed_accepted : (v : Volume) (d : Drives) (k : CachedModel) (c : Call) → is_accepted call_outcome c (up v d) ≡ true
+    → (model_after (ended c true) k).current.tally.mode ≡ growing → (model_after (fed call_outcome (up v d) (runs c)) k).current.tally.mode ≡ growing
+unfolding fed
+fed_accepted v d k c ok grows = rw ok grows
 
 begins_live : (g : Geometry) (v : Volume) (d : Drives) (k : CachedModel) (told : Option ℕ) → Live false g v d k told → (c : Call) → Grows c
     → is_accepted call_outcome c (up v d) ≡ true → growth_runs call_outcome (after call_outcome (up v d) (runs c)) ≡ true
@@ -113,38 +119,38 @@ begins_live g v d k told i c grows ok = (agree_live g _ _ _ _ (other_keeps g k t
     mode_grown c a_grow_beyond_doubling = unfold step_of recording grown_tally in refl
 
     grown : (c : Call) → Grows c → is_accepted call_outcome c (up v d) ≡ true → (model_after (fed call_outcome (up v d) (runs c)) k).current.tally.mode ≡ growing
-    grown c grows ok = unfold fed in rw ok (ap (λ (t : Tally). t.mode) (tally_after c k) ∙ mode_grown c grows)
+    grown c grows ok = fed_accepted v d k c ok (ap (λ (t : Tally). t.mode) (tally_after c k) ∙ mode_grown c grows)
 
 begins_after : (g : Geometry) (s : System) (k : CachedModel) (told : Option ℕ) → Invariant false g s k told → IsUp s → (c : Call) → Grows c
     → is_accepted call_outcome c s ≡ true → growth_runs call_outcome (after call_outcome s (runs c)) ≡ true
 unfolding IsUp
-begins_after g (up v d) k told i is_up_law c grows ok = begins_live g v d k told i c grows ok
-begins_after g (down m) k told i is_up_law c grows ok = absurd is_up_law
+begins_after g (up v d) k told i is_up c grows ok = begins_live g v d k told i c grows ok
+begins_after g (down m) k told i is_up c grows ok = absurd is_up
 
 is_exact : (a : Start) → accepted (formatted a).reply.answer ≡ true → (es : List Event) → Lawful call_outcome (begin a) es → NoEarlyCut es
     → IsUp (system_after call_outcome a es) → growth_runs call_outcome (system_after call_outcome a es) ≡ true
     → ExactReport call_outcome a es (last_reported call_outcome (begin a) es none)
 unfolding ExactReport
-is_exact a ok es l early is_up_law on =
+is_exact a ok es l early is_up on =
     let g = start_geometry a in
     let s = system_after call_outcome a es in
     let k = cached_after a es in
     let told = last_reported call_outcome (begin a) es none in
     let i = invariant_after a ok es l early in
-    let mode = grows_after g s k told i is_up_law on in
-    subst (ExactReport call_outcome a es) (sym (left_after g s k told i is_up_law mode))
+    let mode = grows_after g s k told i is_up on in
+    subst (ExactReport call_outcome a es) (sym (left_after g s k told i is_up mode))
     (record {
-      some_left = some_left g s k told i is_up_law mode;
-      still_runs = λ further f less. (agree_after g s k told i is_up_law further f).while_growing ((ending_after g s k told i is_up_law mode further f).still_runs less);
-      none_told = λ further f less. (ending_after g s k told i is_up_law mode further f).none_told less;
-      finished = λ further f all. (agree_after g s k told i is_up_law further f).at_rest_law ((ending_after g s k told i is_up_law mode further f).finished all);
-      last_told = λ further f all. (ending_after g s k told i is_up_law mode further f).last_told all;
+      some_left = some_left g s k told i is_up mode;
+      still_runs = λ further f less. (agree_after g s k told i is_up further f).while_growing ((ending_after g s k told i is_up mode further f).still_runs less);
+      none_told = λ further f less. (ending_after g s k told i is_up mode further f).none_told less;
+      finished = λ further f all. (agree_after g s k told i is_up further f).at_rest_law ((ending_after g s k told i is_up mode further f).finished all);
+      last_told = λ further f all. (ending_after g s k told i is_up mode further f).last_told all;
     })
 
 pub exact_reports : ExactReports
 exact_reports =
     record {
-      begins = λ a ok es l early is_up_law c grows taken.
-          begins_after (start_geometry a) (system_after call_outcome a es) (cached_after a es) _ (invariant_after a ok es l early) is_up_law c grows taken;
+      begins = λ a ok es l early is_up c grows taken.
+          begins_after (start_geometry a) (system_after call_outcome a es) (cached_after a es) _ (invariant_after a ok es l early) is_up c grows taken;
       is_exact = is_exact;
     }

@@ -20,7 +20,7 @@ use Rattle.volume.specs.Answers.{number, accepted}
 use Rattle.volume.specs.Calls.{write_table, write_outcome}
 use Rattle.volume.proofs.Accepted.{write_accepted}
 use Rattle.volume.proofs.Theorems.{volume_laws}
-use Rattle.promise.specs.Calls.{Call, write, read, restart, flushed, settles, CutLeft, same_record, recordOld, recordNew, ended, cut_in}
+use Rattle.promise.specs.Calls.{Call, write, read, restart, flushed, settles, CutLeft, same_record, record_old, record_new, ended, cut_in}
 use Rattle.promise.specs.Lists.{call_outcome, Event, runs, cut, Drives, System, up, down, memory_of, cut_left, outcome, is_accepted, after, Allowed, Lawful, NoEarlyCut, fed, fed_all, heard, IsUp}
 use Rattle.promise.specs.Model.{no_block, grown_tally, with_blocks, next_window_tally, finished_tally, recorded_tally, restarted_tally, recording, leaving, Step, step_of, Model, CachedModel, nothing_pending, with_step, following, model_after, modelled}
 use Rattle.promise.specs.Promise.{Start, formatted, begin, system_after, model_of, ReadRight}
@@ -133,13 +133,13 @@ module _ (x : ℕ) (piece : List ℕ) where
   kept_holds : (k : CachedModel) (before after : Model) → KeptButWritten k before after → k.written x ≡ false → Holds x piece before → Holds x piece after
   kept_holds k before after kept idle h = record { held = kept.others_kept x idle ∙ h.held; below = rw kept.same_open h.below }
 
-  left_holds : (c : Option Call) (left : CutLeft) (k : CachedModel) → (made c k).written x ≡ false → (left ≡ recordNew → Holds x piece (made c k).current)
+  left_holds : (c : Option Call) (left : CutLeft) (k : CachedModel) → (made c k).written x ≡ false → (left ≡ record_new → Holds x piece (made c k).current)
       → ((o : Model) → (made c k).before_record ≡ some o → Holds x piece o) → Holds x piece k.current → Holds x piece (model_after (cut_in c left) k).current
   left_holds c same_record k idle new old now = kept_holds (made c k) _ _ (saves_kept.cut_same c k) idle now
-  left_holds c recordNew k idle new old now = kept_holds (made c k) _ _ (saves_kept.cut_new c k) idle (new refl)
-  left_holds c recordOld k idle new old now = by (made c k).before_record refl
+  left_holds c record_new k idle new old now = kept_holds (made c k) _ _ (saves_kept.cut_new c k) idle (new refl)
+  left_holds c record_old k idle new old now = by (made c k).before_record refl
     where
-      by : (before : Option Model) → (made c k).before_record ≡ before → Holds x piece (model_after (cut_in c recordOld) k).current
+      by : (before : Option Model) → (made c k).before_record ≡ before → Holds x piece (model_after (cut_in c record_old) k).current
       by none e = kept_holds (made c k) _ _ (saves_kept.cut_old_none c k e) idle now
       by (some o) e = kept_holds (made c k) _ _ (saves_kept.cut_old c k o e) idle (old o e)
 
@@ -163,10 +163,10 @@ module _ (x : ℕ) (piece : List ℕ) where
       stands_cut (some c) left k
       (left_holds (some c) left k (idle_after c k spared s.not_written) (λ e. new (rw e at after)) (old_after c k s) s.now_held)
     where
-      new : (model_after (cut_in (some c) recordNew) k).current.plain.blocks ≡ open_blocks (model_after (cut_in (some c) recordNew) k).current.tally
+      new : (model_after (cut_in (some c) record_new) k).current.plain.blocks ≡ open_blocks (model_after (cut_in (some c) record_new) k).current.tally
           → Holds x piece (model_after (ended c true) k).current
       new all =
-          let kept : KeptButWritten (model_after (ended c true) k) (model_after (ended c true) k).current (model_after (cut_in (some c) recordNew) k).current = saves_kept.cut_new (some c) k in
+          let kept : KeptButWritten (model_after (ended c true) k) (model_after (ended c true) k).current (model_after (cut_in (some c) record_new) k).current = saves_kept.cut_new (some c) k in
           holds_after c k spared s.now_held
           (still_open c k stage before (sym kept.same_open ∙ all ∙ ap open_blocks kept.same_tally) x s.now_held.below)
 
@@ -309,8 +309,8 @@ module _ (x : ℕ) (piece : List ℕ) where
 pub read_at_end : (a : Start) → accepted (formatted a).reply.answer ≡ true → (es : List Event) → Lawful call_outcome (begin a) es → NoEarlyCut es
     → IsUp (system_after call_outcome a es) → (x : ℕ) (piece : List ℕ) → x < (model_of call_outcome a es).plain.blocks → length piece ≡ a.size → ReadRight call_outcome a es x piece
 unfolding system_after
-read_at_end a ok es l early is_up_law x piece below whole =
-    (promise a ok (es ++ (runs (read x piece) ∷ [])) ((lists_covered call_outcome).a_call (begin a) es l is_up_law (read x piece) not_restart)
+read_at_end a ok es l early is_up x piece below whole =
+    (promise a ok (es ++ (runs (read x piece) ∷ [])) ((lists_covered call_outcome).a_call (begin a) es l is_up (read x piece) not_restart)
     (early_lists_covered.a_call es early (read x piece))
     ).reads es [] x piece refl below whole
   where
@@ -319,21 +319,21 @@ read_at_end a ok es l early is_up_law x piece below whole =
 
 pub flushed_saves : FlushedSaves
 unfolding saved_and_flushed system_after model_of
-flushed_saves a ok before x piece between rest l early saved only spared still is_up_law into whole =
+flushed_saves a ok before x piece between rest l early saved only spared still is_up into whole =
     let after_save = runs (write x piece) ∷ (between ++ (runs flushed ∷ rest)) in
     let i = invariant_after a ok before (lawful_before call_outcome (begin a) before after_save l) (early_before before after_save early) in
     let s = saved_stands x piece between rest only spared still (start_geometry a) (system_after call_outcome a before) (cached_after a before) _ i (lawful_rest call_outcome (begin a) before after_save l) saved in
     let joined : model_of call_outcome a (before ++ after_save) ≡ (modelled (fed_all call_outcome (system_after call_outcome a before) after_save) (cached_after a before)).current =
     ap (λ (k : CachedModel). k.current) (modelled_append call_outcome (begin a) (start_cached a) before after_save) in
-    let r = read_at_end a ok (before ++ after_save) l early is_up_law x into (rw joined s.now_held.below) whole in
+    let r = read_at_end a ok (before ++ after_save) l early is_up x into (rw joined s.now_held.below) whole in
     record { is_accepted_law = r.is_accepted_law; bytes_read = r.bytes_read piece (rw joined s.now_held.held) }
 
 -- ---- drives that keep no store
 
 pub saves_without_cache : SavesWithoutCache
 unfolding saved_and_flushed flushed_after from_format NoEarlyCut AllSpare
-saves_without_cache a ok before x piece rest l saved spared is_up_law into whole =
+saves_without_cache a ok before x piece rest l saved spared is_up into whole =
     let joined = from_append before (ends (write x piece) ∷ rest) in
     subst (λ (es : List Event). GivesPiece call_outcome a es x piece into) (sym joined)
     (flushed_saves a ok (from_format before) x piece [] (flushed_after rest) (subst (Lawful call_outcome (begin a)) joined l) (inl refl) saved no_call tt spared
-    (subst (λ (es : List Event). IsUp (system_after call_outcome a es)) joined is_up_law) into whole)
+    (subst (λ (es : List Event). IsUp (system_after call_outcome a es)) joined is_up) into whole)

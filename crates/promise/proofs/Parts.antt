@@ -23,16 +23,16 @@ module _ (calls : (c : Call) (v : Volume) (o : Observations) → Outcome) where
   calls_left_law kept a ok es l early = (kept a ok es l early).calls_left_law
 
   runs_before : PromiseOf calls → EveryFurther calls StillRuns
-  runs_before kept a ok es l early is_up_law on further f = ((kept a ok es l early).finishes is_up_law on further f).still_runs
+  runs_before kept a ok es l early is_up on further f = ((kept a ok es l early).finishes is_up on further f).still_runs
 
   told_before : PromiseOf calls → EveryFurther calls NoneTold
-  told_before kept a ok es l early is_up_law on further f = ((kept a ok es l early).finishes is_up_law on further f).none_told
+  told_before kept a ok es l early is_up on further f = ((kept a ok es l early).finishes is_up on further f).none_told
 
   finished_then : PromiseOf calls → EveryFurther calls Finished
-  finished_then kept a ok es l early is_up_law on further f = ((kept a ok es l early).finishes is_up_law on further f).finished
+  finished_then kept a ok es l early is_up on further f = ((kept a ok es l early).finishes is_up on further f).finished
 
   told_then : PromiseOf calls → EveryFurther calls LastTold
-  told_then kept a ok es l early is_up_law on further f = ((kept a ok es l early).finishes is_up_law on further f).last_told
+  told_then kept a ok es l early is_up on further f = ((kept a ok es l early).finishes is_up on further f).last_told
 
   advances : PromiseOf calls → EveryGrowth calls (AdvanceAccepted calls)
   advances kept a ok es l early = (kept a ok es l early).advances
@@ -61,12 +61,12 @@ module _ (calls : (c : Call) (v : Volume) (o : Observations) → Outcome) where
               bytes_stand = p.bytes_stand a ok es l early before rest x piece e below whole;
             };
         calls_left_law = p.calls_left_law a ok es l early;
-        finishes = λ is_up_law on further f.
+        finishes = λ is_up on further f.
             record {
-              still_runs = p.still_runs a ok es l early is_up_law on further f;
-              none_told = p.none_told a ok es l early is_up_law on further f;
-              finished = p.finished a ok es l early is_up_law on further f;
-              last_told = p.last_told a ok es l early is_up_law on further f;
+              still_runs = p.still_runs a ok es l early is_up on further f;
+              none_told = p.none_told a ok es l early is_up on further f;
+              finished = p.finished a ok es l early is_up on further f;
+              last_told = p.last_told a ok es l early is_up on further f;
             };
         advances = p.advances a ok es l early;
       }
@@ -86,16 +86,16 @@ module _ (calls : (c : Call) (v : Volume) (o : Observations) → Outcome) where
   direct_calls_left kept a ok es l = (kept a ok es l).calls_left_law
 
   direct_runs_before : PromiseWithoutCacheOf calls → EveryDirectFurther calls StillRuns
-  direct_runs_before kept a ok es l is_up_law on further f = ((kept a ok es l).finishes is_up_law on further f).still_runs
+  direct_runs_before kept a ok es l is_up on further f = ((kept a ok es l).finishes is_up on further f).still_runs
 
   direct_told_before : PromiseWithoutCacheOf calls → EveryDirectFurther calls NoneTold
-  direct_told_before kept a ok es l is_up_law on further f = ((kept a ok es l).finishes is_up_law on further f).none_told
+  direct_told_before kept a ok es l is_up on further f = ((kept a ok es l).finishes is_up on further f).none_told
 
   direct_finished_then : PromiseWithoutCacheOf calls → EveryDirectFurther calls Finished
-  direct_finished_then kept a ok es l is_up_law on further f = ((kept a ok es l).finishes is_up_law on further f).finished
+  direct_finished_then kept a ok es l is_up on further f = ((kept a ok es l).finishes is_up on further f).finished
 
   direct_told_then : PromiseWithoutCacheOf calls → EveryDirectFurther calls LastTold
-  direct_told_then kept a ok es l is_up_law on further f = ((kept a ok es l).finishes is_up_law on further f).last_told
+  direct_told_then kept a ok es l is_up on further f = ((kept a ok es l).finishes is_up on further f).last_told
 
   pub parts_without_cache : PromiseWithoutCacheOf calls → PartsWithoutCache calls
   parts_without_cache kept =
@@ -120,12 +120,12 @@ module _ (calls : (c : Call) (v : Volume) (o : Observations) → Outcome) where
               bytes_stand = p.bytes_stand a ok es l first rest x piece e below whole;
             };
         calls_left_law = p.calls_left_law a ok es l;
-        finishes = λ is_up_law runs further f.
+        finishes = λ is_up runs further f.
             record {
-              still_runs = p.still_runs a ok es l is_up_law runs further f;
-              none_told = p.none_told a ok es l is_up_law runs further f;
-              finished = p.finished a ok es l is_up_law runs further f;
-              last_told = p.last_told a ok es l is_up_law runs further f;
+              still_runs = p.still_runs a ok es l is_up runs further f;
+              none_told = p.none_told a ok es l is_up runs further f;
+              finished = p.finished a ok es l is_up runs further f;
+              last_told = p.last_told a ok es l is_up runs further f;
             };
       }
 

@@ -14,7 +14,7 @@ use Rattle.medium.proofs.Theorems.{medium_laws}
 use Rattle.volume.specs.declared.Pending.{Pending}
 use Rattle.volume.specs.declared.Volume.{Volume}
 use Rattle.volume.specs.States.{recorded_only}
-use Rattle.promise.specs.Calls.{CutLeft, same_record, recordOld, recordNew}
+use Rattle.promise.specs.Calls.{CutLeft, same_record, record_old, record_new}
 use Rattle.promise.specs.Lists.{Drives, cut_left}
 use Rattle.promise.specs.Model.{no_block, Step, PlainVolume, unset, Model, stepped, CachedModel, nothing_pending, is_saved, with_step, model_or, with_call, left_model, after_cut}
 use Rattle.promise.proofs.Consistent.{Consistent, consistent_restarted, consistent_unset}
@@ -72,8 +72,8 @@ written_same save f e = rw e refl
 -- the model that a cut in a call leaves, by the record
 unfoldable pub left_after : (step : Step) (k : CachedModel) (left : CutLeft) → Model
 left_after step k same_record = k.current
-left_after step k recordOld = model_or (with_step step k).before_record k.current
-left_after step k recordNew = stepped step k.current
+left_after step k record_old = model_or (with_step step k).before_record k.current
+left_after step k record_new = stepped step k.current
 
 byte_count : (g : Geometry) (t : Store) (before after : List ℕ) → Stored g t (observe before) (observe after) → length after ≡ length before
 unfolding observe
@@ -206,14 +206,14 @@ module _ (sure : Bool) (g : Geometry) (v : Volume) (d : Drives) (k : CachedModel
     -- ---- a cut in the call's store
 
     old_record_law : StoresRecord v step u → Settled d k → Down g (observe d.landed)
-        (record { plain = unset no_block (left_after step k recordOld).plain; tally = (left_after step k recordOld).tally })
+        (record { plain = unset no_block (left_after step k record_old).plain; tally = (left_after step k record_old).tally })
     unfolding left_after with_step
     old_record_law s t = rw (s.a_record, unset_none k.current.plain) (landed_down t)
 
     new_record_law : (sector : List ℕ) → Settled d k → (heard : Option ℕ)
         → Up g u (observe (apply g (record_store sector) (seen d))) (stepped step k.current) heard
         → Down g (observe (apply g (record_store sector) d.landed))
-        (record { plain = unset no_block (left_after step k recordNew).plain; tally = (left_after step k recordNew).tally })
+        (record { plain = unset no_block (left_after step k record_new).plain; tally = (left_after step k record_new).tally })
     unfolding left_after
     new_record_law sector t heard up =
         rw (unset_none (stepped step k.current).plain)

@@ -9,7 +9,7 @@ use borrow.Author.Tests.{lt-ltb, le-ltb, eq-eqb, eqb-true}
 use Rattle.base.proofs.Booleans.{by_test, clash}
 use Rattle.layout.specs.History.{disk_count}
 use Rattle.layout.specs.Tally.{is_running, Tally, next_block, window_full, last_window}
-use Rattle.promise.specs.Calls.{Call, grow, grow_beyond_doubling, copy, checkpoint, advance, write, read, restart, flushed, settles, CutLeft, same_record, recordOld, recordNew, ended, cut_in}
+use Rattle.promise.specs.Calls.{Call, grow, grow_beyond_doubling, copy, checkpoint, advance, write, read, restart, flushed, settles, CutLeft, same_record, record_old, record_new, ended, cut_in}
 use Rattle.promise.specs.Model.{no_block, grown_tally, with_blocks, copied_tally, next_window_tally, finished_tally, recorded_tally, restarted_tally, checkpoint_finishes, Step, leaving, saving, recording, copying, checkpointing, advance_step, step_of, PlainVolume, start_plain, with_save, with_added, unset, Model, start_model, stepped, accepting, CachedModel, nothing_pending, is_saved, with_step, following, with_call, left_model, after_cut, model_after}
 use Rattle.promise.specs.SavesKept.{Saves, a_write, MayFinish, a_checkpoint, an_advance, Settles, a_restart, a_flushed, made, KeptButWritten, SavesKept}
 
@@ -240,17 +240,17 @@ cut_same : (c : Option Call) (k : CachedModel) → KeptButWritten (made c k) k.c
 unfolding model_after nothing_pending after_cut left_model
 cut_same c k = rw (sym (made_same c k)) (cut_keeps (with_call c k) k.current)
 
-cut_new : (c : Option Call) (k : CachedModel) → KeptButWritten (made c k) (made c k).current (model_after (cut_in c recordNew) k).current
+cut_new : (c : Option Call) (k : CachedModel) → KeptButWritten (made c k) (made c k).current (model_after (cut_in c record_new) k).current
 unfolding model_after nothing_pending after_cut left_model
 cut_new c k = rw (sym (made_same c k)) (cut_keeps (with_call c k) (with_call c k).current)
 
-cut_old : (c : Option Call) (k : CachedModel) (o : Model) → (made c k).before_record ≡ some o → KeptButWritten (made c k) o (model_after (cut_in c recordOld) k).current
+cut_old : (c : Option Call) (k : CachedModel) (o : Model) → (made c k).before_record ≡ some o → KeptButWritten (made c k) o (model_after (cut_in c record_old) k).current
 unfolding model_after nothing_pending after_cut left_model with_call
 cut_old c k o e =
     let f : (with_call c k).before_record ≡ some o = ap (λ (l : CachedModel). l.before_record) (made_same c k) ∙ e in
     rw (sym (made_same c k)) (rw f (cut_keeps (with_call c k) o))
 
-cut_old_none : (c : Option Call) (k : CachedModel) → (made c k).before_record ≡ none → KeptButWritten (made c k) k.current (model_after (cut_in c recordOld) k).current
+cut_old_none : (c : Option Call) (k : CachedModel) → (made c k).before_record ≡ none → KeptButWritten (made c k) k.current (model_after (cut_in c record_old) k).current
 unfolding model_after nothing_pending after_cut left_model with_call
 cut_old_none c k e =
     let f : (with_call c k).before_record ≡ none = ap (λ (l : CachedModel). l.before_record) (made_same c k) ∙ e in

@@ -86,7 +86,7 @@ keeps_early g v d k told (runs c ∷ es) i l (inl e) =
   where
     first : (c : Call) → c ≡ flushed → Next g k told true (up v d) (runs c)
     first c e = subst (λ (c : Call). Next g k told true (up v d) (runs c)) (sym e) (flushed_keeps g k told false v d i)
-keeps_early g v d k told (runs c ∷ es) i l (inr early) = keeps_early g _ _ _ _ es (runs_keeps g k told false v d i c l.0) l.1 early
+keeps_early g v d k told (runs c ∷ es) i l (inr early) = keeps_early g (outcome call_outcome c (up v d)).reply.state _ _ _ es (runs_keeps g k told false v d i c l.0) l.1 early
 
 pub early_before : (es rest : List Event) → NoEarlyCut (es ++ rest) → NoEarlyCut es
 unfolding NoEarlyCut
@@ -182,24 +182,24 @@ read_after g (down m) k told d x piece l below whole = absurd (not_restart l)
 pub left_after : (g : Geometry) (s : System) (k : CachedModel) (told : Option ℕ) → Invariant false g s k told → IsUp s → k.current.tally.mode ≡ growing
     → told ≡ some (calls_left_of k.current.tally)
 unfolding IsUp
-left_after g (up v d) k told i is_up_law on = rw i.up.same_tally (i.up.calls_told (state_grows i.up on))
-left_after g (down m) k told i is_up_law on = absurd is_up_law
+left_after g (up v d) k told i is_up on = rw i.up.same_tally (i.up.calls_told (state_grows i.up on))
+left_after g (down m) k told i is_up on = absurd is_up
 
 pub ending_after : (g : Geometry) (s : System) (k : CachedModel) (told : Option ℕ) → Invariant false g s k told → IsUp s → k.current.tally.mode ≡ growing
     → (es : List Event) → AllFurther call_outcome s es
     → Ending (finished_told call_outcome s es) (modelled (fed_all call_outcome s es) k).current.tally.mode (calls_left_of k.current.tally)
 unfolding IsUp
-ending_after g (up v d) k told i is_up_law on es f = ending es false g v d k told i on f
-ending_after g (down m) k told i is_up_law on es f = absurd is_up_law
+ending_after g (up v d) k told i is_up on es f = ending es false g v d k told i on f
+ending_after g (down m) k told i is_up on es f = absurd is_up
 
 pub advances_after : (g : Geometry) (s : System) (k : CachedModel) (told : Option ℕ) → Invariant false g s k told → IsUp s → k.current.tally.mode ≡ growing
     → is_accepted call_outcome advance (after call_outcome s (runs flushed)) ≡ true
 unfolding IsUp after outcome call_outcome memory_of
-advances_after g (up v d) k told i is_up_law on =
+advances_after g (up v d) k told i is_up on =
     let j = flushed_keeps g k told false v d i in
     let kept = (quiet_by call_outcome (up v d) flushed (unfold is_advance in refl) (λ t. unfold step_of leaving in refl)).tally_kept k in
     advance_after_flushed g _ _ _ _ j (ap (λ (t : Tally). t.mode) kept ∙ on) (flushed_pending false g v d k told i)
-advances_after g (down m) k told i is_up_law on = absurd is_up_law
+advances_after g (down m) k told i is_up on = absurd is_up
 
 -- ---- demand 3
 
@@ -246,8 +246,8 @@ promise a ok es l early =
     let i = invariant_after a ok es l early in
     record {
       reads = λ before rest x piece e below whole. read_right a ok before rest x piece (subst (Lawful call_outcome (begin a)) e l) (subst NoEarlyCut e early) below whole;
-      calls_left_law = λ is_up_law on. left_after (start_geometry a) (system_after call_outcome a es) (cached_after a es) _ i is_up_law (running_grows _ on);
-      finishes = λ is_up_law on further f.
-          finishing a es further _ (ending_after (start_geometry a) (system_after call_outcome a es) (cached_after a es) _ i is_up_law (running_grows _ on) further f);
-      advances = λ is_up_law on. advances_after (start_geometry a) (system_after call_outcome a es) (cached_after a es) _ i is_up_law (running_grows _ on);
+      calls_left_law = λ is_up on. left_after (start_geometry a) (system_after call_outcome a es) (cached_after a es) _ i is_up (running_grows _ on);
+      finishes = λ is_up on further f.
+          finishing a es further _ (ending_after (start_geometry a) (system_after call_outcome a es) (cached_after a es) _ i is_up (running_grows _ on) further f);
+      advances = λ is_up on. advances_after (start_geometry a) (system_after call_outcome a es) (cached_after a es) _ i is_up (running_grows _ on);
     }

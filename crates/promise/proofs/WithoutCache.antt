@@ -128,8 +128,8 @@ ending_from : (g : Geometry) (s : System) (k : CachedModel) (told : Option ℕ) 
     → {further : List DirectEvent} → DirectFurther further
     → Ending (advances_told call_outcome s further) (modelled (fed_all call_outcome s (flushed_after further)) k).current.tally.mode (calls_left_of k.current.tally)
 unfolding IsUp
-ending_from g (up v d) k told i clear is_up_law on f = direct_ending f g v d k told i clear on
-ending_from g (down m) k told i clear is_up_law on f = absurd is_up_law
+ending_from g (up v d) k told i clear is_up on f = direct_ending f g v d k told i clear on
+ending_from g (down m) k told i clear is_up on f = absurd is_up
 
 -- ---- demand 3 of document 01
 
@@ -162,8 +162,8 @@ module _ (a : Start) (ok : accepted (formatted a).reply.answer ≡ true) (es : L
   finishing : IsUp (system_without call_outcome a es) → is_running (model_without call_outcome a es).tally.mode ≡ true → (further : List DirectEvent) → DirectFurther further
       → DirectFinishing call_outcome a es further (calls_left_of (model_without call_outcome a es).tally)
   unfolding model_of system_after
-  finishing is_up_law on further f =
-      let e = ending_from (start_geometry a) (system_without call_outcome a es) (cached_after a (from_format es)) _ all_keep all_flushed is_up_law (running_grows _ on) f in
+  finishing is_up on further f =
+      let e = ending_from (start_geometry a) (system_without call_outcome a es) (cached_after a (from_format es)) _ all_keep all_flushed is_up (running_grows _ on) f in
       let joined : model_without call_outcome a (es ++ further) ≡ (modelled (fed_all call_outcome (system_without call_outcome a es) (flushed_after further)) (cached_after a (from_format es))).current =
       ap (model_of call_outcome a) (from_append es further) ∙ ap (λ (k : CachedModel). k.current) (modelled_append call_outcome (begin a) (start_cached a) (from_format es) (flushed_after further)) in
       record {

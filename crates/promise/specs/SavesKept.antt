@@ -4,7 +4,7 @@ use Rattle.std.specs.Prelude.{ℕ, ◌*◌, ◌≤◌, ◌<◌, ◌≡◌, true,
 use Rattle.std.proofs.Math.Option.{Option, none, some}
 use Rattle.layout.specs.History.{disk_count}
 use Rattle.layout.specs.Tally.{is_running, Tally, window_full, last_window}
-use Rattle.promise.specs.Calls.{Call, checkpoint, advance, write, restart, flushed, CutLeft, same_record, recordOld, recordNew, ended, cut_in}
+use Rattle.promise.specs.Calls.{Call, checkpoint, advance, write, restart, flushed, CutLeft, same_record, record_old, record_new, ended, cut_in}
 use Rattle.promise.specs.Model.{step_of, Model, start_model, CachedModel, is_saved, model_after}
 
 -- the block that a call saves
@@ -61,9 +61,9 @@ pub record SavesKept : Type 0 where
   -- a cut keeps every other block, as the record that it leaves has it (where no record store is pending nothing is taken back); and nothing is
   -- pending then
   pub cut_same : (c : Option Call) (k : CachedModel) → KeptButWritten (made c k) k.current (model_after (cut_in c same_record) k).current
-  pub cut_new : (c : Option Call) (k : CachedModel) → KeptButWritten (made c k) (made c k).current (model_after (cut_in c recordNew) k).current
-  pub cut_old : (c : Option Call) (k : CachedModel) (o : Model) → (made c k).before_record ≡ some o → KeptButWritten (made c k) o (model_after (cut_in c recordOld) k).current
-  pub cut_old_none : (c : Option Call) (k : CachedModel) → (made c k).before_record ≡ none → KeptButWritten (made c k) k.current (model_after (cut_in c recordOld) k).current
+  pub cut_new : (c : Option Call) (k : CachedModel) → KeptButWritten (made c k) (made c k).current (model_after (cut_in c record_new) k).current
+  pub cut_old : (c : Option Call) (k : CachedModel) (o : Model) → (made c k).before_record ≡ some o → KeptButWritten (made c k) o (model_after (cut_in c record_old) k).current
+  pub cut_old_none : (c : Option Call) (k : CachedModel) → (made c k).before_record ≡ none → KeptButWritten (made c k) k.current (model_after (cut_in c record_old) k).current
   pub cut_settles : (c : Option Call) (left : CutLeft) (k : CachedModel) (x : ℕ) → (model_after (cut_in c left) k).written x ≡ false
   pub cut_record : (c : Option Call) (left : CutLeft) (k : CachedModel) → (model_after (cut_in c left) k).before_record ≡ none
   -- the tally: "at w = R the growth is finished", so where the last window is full and not before; "only the recorded blocks are copied" after restart

@@ -9,7 +9,7 @@ use native.Mathlib.Omega.{arith}
 use lib.ListN.{length, take, drop, length-replicate}
 use Rattle.layout.specs.Tally.{is_running, calls_left_of}
 use Rattle.volume.specs.Answers.{number, accepted}
-use Rattle.promise.specs.Calls.{Call, grow, grow_beyond_doubling, advance, write, read, restart, flushed, is_advance, recordNew, Fed, ended, cut_in}
+use Rattle.promise.specs.Calls.{Call, grow, grow_beyond_doubling, advance, write, read, restart, flushed, is_advance, record_new, Fed, ended, cut_in}
 use Rattle.promise.specs.Lists.{Event, IsUp, runs, outcome, call_outcome, after, NoEarlyCut, Lawful, AllFurther, an_advance, a_flushed, after_all, fed_all, finished_told}
 use Rattle.promise.specs.Model.{Model}
 use Rattle.promise.specs.Promise.{Start, Finishing, formatted, begin, system_after, model_of}
@@ -38,7 +38,7 @@ abbrev saved_fed : List Fed
 saved_fed = ended flushed true ∷ ended (write 0 (block_of 1)) true ∷ ended (write 1 (block_of 2)) true ∷ ended flushed true ∷ []
 
 abbrev running_fed : List Fed
-running_fed = saved_fed ++ (ended (grow 3) false ∷ cut_in (some (grow_beyond_doubling 3)) recordNew ∷ ended restart true ∷ [])
+running_fed = saved_fed ++ (ended (grow 3) false ∷ cut_in (some (grow_beyond_doubling 3)) record_new ∷ ended restart true ∷ [])
 
 abbrev three_fed : List Fed
 three_fed = ended advance true ∷ ended advance true ∷ ended flushed true ∷ ended advance true ∷ []
@@ -245,7 +245,7 @@ running_direct_fed =
     ∷ ended flushed true
     ∷ ended (grow 3) false
     ∷ ended flushed true
-    ∷ cut_in (some (grow_beyond_doubling 3)) recordNew
+    ∷ cut_in (some (grow_beyond_doubling 3)) record_new
     ∷ ended restart true
     ∷ ended flushed true
     ∷ []

@@ -17,7 +17,7 @@ use Rattle.layout.specs.History.{old_count, added_count}
 use Rattle.layout.specs.Tally.{Tally, Mode, not_growing, growing, is_running, calls_left_of, next_block, window_full, last_window}
 use Rattle.layout.specs.Windows.{windows, uncopied, calls_left}
 use Rattle.volume.specs.Answers.{accepted}
-use Rattle.promise.specs.Calls.{Call, grow, grow_beyond_doubling, copy, checkpoint, advance, write, read, restart, flushed, settles, is_advance, CutLeft, same_record, recordOld, recordNew, Fed, ended, cut_in}
+use Rattle.promise.specs.Calls.{Call, grow, grow_beyond_doubling, copy, checkpoint, advance, write, read, restart, flushed, settles, is_advance, CutLeft, same_record, record_old, record_new, Fed, ended, cut_in}
 use Rattle.promise.specs.Lists.{Event, runs, cut, System, is_accepted, after, fed, after_all, fed_all, an_advance, a_write, a_read, a_flushed, AllFurther, tellings, finished_told}
 use Rattle.promise.specs.Model.{start_tally, grown_tally, with_blocks, copied_tally, next_window_tally, finished_tally, recorded_tally, restarted_tally, leaving, saving, recording, advance_step, step_of, Model, start_model, stepped, accepting, CachedModel, nothing_pending, with_step, following, with_call, model_or, left_model, after_cut, model_after, modelled}
 use Rattle.promise.specs.Promise.{Start, formatted, begin, system_after, model_of}
@@ -114,8 +114,8 @@ inside_or (some o) other i j = i
 inside_left : (c : Option Call) (left : CutLeft) (k : CachedModel) → InsideAll k → Inside (left_model c left k).tally
 unfolding left_model
 inside_left c same_record k i = i.now
-inside_left c recordOld k i = inside_or (with_call c k).before_record k.current (inside_call c k i).before i.now
-inside_left c recordNew k i = (inside_call c k i).now
+inside_left c record_old k i = inside_or (with_call c k).before_record k.current (inside_call c k i).before i.now
+inside_left c record_new k i = (inside_call c k i).now
 
 inside_all : (fs : List Fed) (k : CachedModel) → InsideAll k → InsideAll (modelled fs k)
 unfolding modelled model_after nothing_pending after_cut

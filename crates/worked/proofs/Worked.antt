@@ -9,7 +9,7 @@ use native.Mathlib.Omega.{arith}
 use lib.ListN.{length, take, drop, replicate, length-replicate}
 use Rattle.layout.specs.Tally.{is_running, calls_left_of}
 use Rattle.volume.specs.Answers.{accepted}
-use Rattle.promise.specs.Calls.{grow, copy, advance, write, read, restart, flushed, is_advance, same_record, recordOld, Fed, ended, cut_in}
+use Rattle.promise.specs.Calls.{grow, copy, advance, write, read, restart, flushed, is_advance, same_record, record_old, Fed, ended, cut_in}
 use Rattle.promise.specs.Lists.{Event, IsUp, runs, outcome, call_outcome, after, NoEarlyCut, Lawful, AllFurther, an_advance, a_write, a_read, a_flushed, a_refused, after_all, fed, fed_all, finished_told}
 use Rattle.promise.specs.Model.{Model}
 use Rattle.promise.specs.Promise.{Finishing, formatted, begin, system_after, model_of}
@@ -49,7 +49,7 @@ first_fed =
     ∷ ended flushed true
     ∷ ended (grow 2) true
     ∷ ended (write 0 (block_of 4)) false
-    ∷ cut_in none recordOld
+    ∷ cut_in none record_old
     ∷ ended restart true
     ∷ ended (grow 2) true
     ∷ ended flushed true
@@ -72,7 +72,7 @@ abbrev finished_fed : List Fed
 finished_fed = first_fed ++ further_fed
 
 abbrev all_fed : List Fed
-all_fed = finished_fed ++ (cut_in none recordOld ∷ ended restart true ∷ [])
+all_fed = finished_fed ++ (cut_in none record_old ∷ ended restart true ∷ [])
 
 abbrev worked_fed : List Fed
 worked_fed = all_fed ++ (ended (read 0 (block_of 0)) true ∷ [])

@@ -7,7 +7,7 @@ use mathlib.Core.Path.{◌≡◌, refl, ap, ◌∙◌, subst}
 use native.Mathlib.Omega.{arith}
 use lib.ListN.{length, take, drop, replicate, length-replicate}
 use Rattle.layout.specs.Tally.{is_running, calls_left_of}
-use Rattle.promise.specs.Calls.{grow, copy, checkpoint, advance, write, read, restart, flushed, is_advance, same_record, recordOld, recordNew, Fed, ended, cut_in}
+use Rattle.promise.specs.Calls.{grow, copy, checkpoint, advance, write, read, restart, flushed, is_advance, same_record, record_old, record_new, Fed, ended, cut_in}
 use Rattle.promise.specs.Lists.{call_outcome, after, after_all, IsUp, outcome, Lawful, fed_all, last_reported}
 use Rattle.promise.specs.Model.{Model}
 use Rattle.promise.specs.Promise.{begin, system_after}
@@ -34,7 +34,7 @@ first_fed =
     ∷ ended flushed true
     ∷ ended (write 0 (block_of 3)) true
     ∷ ended flushed true
-    ∷ cut_in (some (grow 2)) recordNew
+    ∷ cut_in (some (grow 2)) record_new
     ∷ ended restart true
     ∷ ended flushed true
     ∷ []
@@ -48,7 +48,7 @@ cut_fed =
     ∷ ended flushed true
     ∷ ended (write 0 (block_of 4)) false
     ∷ ended flushed true
-    ∷ cut_in (some checkpoint) recordOld
+    ∷ cut_in (some checkpoint) record_old
     ∷ ended restart true
     ∷ ended flushed true
     ∷ []
@@ -64,7 +64,7 @@ copied_fed =
     ∷ []
 
 abbrev last_fed : List Fed
-last_fed = first_fed ++ cut_fed ++ copied_fed ++ (cut_in (some advance) recordNew ∷ ended restart true ∷ ended flushed true ∷ [])
+last_fed = first_fed ++ cut_fed ++ copied_fed ++ (cut_in (some advance) record_new ∷ ended restart true ∷ ended flushed true ∷ [])
 
 abbrev direct_fed : List Fed
 direct_fed = last_fed ++ (ended (read 0 (block_of 0)) true ∷ ended flushed true ∷ [])
