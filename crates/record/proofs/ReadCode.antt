@@ -1,11 +1,9 @@
 -- What the code that reads a record meets, test by test.
 use Prim.Native.Nat.{ℕ, ◌+◌, ◌-◌, ◌*◌, ◌<◌}
-use mathlib.Core.Path.{◌≡◌, refl, ◌∙◌}
+use mathlib.Core.Path.{◌≡◌, refl, sym, ap, ◌∙◌}
 use mathlib.Core.Bool.{Bool, true, false}
-use mathlib.Core.Logic.{◌⊎◌, ⊎_elim}
 use mathlib.Core.List.{List, ◌++◌, append-nil}
 use native.Mathlib.Omega.{arith}
-use denote.Enum.Declared.{tag_of}
 use borrow.Author.Tests.{eq-eqb, ne_eqb}
 use lib.Dec.{eqb}
 use lib.ListN.{length, take, drop, get_or, replicate}
@@ -16,7 +14,6 @@ use Rattle.record.specs.declared.Column.{Column}
 use Rattle.record.specs.declared.Column.TheVariants.{Number, Blank, NotANumber}
 use Rattle.record.specs.Decimal.{space, zero_digit, column_width, read_column, value_of}
 use Rattle.record.specs.Sector.{column_count, mark_count, one_digit, line_feed, is_blank, is_number, blank_as_zero, column_at, read_field, growths_read, is_mark, fields_hold, marks_hold, spaces_hold, is_record, numbers_found, marks_found, read_numbers, read_marks, no_record, read_record}
-use Rattle.record.specs.contracts.Column.{the_type}
 use Rattle.record.proofs.RecordTests.{Holds, holds, growths_due}
 
 -- ---- one field, mark or space
@@ -55,16 +52,16 @@ unfolding read_field
 blank_field_read bytes t i c d h e f = rw (e, ← f, h, lent_width i)
 
 -- what the else of a `let Column::Blank` knows
-pub no_blank : (c : Column) → (tag_of the_type c ≡ 0) ⊎ (tag_of the_type c ≡ 2) → NotANumber ≡ blank_as_zero c
+pub no_blank : (c : Column) → (c ≡ Blank → ⊥) → NotANumber ≡ blank_as_zero c
 no_blank (Number n) o = refl
-no_blank Blank o = ⊎_elim (λ e. absurd (omega arith)) (λ e. absurd (omega arith)) o
+no_blank Blank o = absurd (o refl)
 no_blank NotANumber o = refl
 
 -- ---- the numbers
 
 -- what the else of a `let Column::Number(..)` knows
-pub no_number : (c : Column) → (tag_of the_type c ≡ 1) ⊎ (tag_of the_type c ≡ 2) → is_number c ≡ false
-no_number (Number n) o = ⊎_elim (λ e. absurd (omega arith)) (λ e. absurd (omega arith)) o
+pub no_number : (c : Column) → ((n : ℕ) → c ≡ Number n → ⊥) → is_number c ≡ false
+no_number (Number n) o = absurd (o n refl)
 no_number Blank o = refl
 no_number NotANumber o = refl
 
@@ -112,6 +109,10 @@ refused bytes f =
 pub growths_number : (bytes : List ℕ) (t : ℕ) → fields_hold bytes t ≡ true → is_number (column_at bytes 2) ≡ true
 unfolding fields_hold read_field
 growths_number bytes t h = rw (growths_due t) at (every_use (number_at bytes t) column_count h 2 (omega arith))
+
+-- the number of growths, as the code finds it
+pub growths_number_read : (bytes : List ℕ) (c : Column) (t : ℕ) → c ≡ column_at bytes 2 → c ≡ Number t → growths_read bytes ≡ t
+growths_number_read bytes c t e f = ap value_of (sym e ∙ f)
 
 -- the numbers and the marks are refused by their tests only
 pub numbers_refusal : (bytes : List ℕ) (t : ℕ) → fields_hold bytes t ≡ true → (read_numbers bytes t).refusal ≡ 0

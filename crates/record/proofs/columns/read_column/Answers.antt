@@ -1,0 +1,50 @@
+-- `read_column` meets its contract.
+use Prim.Native.Nat.{◌^◌, ◌≤◌}
+use mathlib.Core.Path.{◌≡◌, refl, sym, ◌∙◌}
+use native.Mathlib.Nat.{pow-le-pow_right}
+use native.Mathlib.Omega.{arith}
+use borrow.Author.Tests.{eq-eqb, ne_eqb}
+use lib.Dec.{lit<}
+use lib.ListN.{length, take}
+use lib.Seq.{take_all}
+use Rattle.record.specs.Decimal.{column_fold, read_column}
+use Rattle.record.proofs.Folds.{fold_next, fold_small}
+use Rattle.record.proofs.columns.read_column.Goals as goal
+
+pub returns-then-column-ne10 : goal.returns-then-column-ne10
+unfolding read_column
+returns-then-column-ne10 c = simp (ne_eqb _ _ c.if-column-ne10.true)
+
+pub loop-i-init : goal.loop-i-init
+unfolding column_fold
+loop-i-init c = (omega arith, refl)
+
+pub bounds-column-i : goal.bounds-column-i
+bounds-column-i c = omega arith
+
+pub column_step-found-requires : goal.column_step-found-requires
+column_step-found-requires c =
+    let lp = c.loop-i in
+    let column = c.args.column.now in
+    let h : 10 ^ lp.i ≤ 10 ^ 10 = pow-le-pow_right (lit< tt) lp.invariant.0 in
+    rw lp.invariant.1 (omega (arith, fold_small column lp.i (omega arith), h))
+
+pub overflow_add-i : goal.overflow_add-i
+overflow_add-i c = omega arith
+
+pub loop-i-smaller : goal.loop-i-smaller
+loop-i-smaller c = omega arith
+
+pub loop-i-preserved : goal.loop-i-preserved
+loop-i-preserved c =
+    let lp = c.loop-i in
+    let column = c.args.column.now in
+    (omega arith, c.column_step-found.ensures ∙ rw lp.invariant.1 (sym (fold_next column lp.i (omega arith))))
+
+pub returns : goal.returns
+unfolding read_column
+returns c =
+    let column = c.args.column.now in
+    let e : length column ≡ 10 = omega arith in
+    let all : take c.loop-i.i column ≡ column = take_all c.loop-i.i column (omega arith) in
+    rw (eq-eqb _ _ e) (c.loop-i.invariant.1 ∙ rw all)

@@ -1,0 +1,12 @@
+-- `put_ending` meets its contract.
+use native.Mathlib.Omega.{arith}
+use lib.ListN.{replicate, length-replicate}
+use Rattle.record.specs.Decimal.{space}
+use Rattle.record.proofs.WriteCode.{full_part_back, ending_parts}
+use Rattle.record.proofs.write.put_ending.Goals as goal
+
+pub returns : goal.returns
+returns c =
+    let m = c.args.page.now in
+    rw (full_part_back (λ n. replicate n space) (λ n. length-replicate n space) m c.fill.new.page 194 317 (omega arith) c.fill.ensures)
+    (ending_parts m)
