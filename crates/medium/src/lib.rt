@@ -62,7 +62,7 @@ fn copy_all(src: &[u8], dst: &mut [u8])
 
 // Stores a piece at a spot.
 pub fn store_block(medium: &mut [u8], g: Geometry, p: Spot, piece: &[u8])
-    requires size_nonzero { (0 < g.size) × (g.size ≤ most_size) }
+    requires size_in_range { (0 < g.size) × (g.size ≤ most_size) }
     requires inside { Inside g (length medium.old) p }
     requires piece_len { length piece.now ≡ g.size }
     ensures { medium.new ≡ apply g (block_store p piece.now) medium.old }
@@ -74,7 +74,7 @@ pub fn store_block(medium: &mut [u8], g: Geometry, p: Spot, piece: &[u8])
 
 // Fills a piece from a spot.
 pub fn fetch_block(medium: &[u8], g: Geometry, p: Spot, piece: &mut [u8])
-    requires size_nonzero { (0 < g.size) × (g.size ≤ most_size) }
+    requires size_in_range { (0 < g.size) × (g.size ≤ most_size) }
     requires inside { Inside g (length medium.now) p }
     requires piece_len { length piece.old ≡ g.size }
     ensures { piece.new ≡ (observe medium.now).bytes_at g p }
@@ -87,8 +87,8 @@ pub fn fetch_block(medium: &[u8], g: Geometry, p: Spot, piece: &mut [u8])
 // Copies n bytes from one place of the medium to another; two loops for the same reason.
 fn copy_bytes(medium: &mut [u8], from: usize, to: usize, n: usize)
     requires n_le_most_size { n ≤ most_size }
-    requires n_in_bounds { from + n ≤ length medium.old }
-    requires n_in_bounds_2 { to + n ≤ length medium.old }
+    requires from_in_bounds { from + n ≤ length medium.old }
+    requires to_in_bounds { to + n ≤ length medium.old }
     ensures { medium.new ≡ sets medium.old to (take n (drop from medium.old)) }
 {
     let mut held = [0u8; MOST_SIZE];
@@ -106,9 +106,9 @@ fn copy_bytes(medium: &mut [u8], from: usize, to: usize, n: usize)
 
 // Copies the block at one spot to another.
 pub fn copy_block(medium: &mut [u8], g: Geometry, from: Spot, to: Spot)
-    requires size_nonzero { (0 < g.size) × (g.size ≤ most_size) }
-    requires inside { Inside g (length medium.old) from }
-    requires inside_2 { Inside g (length medium.old) to }
+    requires size_in_range { (0 < g.size) × (g.size ≤ most_size) }
+    requires from_inside { Inside g (length medium.old) from }
+    requires to_inside { Inside g (length medium.old) to }
     ensures { medium.new ≡ apply g (block_store to ((observe medium.old).bytes_at g from)) medium.old }
 {
     let source = place_of(g, from);

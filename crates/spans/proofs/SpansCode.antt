@@ -12,7 +12,7 @@ use Rattle.base.proofs.Booleans.{same_test, by_test}
 use Rattle.spans.specs.declared.Span.{Span}
 use Rattle.spans.specs.declared.Spans.{Spans}
 use Rattle.spans.specs.Spans.{most_reached, reaches, short, in_span, spans_hold, owned_by, allowed, no_spans, made, span_words, span_at, spans_from}
-use Rattle.spans.proofs.Rule.{Apart, first_empty, second_empty, first_below, second_below, Rule, rule_of, of_rule}
+use Rattle.spans.proofs.Rule.{Apart, first_empty, second_empty, first_below, second_below, rule_of, of_rule}
 
 -- ---- one span
 

@@ -1,7 +1,7 @@
 -- `span_laws`.
 use Prim.Native.Nat.{ℕ, zero, suc, ◌+◌, ◌-◌, ◌≤◌, ◌<◌}
 use mathlib.Core.Path.{◌≡◌, refl, ap, ◌∙◌}
-use mathlib.Core.Bool.{Bool, true, false, ◌&&◌, ◌||◌, and-false, false≢true}
+use mathlib.Core.Bool.{Bool, true, false, ◌&&◌, and-false, false≢true}
 use mathlib.Core.Logic.{◌≢◌}
 use native.Mathlib.Omega.{arith}
 use lib.Dec.{eqb, leb, ltb}
@@ -9,10 +9,10 @@ use borrow.Author.Tests.{eqb-true, eqb-false, leb-true, leb-false, ltb-true, le-
 use Rattle.base.proofs.Booleans.{by_test, cond_cases, and_left, and_right, and_both}
 use Rattle.spans.specs.declared.Span.{Span}
 use Rattle.spans.specs.declared.Spans.{Spans}
-use Rattle.spans.specs.Spans.{most_reached, reaches, short, in_span, apart, spans_hold, owned_by, allowed, no_spans, made}
+use Rattle.spans.specs.Spans.{reaches, short, in_span, apart, spans_hold, owned_by, allowed, no_spans, made}
 use Rattle.spans.specs.Laws.{PlacedIn, SpansKeep, SpanLaws}
 use Rattle.spans.proofs.Cases.{span_cases}
-use Rattle.spans.proofs.Rule.{Apart, first_empty, second_empty, first_below, second_below, Rule, rule_of, of_rule}
+use Rattle.spans.proofs.Rule.{Apart, first_empty, second_empty, first_below, second_below, rule_of, of_rule}
 
 -- ---- the spans share no block
 

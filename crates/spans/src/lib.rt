@@ -49,7 +49,7 @@ fn hold_in_order(words: &[usize], lower: usize, upper: usize) -> bool
     requires words_len { length words.now ≡ span_words }
     requires lower_bound { lower < 3 }
     requires upper_bound { upper < 3 }
-    requires lower_bound_2 { get_or words.now lower 0 ≤ get_or words.now upper 0 }
+    requires in_order { get_or words.now lower 0 ≤ get_or words.now upper 0 }
     ensures { result ≡ spans_hold (record { zero = span_at words.now lower; one = span_at words.now upper }) }
 {
     let first = words[upper];
