@@ -2,10 +2,8 @@
 
 // Fills the bytes so that byte k holds k % 251.
 pub fn number_bytes(bytes: &mut [u8]) {
-    let mut k = 0;
-    while k < bytes.len() {
+    for k in 0..bytes.len() {
         bytes[k] = (k % 251) as u8;
-        k += 1;
     }
 }
 
@@ -18,7 +16,7 @@ pub fn put_bytes(page: &mut [u8], at: usize, piece: &[u8]) {
         return;
     }
     let end = at + piece.len();
-    bytes::copy(piece, &mut page[at..end]);
+    page[at..end].copy_from_slice(piece);
 }
 
 // Do both have a byte k, and the same one.
@@ -34,25 +32,21 @@ fn is_same(before: &[u8], after: &[u8], k: usize) -> bool {
 
 // The first byte that changed; the length if none did.
 pub fn first_changed(before: &[u8], after: &[u8]) -> usize {
-    let mut k = 0;
-    while k < after.len() {
+    for k in 0..after.len() {
         if !is_same(before, after, k) {
             return k;
         }
-        k += 1;
     }
-    k
+    after.len()
 }
 
 // The last byte that changed; 0 if none did.
 pub fn last_changed(before: &[u8], after: &[u8]) -> usize {
     let mut last = 0;
-    let mut k = 0;
-    while k < after.len() {
+    for k in 0..after.len() {
         if !is_same(before, after, k) {
             last = k;
         }
-        k += 1;
     }
     last
 }

@@ -1,4 +1,4 @@
-// What the programs share: words and numbers on standard output, lent buffers, and the numbers of a line of text. What is
+// What the programs share: words and numbers on an output, lent buffers, and the numbers of a line of text. What is
 // printed is tested, not proved; the functions here are proved safe.
 #![tactic(auto)]
 
