@@ -58,6 +58,7 @@ after_flushed : (es rest : List StationEvent) → CallsOnly es → NoEarlyCut (e
 unfolding NoEarlyCut events_of event_of call_of rack_call
 after_flushed [] rest no_call = inl refl
 after_flushed (ends c ∷ es) rest (one_more h) = inr (after_flushed es rest h)
+after_flushed (fails c left ∷ es) rest h = elim h [ ]
 
 pub early_lists_covered : EarlyListsCovered
 early_lists_covered = record { after_flushed = after_flushed }

@@ -116,6 +116,12 @@ same_accepted c s t e m =
     subst (λ (w : Volume). (call_outcome c (memory_of s) (observe (medium_of s))).reply ≡ (call_outcome c w (observe (medium_of t))).reply) e
     (same_reply c (memory_of s) (observe (medium_of s)) (observe (medium_of t)) m)
 
+landed_alike : (c : Call) (s t : System) → Alike s t → Same (observe (medium_of s)) (observe (medium_of t))
+    → (b : Bool) → Same (observe (drives_by b c s).landed) (observe (drives_by b c t).landed)
+unfolding drives_by medium_of drives_of
+landed_alike c s t a m true = m
+landed_alike c s t a m false = a.landed
+
 pub runs_alike : (c : Call) (s t : System) → Alike s t → Same (observe (medium_of s)) (observe (medium_of t))
     → Alike (after call_outcome s (runs c)) (after call_outcome t (runs c))
 unfolding after drives_after drives_by medium_of drives_of memory_of outcome
@@ -125,15 +131,11 @@ runs_alike c s t a m =
     (up q.state (drives_by (settles c && accepted q.answer) c t))) r
     (go (settles c && accepted (outcome call_outcome c s).reply.answer) (outcome call_outcome c s).reply.state)
   where
-    landed : (b : Bool) → Same (observe (drives_by b c s).landed) (observe (drives_by b c t).landed)
-    landed true = unfold drives_by in m
-    landed false = unfold drives_by in a.landed
-
     go : (b : Bool) (v : Volume) → Alike (up v (drives_by b c s)) (up v (drives_by b c t))
     go b v =
         record {
           memory = refl;
-          landed = unfold drives_of in landed b;
+          landed = unfold drives_of in landed_alike c s t a m b;
           long = unfold medium_of drives_of in seen_by b c s ∙ a.long ∙ sym (seen_by b c t);
           up_too = λ u. unfold IsUp in tt;
           up_first = λ u. unfold IsUp in tt;
