@@ -62,6 +62,9 @@ pub record ReadGrowth (s t : ℕ) (l : List ℕ) (g : GrowthDisks) : Type 0 wher
   pub grown : 0 < t
   pub growth : g ≡ newest_growth (history t l)
 
+pub read_growth : {s t : ℕ} (l : List ℕ) {g : GrowthDisks} → Limits s (history t l) → 0 < t → g ≡ newest_growth (history t l) → ReadGrowth s t l g
+read_growth l a o e = record { limits = a; grown = o; growth = e }
+
 module _ {s t : ℕ} {l : List ℕ} {g : GrowthDisks} (r : ReadGrowth s t l g) where
   pub some_old : 0 < old_count (history t l)
   some_old = newest_old s t l r.grown r.limits
