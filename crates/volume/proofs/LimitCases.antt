@@ -4,7 +4,7 @@ use mathlib.Core.Bool.{true, false}
 use mathlib.Core.List.{[], ◌∷◌, map}
 use Rattle.base.specs.Below.{every}
 use Rattle.base.specs.Refusals.{refusal}
-use Rattle.layout.specs.History.{history, disk_count, earlier, old_count, added_count, rising}
+use Rattle.layout.specs.History.{history, disk_count, rising}
 use Rattle.marks.specs.Marks.{no_marks, within, zeros_after, at_rest}
 use Rattle.base.specs.Bits.{bits}
 use Rattle.medium.specs.Medium.{bytes_needed}

@@ -3,9 +3,8 @@ use Prim.Native.Nat.{ℕ, ◌≤◌, ◌<◌}
 use mathlib.Core.Path.{◌≡◌, refl, sym, ap, ◌∙◌}
 use mathlib.Core.Bool.{Bool, true, false, cond}
 use mathlib.Core.List.{List, [], ◌∷◌}
-use mathlib.Core.Logic.{◌≢◌, ◌⊎◌, ⊎_elim}
+use mathlib.Core.Logic.{◌≢◌}
 use native.Mathlib.Omega.{arith}
-use denote.Enum.Declared.{tag_of}
 use lib.ListN.{length, take}
 use borrow.Author.Tests.{le-ltb, lt-ltb, eq-eqb, ne_eqb}
 use Rattle.base.specs.Refusals.{refusal}
@@ -19,7 +18,6 @@ use Rattle.volume.specs.Calls.{Outcome, refused, reporting, restart_effect, too_
 use Rattle.volume.specs.Records.{state_read, is_sound_record}
 use Rattle.volume.specs.Sound.{sound}
 use Rattle.volume.specs.States.{geometry, disks, zeros}
-use Rattle.volume.specs.contracts.Answer.{the_type}
 use Rattle.volume.proofs.Judged.{judged_cases, accepted_when}
 
 -- bytes that are no record, and bytes that are the record of a state
@@ -56,17 +54,14 @@ reply_refused o r k e told =
     e (rw e at told)
 
 -- what is known where the answer is not `Refused(_)`
-pub reply_taken : (o : Observations) (r : Reply) → r ≡ (sector_outcome o).reply
-    → (tag_of the_type r.answer ≡ 1) ⊎ ((tag_of the_type r.answer ≡ 2) ⊎ (tag_of the_type r.answer ≡ 3))
+pub reply_taken : (o : Observations) (r : Reply) → r ≡ (sector_outcome o).reply → ((k : ℕ) → r.answer ≢ Refused k)
     → (refusal (sector_table o) ≡ 0) × (r ≡ (reporting (state_read o.sector) no_store).reply)
 unfolding sector_outcome restart_effect refused
 reply_taken o r e other =
     let taken : refusal (sector_table o) ≡ 0 =
-    judged_cases
-    (λ out. (tag_of the_type out.reply.answer ≡ 1) ⊎ ((tag_of the_type out.reply.answer ≡ 2) ⊎ (tag_of the_type out.reply.answer ≡ 3))
-    → refusal (sector_table o) ≡ 0)
+    judged_cases (λ out. ((k : ℕ) → out.reply.answer ≢ Refused k) → refusal (sector_table o) ≡ 0)
     (sector_table o) (λ k. refused zeros k []) (reporting (state_read o.sector) no_store) (λ h _. h)
-    (λ _ t. ⊎_elim (λ t. absurd (omega arith)) (⊎_elim (λ t. absurd (omega arith)) (λ t. absurd (omega arith))) t) (rw e at other) in
+    (λ _ t. absurd (t _ refl)) (rw e at other) in
     (taken, e ∙ ap (λ (out : Outcome). out.reply) (accepted_when (sector_table o) (λ k. refused zeros k []) _ 0 (sym taken) refl))
 
 -- ---- restart's last test, "2"

@@ -1,6 +1,6 @@
 -- Document 01, Advance: "It tells which: copied with the block and its head, body or tail": growths from 4 disks to 6 with 6 rows, worked out by hand.
 -- Block 0, at (0,0), is a head, block 9, at (1,2), a body (L11) and block 14, at (2,3), a tail. `proofs/AdvanceCases.antt` has the proof.
-use Rattle.std.specs.Prelude.{ℕ, ◌≡◌, List, [], ◌∷◌, map}
+use Rattle.std.specs.Prelude.{ℕ, ◌≡◌, [], ◌∷◌, map}
 use Rattle.std.proofs.Math.Option.{Option, some}
 use Rattle.layout.specs.declared.Part.{Part}
 use Rattle.layout.specs.declared.Part.TheVariants.{Head, Body, Tail}

@@ -1,6 +1,6 @@
 -- Document 02, W7: a grow of 3 disks with one row and blocks of 512 bytes, worked out by hand, on a medium of 8,704 bytes, which is enough for 16
 -- disks, or of 512 bytes, which is not enough for any. `proofs/GrowCases.antt` has the proofs.
-use Rattle.std.specs.Prelude.{ℕ, ◌≡◌, [], ◌∷◌, map}
+use Rattle.std.specs.Prelude.{◌≡◌, [], ◌∷◌, map}
 use Rattle.base.specs.Refusals.{refusal}
 use Rattle.medium.specs.Medium.{Observations}
 use Rattle.volume.specs.declared.Volume.{Volume}

@@ -1,0 +1,9 @@
+-- `open_blocks` meets its contract.
+use mathlib.Core.Path.{refl}
+use Rattle.volume.proofs.Volume.open_blocks.Goals as goal
+
+pub open_blocks_by-requires : goal.open_blocks_by-requires
+open_blocks_by-requires c = record { self_value = c.requires; counts_value = refl }
+
+pub returns : goal.returns
+returns c = c.open_blocks_by.ensures
