@@ -16,12 +16,6 @@ use Rattle.wall_chart.proofs.Lengths.{length_heading, length_line}
 pub heading_stored : (m : List ℕ) → 6 ≤ length m → heading ++ drop 6 m ≡ sets m 0 heading
 heading_stored m h = rw length_heading at (front_stored m heading (rw length_heading h))
 
--- "-" in ten bytes
-pub dash_stored : (m : List ℕ) → length m ≡ 10 → dash ++ drop 10 m ≡ dash
-dash_stored m e =
-    let past : length m ≤ 10 = omega arith in
-    rw (drop_of_length-le m {i = 10} past) (append-nil dash)
-
 -- a line from its three parts
 pub line_parts : (m start : List ℕ) (column_of : ℕ → List ℕ) (count : ℕ) → length m ≡ line_bytes count → length start ≡ row_width
     → ((i : ℕ) → length (column_of i) ≡ column_width)

@@ -14,13 +14,13 @@ fn put_heading(line: &mut [u8])
     requires { 6 ≤ length line.old }
     ensures { line.new ≡ sets line.old 0 heading }
 {
-    bytes::copy(b"   row", line);
+    line[0..6].copy_from_slice(b"   row");
 }
 
 // Puts the disk numbers into a line, from byte 6 on.
 fn put_disks(line: &mut [u8], disks: usize)
     requires disks_le_most_disks { disks ≤ most_disks }
-    requires disks_in_bounds { text_bytes disks ≤ length line.old }
+    requires room { text_bytes disks ≤ length line.old }
     ensures { line.new ≡ sets line.old 6 (joined (decimal 10) disks) }
 {
     let mut d = 0;
@@ -50,7 +50,7 @@ fn put_cell(part: &mut [u8], says: HolderAnswer)
     ensures { part.new ≡ cell says }
 {
     let HolderAnswer::Has(x) = says else {
-        bytes::copy(b"         -", part);
+        part.copy_from_slice(b"         -");
         return;
     };
     record::put_number(part, x.0);
@@ -59,7 +59,7 @@ fn put_cell(part: &mut [u8], says: HolderAnswer)
 // Puts the cells of row b into a line, from byte 6 on.
 fn put_cells(line: &mut [u8], v: Volume, disks: usize, b: usize)
     requires disks_le_most_disks { disks ≤ most_disks }
-    requires disks_in_bounds { text_bytes disks ≤ length line.old }
+    requires room { text_bytes disks ≤ length line.old }
     ensures { line.new ≡ sets line.old 6 (joined (cell_at v b) disks) }
 {
     let mut disk = 0;

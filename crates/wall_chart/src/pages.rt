@@ -32,8 +32,8 @@ fn chart_bytes(rows: usize, disks: usize) -> usize
 
 // Puts the lines of all rows into a page, behind the first line.
 fn put_rows(page: &mut [u8], v: Volume, disks: usize)
-    requires rows_le_most_rows { (v.rows ≤ most_rows) × (disks ≤ most_disks) }
-    requires disks_in_bounds { (v.rows + 1) * line_bytes disks ≤ length page.old }
+    requires limits { (v.rows ≤ most_rows) × (disks ≤ most_disks) }
+    requires room { (v.rows + 1) * line_bytes disks ≤ length page.old }
     ensures { page.new ≡ sets page.old (line_bytes disks) (joined (row_line v disks) v.rows) }
 {
     let width = text_bytes(disks) + 1;
@@ -49,8 +49,8 @@ fn put_rows(page: &mut [u8], v: Volume, disks: usize)
 
 // Puts the chart at the start of a page, and gives its length.
 fn put_lines(page: &mut [u8], v: Volume) -> usize
-    requires v_value { sound v ≡ true }
-    requires v_in_bounds { length (chart v) ≤ length page.old }
+    requires sound_state { sound v ≡ true }
+    requires room { length (chart v) ≤ length page.old }
     ensures value { result ≡ length (chart v) }
     ensures page_after { page.new ≡ sets page.old 0 (chart v) }
 {

@@ -19,21 +19,12 @@ pub loop-i-init : goal.loop-i-init
 unfolding column_fold
 loop-i-init c = (omega arith, refl)
 
-pub bounds-column-i : goal.bounds-column-i
-bounds-column-i c = omega arith
-
 pub column_step-found-requires : goal.column_step-found-requires
 column_step-found-requires c =
     let lp = c.loop-i in
     let column = c.args.column.now in
     let h : 10 ^ lp.i ≤ 10 ^ 10 = pow-le-pow_right (lit< tt) lp.invariant.0 in
     rw lp.invariant.1 (omega (arith, fold_small column lp.i (omega arith), h))
-
-pub overflow_add-i : goal.overflow_add-i
-overflow_add-i c = omega arith
-
-pub loop-i-smaller : goal.loop-i-smaller
-loop-i-smaller c = omega arith
 
 pub loop-i-preserved : goal.loop-i-preserved
 loop-i-preserved c =

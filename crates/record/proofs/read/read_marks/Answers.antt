@@ -14,23 +14,8 @@ pub loop-i-init : goal.loop-i-init
 unfolding every table
 loop-i-init c = (omega arith, (refl, refl))
 
-pub overflow_add-b : goal.overflow_add-b
-overflow_add-b c = omega arith
-
-pub bounds-bytes-i : goal.bounds-bytes-i
-bounds-bytes-i c = omega arith
-
 pub returns-then-b-ne49 : goal.returns-then-b-ne49
 returns-then-b-ne49 c = marks_refused _ c.loop-i.i (omega arith) c.if-b-ne48.true c.if-b-ne49.true
-
-pub bounds-marks-i : goal.bounds-marks-i
-bounds-marks-i c = omega arith
-
-pub overflow_add-i : goal.overflow_add-i
-overflow_add-i c = omega arith
-
-pub loop-i-smaller : goal.loop-i-smaller
-loop-i-smaller c = omega arith
 
 pub loop-i-preserved : goal.loop-i-preserved
 loop-i-preserved c =

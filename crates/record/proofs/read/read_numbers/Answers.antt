@@ -14,26 +14,11 @@ pub loop-i-init : goal.loop-i-init
 unfolding every table
 loop-i-init c = (omega arith, (refl, refl))
 
-pub read_field-requires : goal.read_field-requires
-read_field-requires c = omega arith
-
 pub returns-in_default : goal.returns-in_default
 returns-in_default c =
     let found = c.read_field in
     let e = ap is_number (sym found.ensures) ∙ no_number found.result c.in_default.not-Number in
     numbers_refused _ c.args.t c.loop-i.i (omega arith) e
-
-pub offset_bounds-numbers-i : goal.offset_bounds-numbers-i
-offset_bounds-numbers-i c = omega arith
-
-pub bounds-numbers-i : goal.bounds-numbers-i
-bounds-numbers-i c = omega arith
-
-pub overflow_add-i : goal.overflow_add-i
-overflow_add-i c = omega arith
-
-pub loop-i-smaller : goal.loop-i-smaller
-loop-i-smaller c = omega arith
 
 pub loop-i-preserved : goal.loop-i-preserved
 loop-i-preserved c =

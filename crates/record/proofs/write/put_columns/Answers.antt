@@ -7,27 +7,9 @@ use Rattle.record.specs.Sector.{columns}
 use Rattle.record.proofs.WriteCode.{columns_next}
 use Rattle.record.proofs.write.put_columns.Goals as goal
 
-pub bounds-numbers-2 : goal.bounds-numbers-2
-bounds-numbers-2 c = omega arith
-
 pub loop-i-init : goal.loop-i-init
 unfolding columns joined
 loop-i-init c = (omega arith, (refl, (refl, refl)))
-
-pub offset_bounds-numbers-i : goal.offset_bounds-numbers-i
-offset_bounds-numbers-i c = omega arith
-
-pub bounds-numbers-i : goal.bounds-numbers-i
-bounds-numbers-i c = omega arith
-
-pub put_field-requires : goal.put_field-requires
-put_field-requires c = record { i_bound = omega arith; in_bounds = omega arith }
-
-pub overflow_add-i : goal.overflow_add-i
-overflow_add-i c = omega arith
-
-pub loop-i-smaller : goal.loop-i-smaller
-loop-i-smaller c = omega arith
 
 pub loop-i-preserved : goal.loop-i-preserved
 loop-i-preserved c =

@@ -14,27 +14,6 @@ pub loop-i-init : goal.loop-i-init
 unfolding mark_bytes table
 loop-i-init c = (omega arith, (refl, refl))
 
-pub bounds-marks-i : goal.bounds-marks-i
-bounds-marks-i c = omega arith
-
-pub overflow_add-page : goal.overflow_add-page
-overflow_add-page c = omega arith
-
-pub bounds-page-i : goal.bounds-page-i
-bounds-page-i c = omega arith
-
-pub overflow_add-page-else-marks-i : goal.overflow_add-page-else-marks-i
-overflow_add-page-else-marks-i c = omega arith
-
-pub bounds-page-i-else-marks-i : goal.bounds-page-i-else-marks-i
-bounds-page-i-else-marks-i c = omega arith
-
-pub overflow_add-i : goal.overflow_add-i
-overflow_add-i c = omega arith
-
-pub loop-i-smaller : goal.loop-i-smaller
-loop-i-smaller c = omega arith
-
 -- either arm stores the byte of the definition
 stored : (c : Joined-marks-i)
     → let lp = c.loop-i in
