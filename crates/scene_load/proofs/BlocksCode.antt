@@ -3,12 +3,11 @@ use Prim.Native.Nat.{ℕ, ◌+◌, ◌-◌, ◌*◌, ◌≤◌, ◌<◌}
 use mathlib.Core.Path.{◌≡◌, refl, sym, ◌∙◌}
 use mathlib.Core.Bool.{Bool, true, false, cond}
 use mathlib.Core.List.{List}
-use mathlib.Core.Logic.{◌⊎◌, ◌≢◌, ⊎_elim}
+use mathlib.Core.Logic.{◌≢◌}
 use native.Mathlib.Nat.{add-zero}
 use native.Mathlib.Omega.{arith}
 use lib.Dec.{eqb, ltb}
 use lib.ListN.{length, get_or, set, replicate}
-use denote.Enum.Declared.{tag_of}
 use borrow.Author.Tests.{le-leb, lt-leb, lt-ltb, eq-eqb, ne_eqb}
 use Rattle.base.specs.Below.{count}
 use Rattle.base.proofs.Booleans.{same_order}
@@ -27,7 +26,6 @@ use Rattle.scene_load.specs.declared.LoadAnswer.TheVariants.{Refused, SceneRefus
 use Rattle.scene_load.specs.declared.Scene.{Scene}
 use Rattle.scene_load.specs.Loads.{names, served_of_scene, most_scenes, reaches_past, is_refused, refused_with}
 use Rattle.scene_load.specs.Steps.{is_counted, with_blocks, with_scene, Usable, NoneWraps}
-use Rattle.scene_load.specs.contracts.LoadAnswer.{the_type}
 use Rattle.scene_load.proofs.Refusing.{place_allowed, few_blocks}
 use Rattle.scene_load.proofs.Serving.{names_live, live_disk}
 
@@ -104,11 +102,11 @@ disk_small v e x p h at = rw at (omega (arith, live_disk v e x h, disks_most v e
 -- ---- a load with one scene more
 
 -- what is known where the answer is not `Counted`
-pub not_counted : (a : LoadAnswer) → (tag_of the_type a ≡ 0) ⊎ (tag_of the_type a ≡ 1) → is_counted a ≡ false
+pub not_counted : (a : LoadAnswer) → a ≢ Counted → is_counted a ≡ false
 unfolding is_counted
-not_counted (Refused k) t = refl
-not_counted (SceneRefused place) t = refl
-not_counted Counted t = ⊎_elim (λ e. absurd (omega arith)) (λ e. absurd (omega arith)) t
+not_counted (Refused k) n = refl
+not_counted (SceneRefused place) n = refl
+not_counted Counted n = absurd (n refl)
 
 pub counted_sound : (v : Volume) (load : Load) (place : ℕ) → load.answer ≡ Counted → Usable v load place → sound v ≡ true
 unfolding is_counted

@@ -1,0 +1,54 @@
+-- `with_blocks` meets its contract. The loop's invariant: the numbers have the blocks passed.
+use Prim.Native.Nat.{◌<◌}
+use mathlib.Core.Path.{◌≡◌, ap}
+use native.Mathlib.Omega.{arith}
+use borrow.Author.Rules.{rules}
+use Rattle.layout.specs.declared.Spot.{Spot}
+use Rattle.layout.specs.Limits.{most_disks}
+use Rattle.volume.proofs.LiveCode.{open_most}
+use Rattle.scene_load.proofs.BlocksCode.{none_added, number_most, block_added, disk_small}
+use Rattle.scene_load.proofs.blocks.with_blocks.Goals as goal
+use Rattle.scene_load.proofs.blocks.with_blocks.Goals.{After-live_spot-spot}
+
+pub loop-j-init : goal.loop-j-init
+loop-j-init c = (omega arith, none_added _ _ _ (search rules))
+
+pub overflow_add-first : goal.overflow_add-first
+overflow_add-first c =
+    omega (arith, c.requires.all_open c.loop-j.j c.loop-j-test.true, open_most _ c.requires.v_sound)
+
+pub live_spot-spot-requires : goal.live_spot-spot-requires
+live_spot-spot-requires c = record { self_value = c.requires.v_sound; x_bound = c.requires.all_open _ c.loop-j-test.true }
+
+-- the block's disk is one of the 16
+small : (c : After-live_spot-spot) → c.live_spot-spot.result.disk < most_disks
+small c =
+    disk_small _ c.requires.v_sound _ _ (c.requires.all_open _ (omega (arith, c.loop-j-test.true))) c.live_spot-spot.ensures
+
+pub offset_bounds-sum-disk : goal.offset_bounds-sum-disk
+offset_bounds-sum-disk c = omega (arith, small (goal.at.offset_bounds-sum-disk c).After-live_spot-spot)
+
+pub bounds-sum-disk : goal.bounds-sum-disk
+bounds-sum-disk c = small (goal.at.bounds-sum-disk c).After-live_spot-spot
+
+pub overflow_add-sum : goal.overflow_add-sum
+overflow_add-sum c =
+    let l = c.loop-j in
+    let most = rw (← l.invariant.1) at (number_most c.args.v c.args.served c.args.first l.j c.live_spot-spot.result.disk (small (goal.at.overflow_add-sum c).After-live_spot-spot)) in
+    omega (arith, most, c.requires.none_wraps c.live_spot-spot.result.disk (small (goal.at.overflow_add-sum c).After-live_spot-spot), c.loop-j-test.true)
+
+pub bounds-sum-disk-in-loop-j : goal.bounds-sum-disk-in-loop-j
+bounds-sum-disk-in-loop-j c = small (goal.at.bounds-sum-disk-in-loop-j c).After-live_spot-spot
+
+pub loop-j-preserved : goal.loop-j-preserved
+loop-j-preserved c =
+    let l = c.loop-j in
+    let block = c.requires.all_open l.j c.loop-j-test.true in
+    let disk = ap (λ (p : Spot). p.disk) c.live_spot-spot.ensures in
+    (omega (arith, c.loop-j-test.true), rw (← l.invariant.1) at (block_added c.args.v c.args.served c.args.first c.requires.v_sound l.j _ block disk (small (goal.at.loop-j-preserved c).After-live_spot-spot)))
+
+pub returns : goal.returns
+returns c =
+    let l = c.loop-j in
+    let e : l.j ≡ c.args.count = omega (arith, l.invariant.0, c.loop-j-test.false) in
+    rw e at l.invariant.1
