@@ -3,18 +3,22 @@
 #![tactic(auto)]
 
 use printing::{number, text};
+use std::io;
+use std::io::{BufWriter, Read, Write};
 use wall_chart::ChartAnswer;
 
-fn main() {
-    let mut sector = [0u8; 512];
+fn main(rt: HostRuntime) -> io::Result<()> {
+    let mut sector = Vec::new(rt.alloc());
     let mut page = [0u8; 65_536];
-    let got = io::read_full(0, &mut sector);
-    let answer = wall_chart::put_chart_of_record(&mut page, &sector[..got]);
+    rt.reader().take(512).read_to_end(&mut sector)?;
+    let answer = wall_chart::put_chart_of_record(&mut page, &sector);
+    let mut out = BufWriter::new(rt.alloc(), io::writer(&rt))?;
     match answer {
         ChartAnswer::Refused(k) => {
-            number(k);
-            text(b"\n");
+            number(&mut out, k)?;
+            text(&mut out, b"\n")?;
         }
-        ChartAnswer::Used(used) => text(&page[..used]),
+        ChartAnswer::Used(used) => text(&mut out, &page[..used])?,
     }
+    out.flush()
 }

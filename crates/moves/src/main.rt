@@ -3,12 +3,14 @@
 #![tactic(auto)]
 
 use printing::{number, text};
+use std::io;
+use std::io::{BufWriter, Write};
 
-fn main() {
-    let mut at = 0;
-    while at < move_table::ENTRY_COUNT {
-        number(move_table::disk_at(at));
-        text(b"\n");
-        at += 1;
+fn main(rt: HostRuntime) -> io::Result<()> {
+    let mut out = BufWriter::new(rt.alloc(), io::writer(&rt))?;
+    for at in 0..move_table::ENTRY_COUNT {
+        number(&mut out, move_table::disk_at(at))?;
+        text(&mut out, b"\n")?;
     }
+    out.flush()
 }

@@ -1,6 +1,5 @@
 -- What the run-time tests of the cases show, and what the code of layout and window then asks.
-use Rattle.std.proofs.Common.{◌≡◌, ℕ, ◌*◌, ◌<◌, ◌≤◌, true, false, List, arith}
-use mathlib.Core.Bool.{false≢true}
+use Rattle.std.proofs.Common.{◌≡◌, ℕ, ◌*◌, ◌<◌, ◌≤◌, true, List, arith}
 use Rattle.layout.specs.declared.GrowthDisks.{GrowthDisks}
 use Rattle.layout.specs.declared.Spot.{Spot}
 use Rattle.layout.specs.Growth.{moves_from}
@@ -10,10 +9,6 @@ use Rattle.layout.specs.Windows.{windows, spot_of_mark}
 use Rattle.layout.proofs.HistoryCode.{newest_old}
 use Rattle.layout.proofs.MarkSpots.{mark_spot_disk, mark_spot_moves}
 use Rattle.layout.proofs.NewestCode.{old_is, added_is, newest_grows}
-
--- a test that fails shows nothing
-pub failed : {X : Type 0} → false ≡ true → X
-failed e = absurd (false≢true e)
 
 -- ---- the newest growth g
 
@@ -34,6 +29,6 @@ module _ (s t : ℕ) (l : List ℕ) (h : 0 < t) (a : Limits s (history t l)) (g 
 -- ---- marks
 
 -- what asking for the mark of spot p takes, where p has mark j
-pub mark_asks : (m n w j : ℕ) (p : Spot) → Grows m n → j < m * n → p ≡ spot_of_mark m n w j → Grows m n × ((p.disk < m) × (moves_from m n p ≡ true))
+pub mark_asks : (m n w j : ℕ) (p : Spot) → Grows m n → j < m * n → p ≡ spot_of_mark m n w j → (p.disk < m) × (moves_from m n p ≡ true)
 mark_asks m n w j p g h e =
-    (g, rw e (mark_spot_disk m n g.old g.added w j h, mark_spot_moves m n g.old g.added w j h))
+    rw e (mark_spot_disk m n g.old g.added w j h, mark_spot_moves m n g.old g.added w j h)

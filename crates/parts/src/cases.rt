@@ -4,6 +4,8 @@ use super::columns::{show_before, show_written};
 use super::records::{show_changes, show_page, show_read, show_refusal, worked};
 use super::windows::{show_marks, show_windows};
 use printing::{Line, new_line, text, with_byte};
+use std::io;
+use std::io::Write;
 
 // What a growth from a disks by b does with each block, of c rows.
 const LETTERS: u8 = b'L';
@@ -38,50 +40,61 @@ const ACCEPTED: u8 = b'Y';
 // How many are refused.
 const REFUSED: u8 = b'Z';
 
-fn ask_record(page: [u8; 520], question: u8, line: Line) {
+fn ask_record(out: &mut impl Write, page: [u8; 520], question: u8, line: Line) -> io::Result<()> {
     let given = line.numbers;
     match question {
-        PAGE => show_page(page),
-        READ => show_read(page),
-        ACCEPTED => show_changes(page, line, 0),
-        REFUSED => show_changes(page, line, 13),
-        _ => show_refusal(page, given[0]),
+        PAGE => show_page(out, page),
+        READ => show_read(out, page),
+        ACCEPTED => show_changes(out, page, line, 0),
+        REFUSED => show_changes(out, page, line, 13),
+        _ => show_refusal(out, page, given[0]),
     }
 }
 
-fn ask(before: &[u8], question: u8, line: Line, page: [u8; 520]) {
+fn ask(
+    out: &mut impl Write,
+    before: &[u8],
+    question: u8,
+    line: Line,
+    page: [u8; 520],
+) -> io::Result<()> {
     let given = line.numbers;
     match question {
-        LETTERS => show_letters(given[0], given[1], given[2]),
-        WINDOWS => show_windows(line),
-        MARKS => show_marks(line),
-        COLUMN => show_written(given[0]),
-        TEN_BYTES => show_before(before, 10),
-        NINE_BYTES => show_before(before, 9),
-        ELEVEN_BYTES => show_before(before, 11),
-        _ => ask_record(page, question, line),
+        LETTERS => show_letters(out, given[0], given[1], given[2]),
+        WINDOWS => show_windows(out, line),
+        MARKS => show_marks(out, line),
+        COLUMN => show_written(out, given[0]),
+        TEN_BYTES => show_before(out, before, 10),
+        NINE_BYTES => show_before(out, before, 9),
+        ELEVEN_BYTES => show_before(out, before, 11),
+        _ => ask_record(out, page, question, line),
     }
 }
 
 // The next byte of a line: printed, or a question asked.
-fn step(before: &[u8], byte: u8, line: Line, page: [u8; 520]) {
+fn step(
+    out: &mut impl Write,
+    before: &[u8],
+    byte: u8,
+    line: Line,
+    page: [u8; 520],
+) -> io::Result<()> {
     if line.byte == b'@' {
-        ask(before, byte, line, page);
-        return;
+        return ask(out, before, byte, line, page);
     }
     if byte != b'@' {
-        text(&[byte; 1]);
+        text(out, &[byte; 1])?;
     }
+    Ok(())
 }
 
-pub fn run_cases(lines: &[u8]) {
+pub fn run_cases(out: &mut impl Write, lines: &[u8]) -> io::Result<()> {
     let page = worked();
     let mut line = new_line();
-    let mut at = 0;
-    while at < lines.len() {
+    for at in 0..lines.len() {
         let byte = lines[at];
-        step(&lines[0..at], byte, line, page);
+        step(out, &lines[0..at], byte, line, page)?;
         line = with_byte(line, byte);
-        at += 1;
     }
+    Ok(())
 }

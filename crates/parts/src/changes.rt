@@ -2,6 +2,8 @@
 use super::windows::grows;
 use layout::{Change, Part, Row, Spot};
 use printing::text;
+use std::io;
+use std::io::Write;
 use volume::Volume;
 
 // H, B or T for a head, body or tail that moves, S for a block that stays, A for one that is added.
@@ -18,21 +20,20 @@ fn letter(change: Change) -> u8 {
 }
 
 // A letter for each block, from m disks by n, of s rows.
-pub fn show_letters(m: usize, n: usize, s: usize) {
+pub fn show_letters(out: &mut impl Write, m: usize, n: usize, s: usize) -> io::Result<()> {
     if !grows(m, n) {
-        return;
+        return Ok(());
     }
     if Volume::MOST_ROWS < s {
-        return;
+        return Ok(());
     }
     let blocks = (m + n) * s;
-    let mut x = 0;
-    while x < blocks {
+    for x in 0..blocks {
         let p = Spot {
             disk: x % m,
             row: Row(x / m),
         };
-        text(&[letter(layout::change_of(m, n, s, x, p)); 1]);
-        x += 1;
+        text(out, &[letter(layout::change_of(m, n, s, x, p)); 1])?;
     }
+    Ok(())
 }

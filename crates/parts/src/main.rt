@@ -11,9 +11,12 @@ mod records;
 mod windows;
 
 use cases::run_cases;
+use std::io;
+use std::io::{BufWriter, Write};
 
-fn growths() {
+fn growths(out: &mut impl Write) -> io::Result<()> {
     run_cases(
+        out,
         b"1. One growth: each block a head, body or tail that moves, one that stays, or added
 m 3, n 2, s 5: @L
 m 4, n 2, s 6: @L
@@ -60,12 +63,14 @@ m 1, n 1, s 3: @L
 8 to 16 disks, 1000000 rows, window 62499: @M
 8 to 16 disks, 1000000 rows, window 62500: @M
 ",
-    );
+    )
 }
 
-fn main() {
-    growths();
+fn main(rt: HostRuntime) -> io::Result<()> {
+    let mut out = BufWriter::new(rt.alloc(), io::writer(&rt))?;
+    growths(&mut out)?;
     run_cases(
+        &mut out,
         b"5. Columns: written and read back; then a blank one, damaged ones and ones of another length
 column of 0: [@C
 column of 9: [@C
@@ -95,5 +100,6 @@ byte 511 changed: accepted @Y, refused @Z
 511 bytes, refusal @Q
 513 bytes, refusal @Q
 ",
-    );
+    )?;
+    out.flush()
 }

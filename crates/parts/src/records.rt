@@ -1,5 +1,7 @@
 // The worked record of document 01: written, read back, and changed in every byte.
-use printing::{Line, labelled, next_number, number, text};
+use printing::{Line, next_number, number, text};
+use std::io;
+use std::io::Write;
 
 // A page that begins with the record. Its numbers are Z, s, t, N[0] to N[7], growing and w; blocks 0 and 3 have marks 0 and 1.
 pub fn worked() -> [u8; 520] {
@@ -12,41 +14,39 @@ pub fn worked() -> [u8; 520] {
 }
 
 // The record's bytes and those after it.
-pub fn show_page(page: [u8; 520]) {
-    text(&page[0..512]);
-    text(b"after it: ");
-    text(&page[512..520]);
+pub fn show_page(out: &mut impl Write, page: [u8; 520]) -> io::Result<()> {
+    text(out, &page[0..512])?;
+    text(out, b"after it: ")?;
+    text(out, &page[512..520])
 }
 
-fn show_numbers(numbers: [usize; 13]) {
-    let mut i = 0;
-    while i < 13 {
-        next_number(numbers[i]);
-        i += 1;
+fn show_numbers(out: &mut impl Write, numbers: [usize; 13]) -> io::Result<()> {
+    for i in 0..13 {
+        next_number(out, numbers[i])?;
     }
+    Ok(())
 }
 
 // The marks that are set.
-fn show_set(marks: [bool; 64]) {
-    let mut i = 0;
-    while i < 64 {
+fn show_set(out: &mut impl Write, marks: [bool; 64]) -> io::Result<()> {
+    for i in 0..64 {
         if marks[i] {
-            next_number(i);
+            next_number(out, i)?;
         }
-        i += 1;
     }
+    Ok(())
 }
 
 // What the first 512 bytes are read as.
-pub fn show_read(page: [u8; 520]) {
+pub fn show_read(out: &mut impl Write, page: [u8; 520]) -> io::Result<()> {
     let found = record::read_record(&page[0..512]);
     let numbers = found.numbers;
     let marks = found.marks;
-    number(found.refusal);
-    text(b", numbers");
-    show_numbers(numbers);
-    text(b", marks");
-    show_set(marks);
+    number(out, found.refusal)?;
+    text(out, b", numbers")?;
+    show_numbers(out, numbers)?;
+    text(out, b", marks")?;
+    show_set(out, marks)
 }
 
 // The refusal with k added to byte `at` of the record, 256 being 0.
@@ -55,7 +55,7 @@ fn refusal_with(page: [u8; 520], at: usize, k: u8) -> usize {
     if 512 <= at {
         return 2;
     }
-    changed[at] = std::num::wrapping_add_u8(changed[at], k);
+    changed[at] = changed[at].wrapping_add(k);
     let found = record::read_record(&changed[0..512]);
     found.refusal
 }
@@ -70,32 +70,35 @@ fn changes(page: [u8; 520], from: usize, last: usize, refusal: usize) -> usize {
     }
     let end = last * 255 + 255;
     let mut total = 0;
-    let mut k = from * 255;
-    while k < end {
+    for k in from * 255..end {
         if refusal_with(page, k / 255, (k % 255 + 1) as u8) == refusal {
             total += 1;
         }
-        k += 1;
     }
     total
 }
 
 // The changes of bytes a to b, of byte a alone, or of each of the 512, by how many numbers the line has.
-pub fn show_changes(page: [u8; 520], line: Line, refusal: usize) {
+pub fn show_changes(
+    out: &mut impl Write,
+    page: [u8; 520],
+    line: Line,
+    refusal: usize,
+) -> io::Result<()> {
     let given = line.numbers;
     let count = line.count;
     match count {
-        0 => number(changes(page, 0, 511, refusal)),
-        1 => number(changes(page, given[0], given[0], refusal)),
-        _ => number(changes(page, given[0], given[1], refusal)),
+        0 => number(out, changes(page, 0, 511, refusal)),
+        1 => number(out, changes(page, given[0], given[0], refusal)),
+        _ => number(out, changes(page, given[0], given[1], refusal)),
     }
 }
 
 // The refusal of the first `length` bytes.
-pub fn show_refusal(page: [u8; 520], length: usize) {
+pub fn show_refusal(out: &mut impl Write, page: [u8; 520], length: usize) -> io::Result<()> {
     if 520 < length {
-        return;
+        return Ok(());
     }
     let found = record::read_record(&page[0..length]);
-    number(found.refusal);
+    number(out, found.refusal)
 }

@@ -5,6 +5,8 @@ ghost use Rattle.layout.specs.Limits.{Limits, Grows};
 ghost use Rattle.layout.specs.Windows.{windows};
 
 use printing::{Line, labelled, text};
+use std::io;
+use std::io::Write;
 use volume::Volume;
 
 // The windows of the newest growth; 0 outside the limits and where there was no growth.
@@ -79,53 +81,54 @@ fn mark_agrees(m: usize, n: usize, s: usize, w: usize, j: usize) -> bool {
 // The marks of window w whose rows exist and that their spots lead back to.
 fn marks_found(m: usize, n: usize, s: usize, w: usize) -> usize {
     let mut total = 0;
-    let mut j = 0;
-    while j < 64 {
+    for j in 0..64 {
         if mark_agrees(m, n, s, w, j) {
             total += 1;
         }
-        j += 1;
     }
     total
 }
 
 // The windows of the newest growth, and the moves of the first and of the last. The line has the disk counts and the rows s.
-pub fn show_windows(line: Line) {
+pub fn show_windows(out: &mut impl Write, line: Line) -> io::Result<()> {
     let counts = line.numbers;
     let s = line.last;
     let count = line.count;
     if count < 2 {
-        return;
+        return Ok(());
     }
     let t = count - 2;
     let windows = growth_windows(counts, t, s);
     if windows == 0 {
-        text(b"no growth");
-        return;
+        return text(out, b"no growth");
     }
-    labelled(b"windows", windows);
-    labelled(b", moves of the first", window_moves(counts, t, s, 0));
-    labelled(b", of the last", window_moves(counts, t, s, windows - 1));
+    labelled(out, b"windows", windows)?;
+    labelled(out, b", moves of the first", window_moves(counts, t, s, 0))?;
+    labelled(
+        out,
+        b", of the last",
+        window_moves(counts, t, s, windows - 1),
+    )
 }
 
 // The moves of window w of the newest growth, and its marks that their spots lead back to. The line has the disk counts, s and w.
-pub fn show_marks(line: Line) {
+pub fn show_marks(out: &mut impl Write, line: Line) -> io::Result<()> {
     let counts = line.numbers;
     let s = line.before;
     let w = line.last;
     let count = line.count;
     if count < 3 {
-        return;
+        return Ok(());
     }
     let t = count - 3;
     if growth_windows(counts, t, s) <= w {
-        text(b"no such window");
-        return;
+        return text(out, b"no such window");
     }
     let g = layout::newest_growth(&counts, t);
-    labelled(b"moves", window_moves(counts, t, s, w));
+    labelled(out, b"moves", window_moves(counts, t, s, w))?;
     labelled(
+        out,
         b", marks found from their spots",
         marks_found(g.old, g.added, s, w),
-    );
+    )
 }

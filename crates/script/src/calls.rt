@@ -7,6 +7,8 @@ use super::lines::byte_at;
 use super::run::{Run, with_medium, with_state};
 use layout::Block;
 use printing::{counted, labelled, next_number, text};
+use std::io;
+use std::io::Write;
 use volume::{Answer, Reply, Volume};
 
 // What a call hands back; where the drives have no write cache its store is down.
@@ -20,11 +22,11 @@ fn stored(run: Run, v: Volume) -> Run {
 }
 
 // Shows an answer.
-pub fn told(run: Run, reply: Reply) -> Run {
+pub fn told(out: &mut impl Write, run: Run, reply: Reply) -> io::Result<Run> {
     let answer = reply.answer;
     let state = reply.state;
-    show_answer(answer);
-    stored(run, state)
+    show_answer(out, answer)?;
+    Ok(stored(run, state))
 }
 
 // Saves so many times one byte, at most 1,024 times.
@@ -58,25 +60,24 @@ fn call(v: Volume, medium: &mut [u8], lent: usize, given: Given) -> Reply {
     reply_of(v, &mut medium[0..lent], given)
 }
 
-pub fn make(run: Run, given: Given) -> Run {
+pub fn make(out: &mut impl Write, run: Run, given: Given) -> io::Result<Run> {
     let mut medium = run.medium;
     let reply = call(run.v, &mut medium, run.lent, given);
-    told(with_medium(run, medium), reply)
+    told(out, with_medium(run, medium), reply)
 }
 
-pub fn write(run: Run, given: Given) -> Run {
+pub fn write(out: &mut impl Write, run: Run, given: Given) -> io::Result<Run> {
     if 1_024 < given.b {
-        text(b": a piece has at most 1,024 bytes");
-        return run;
+        text(out, b": a piece has at most 1,024 bytes")?;
+        return Ok(run);
     }
-    make(run, given)
+    make(out, run, given)
 }
 
 // Saves each block with a byte of its own.
-pub fn saves(run: Run, first: usize, end: usize) -> Run {
+pub fn saves(out: &mut impl Write, run: Run, first: usize, end: usize) -> io::Result<Run> {
     let mut now = run;
-    let mut x = first;
-    while x < end {
+    for x in first..end {
         let given = Given {
             call: WRITE,
             a: x,
@@ -84,77 +85,95 @@ pub fn saves(run: Run, first: usize, end: usize) -> Run {
             c: x % 100 + 1,
             d: 0,
         };
-        now = make(now, given);
-        x += 1;
+        now = make(out, now, given)?;
     }
-    now
+    Ok(now)
 }
 
 // How many bytes from the start on are as the first one.
 fn first_run(piece: &[u8]) -> usize {
-    let mut k = 0;
-    while k < piece.len() {
+    for k in 0..piece.len() {
         if piece[k] != piece[0] {
             return k;
         }
-        k += 1;
     }
-    k
+    piece.len()
 }
 
 // How many bytes from the start on are as the first one, and that one.
-pub fn show_piece(piece: &[u8]) {
-    counted(b", ", first_run(piece), b" bytes");
+pub fn show_piece(out: &mut impl Write, piece: &[u8]) -> io::Result<()> {
+    counted(out, b", ", first_run(piece), b" bytes")?;
     if piece.len() != 0 {
-        labelled(b" of", byte_at(piece, 0) as usize);
+        labelled(out, b" of", byte_at(piece, 0) as usize)?;
     }
+    Ok(())
 }
 
 // Fills a piece with a block, and shows it.
-fn read_piece(v: Volume, medium: &[u8], x: usize, piece: &mut [u8]) {
+fn read_piece(
+    out: &mut impl Write,
+    v: Volume,
+    medium: &[u8],
+    x: usize,
+    piece: &mut [u8],
+) -> io::Result<()> {
     let reply = v.read(medium, Block(x), piece);
     let answer = reply.answer;
-    show_answer(answer);
-    show_piece(piece);
+    show_answer(out, answer)?;
+    show_piece(out, piece)
 }
 
 // A piece holds 170 in each byte before the call.
-pub fn read(v: Volume, medium: &[u8], x: usize, size: usize) {
+pub fn read(
+    out: &mut impl Write,
+    v: Volume,
+    medium: &[u8],
+    x: usize,
+    size: usize,
+) -> io::Result<()> {
     let mut space = [170u8; 1_024];
     let piece: &mut [u8] = &mut space;
     if 1_024 < size {
-        text(b": a piece has at most 1,024 bytes");
-        return;
+        return text(out, b": a piece has at most 1,024 bytes");
     }
-    read_piece(v, medium, x, &mut piece[0..size]);
+    read_piece(out, v, medium, x, &mut piece[0..size])
 }
 
 // The byte that a block's bytes all are.
-fn show_block(piece: &[u8]) {
+fn show_block(out: &mut impl Write, piece: &[u8]) -> io::Result<()> {
     if first_run(piece) != piece.len() {
-        text(b" mixed");
-        return;
+        return text(out, b" mixed");
     }
-    next_number(byte_at(piece, 0) as usize);
+    next_number(out, byte_at(piece, 0) as usize)
 }
 
-fn read_block(v: Volume, medium: &[u8], x: usize, piece: &mut [u8]) {
+fn read_block(
+    out: &mut impl Write,
+    v: Volume,
+    medium: &[u8],
+    x: usize,
+    piece: &mut [u8],
+) -> io::Result<()> {
     let reply = v.read(medium, Block(x), piece);
     let answer = reply.answer;
     if let Answer::Refused(k) = answer {
-        labelled(b" refused with", k);
-        return;
+        return labelled(out, b" refused with", k);
     }
-    show_block(piece);
+    show_block(out, piece)
 }
 
 // Reads blocks of 512 bytes.
-pub fn reads(v: Volume, medium: &[u8], first: usize, end: usize) {
+pub fn reads(
+    out: &mut impl Write,
+    v: Volume,
+    medium: &[u8],
+    first: usize,
+    end: usize,
+) -> io::Result<()> {
     let mut space = [170u8; 512];
-    text(b":");
-    let mut x = first;
-    while x < end {
-        read_block(v, medium, x, &mut space);
-        x += 1;
+    text(out, b":")?;
+    for x in first..end {
+        read_block(out, v, medium, x, &mut space)?;
     }
+    Ok(())
 }

@@ -1,34 +1,37 @@
 // Charts, in a page that holds 170 in each byte before the call.
 use printing::{first_changed, labelled, last_changed, text};
+use std::io;
+use std::io::Write;
 use volume::Volume;
 use wall_chart::ChartAnswer;
 
 // The chart, and which bytes of the page changed.
-fn show_page(page: &[u8], used: usize) {
+fn show_page(out: &mut impl Write, page: &[u8], used: usize) -> io::Result<()> {
     let untouched = [170u8; 4_096];
     let first = first_changed(&untouched, page);
     if first < page.len() {
-        labelled(b", page changed from byte", first);
-        labelled(b" to", last_changed(&untouched, page));
+        labelled(out, b", page changed from byte", first)?;
+        labelled(out, b" to", last_changed(&untouched, page))?;
     }
     if used == 0 {
-        return;
+        return Ok(());
     }
     if used <= page.len() {
-        text(b"\n");
-        text(&page[0..used]);
+        text(out, b"\n")?;
+        text(out, &page[0..used])?;
     }
+    Ok(())
 }
 
-fn show_filled(page: &[u8], answer: ChartAnswer) {
+fn show_filled(out: &mut impl Write, page: &[u8], answer: ChartAnswer) -> io::Result<()> {
     match answer {
         ChartAnswer::Refused(k) => {
-            labelled(b": refusal", k);
-            show_page(page, 0);
+            labelled(out, b": refusal", k)?;
+            show_page(out, page, 0)
         }
         ChartAnswer::Used(used) => {
-            labelled(b": bytes used", used);
-            show_page(page, used);
+            labelled(out, b": bytes used", used)?;
+            show_page(out, page, used)
         }
     }
 }
@@ -41,18 +44,29 @@ fn put_chart(page: &mut [u8], v: Volume, medium: &[u8], of_record: bool) -> Char
     wall_chart::put_chart(page, v)
 }
 
-fn fill(page: &mut [u8], v: Volume, medium: &[u8], of_record: bool) {
+fn fill(
+    out: &mut impl Write,
+    page: &mut [u8],
+    v: Volume,
+    medium: &[u8],
+    of_record: bool,
+) -> io::Result<()> {
     let answer = put_chart(page, v, medium, of_record);
-    show_filled(page, answer);
+    show_filled(out, page, answer)
 }
 
 // In a page of so many bytes.
-pub fn chart(v: Volume, medium: &[u8], len: usize, of_record: bool) {
+pub fn chart(
+    out: &mut impl Write,
+    v: Volume,
+    medium: &[u8],
+    len: usize,
+    of_record: bool,
+) -> io::Result<()> {
     let mut space = [170u8; 4_096];
     let page: &mut [u8] = &mut space;
     if 4_096 < len {
-        text(b": a page has at most 4,096 bytes");
-        return;
+        return text(out, b": a page has at most 4,096 bytes");
     }
-    fill(&mut page[0..len], v, medium, of_record);
+    fill(out, &mut page[0..len], v, medium, of_record)
 }

@@ -48,8 +48,7 @@ pub fn word_number(line: &[u8], words: &[u8]) -> usize {
     let mut k = 0;
     let mut i = 0;
     let mut same = true;
-    let mut p = 0;
-    while p < words.len() {
+    for p in 0..words.len() {
         let b = words[p];
         if byte_at(line, i) != b {
             same = false;
@@ -63,7 +62,6 @@ pub fn word_number(line: &[u8], words: &[u8]) -> usize {
             i = 0;
             same = true;
         }
-        p += 1;
     }
     k
 }
@@ -103,15 +101,13 @@ fn number_at(line: &[u8], from: usize) -> NumberFound {
 pub fn numbers_of(line: &[u8]) -> Numbers {
     let mut list = [0; 16];
     let mut at = digit_at(line, 0);
-    let mut k = 0;
-    while k < 16 {
+    for k in 0..16 {
         if line.len() <= at {
             return Numbers { list, count: k };
         }
         let found = number_at(line, at);
         list[k] = found.value;
         at = digit_at(line, found.end);
-        k += 1;
     }
     let count = if at < line.len() { 17 } else { 16 };
     Numbers { list, count }

@@ -3,21 +3,23 @@ use super::answers::{show_address, show_holder};
 use layout::{Block, Part, Reason, Row, Spot};
 use move_table::Place;
 use printing::{labelled, next_number, text};
+use std::io;
+use std::io::Write;
 use volume::{AddressAnswer, HolderAnswer, Volume};
 
-pub fn address(v: Volume, x: usize) {
+pub fn address(out: &mut impl Write, v: Volume, x: usize) -> io::Result<()> {
     let reply = v.address(Block(x));
     let answer = reply.answer;
-    show_address(answer);
+    show_address(out, answer)
 }
 
-pub fn holder(v: Volume, disk: usize, row: usize) {
+pub fn holder(out: &mut impl Write, v: Volume, disk: usize, row: usize) -> io::Result<()> {
     let reply = v.holder(Spot {
         disk,
         row: Row(row),
     });
     let answer = reply.answer;
-    show_holder(answer);
+    show_holder(out, answer)
 }
 
 // Kinds of blocks: 0, address refuses the block; 1, holder does not give it at its spot; 2 to 6, why it is there; and
@@ -64,44 +66,47 @@ fn is_of(v: Volume, x: usize, kind: usize) -> bool {
 // How many blocks below `end` are of a kind.
 fn blocks_of(v: Volume, end: usize, kind: usize) -> usize {
     let mut total = 0;
-    let mut x = 0;
-    while x < end {
+    for x in 0..end {
         if is_of(v, x, kind) {
             total += 1;
         }
-        x += 1;
     }
     total
 }
 
 // How many blocks below `end` are of each kind from `from` up to, not including, `to`.
-fn show_counts(v: Volume, end: usize, from: usize, to: usize) {
-    text(b":");
-    let mut kind = from;
-    while kind < to {
-        next_number(blocks_of(v, end, kind));
-        kind += 1;
+fn show_counts(
+    out: &mut impl Write,
+    v: Volume,
+    end: usize,
+    from: usize,
+    to: usize,
+) -> io::Result<()> {
+    text(out, b":")?;
+    for kind in from..to {
+        next_number(out, blocks_of(v, end, kind))?;
     }
+    Ok(())
 }
 
 // How many blocks below `end` are refused, not found again by holder, set out at format, added, and moved as head, body and tail.
-pub fn addresses(v: Volume, end: usize) {
-    show_counts(v, end, 0, UNMOVED);
+pub fn addresses(out: &mut impl Write, v: Volume, end: usize) -> io::Result<()> {
+    show_counts(out, v, end, 0, UNMOVED)
 }
 
 // How many blocks below `end` were moved by 0 growths, by 1, and so on up to 7. A block that is refused is not counted.
-pub fn moves(v: Volume, end: usize) {
-    show_counts(v, end, UNMOVED, 15);
+pub fn moves(out: &mut impl Write, v: Volume, end: usize) -> io::Result<()> {
+    show_counts(out, v, end, UNMOVED, 15)
 }
 
 // The table's entry for a mark of the growth from m disks by n.
-pub fn table_move(m: usize, n: usize, mark: usize) {
+pub fn table_move(out: &mut impl Write, m: usize, n: usize, mark: usize) -> io::Result<()> {
     let place = move_table::offset(m, n, mark);
     match place {
         Place::At(at) => {
-            labelled(b": offset", at);
-            labelled(b", disk", move_table::disk_at(at));
+            labelled(out, b": offset", at)?;
+            labelled(out, b", disk", move_table::disk_at(at))
         }
-        Place::NoMark => text(b": no such mark"),
+        Place::NoMark => text(out, b": no such mark"),
     }
 }

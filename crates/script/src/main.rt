@@ -17,16 +17,20 @@ mod two_clients;
 mod views;
 
 use printing::text;
+use std::io;
+use std::io::{BufWriter, Read, Write};
 
-// The length of the buffer that standard input is read into. One that is full need not have all of it.
-const BUFFER_LENGTH: usize = 65_536;
+// The most bytes that are read of standard input. So many need not be all of it.
+const MOST_READ: usize = 65_536;
 
-fn main() {
-    let mut space = [0u8; BUFFER_LENGTH];
-    let got = io::read_full(0, &mut space);
-    if BUFFER_LENGTH <= got {
-        text(b"at most 65,535 bytes are read\n");
-        return;
+fn main(rt: HostRuntime) -> io::Result<()> {
+    let mut input = Vec::new(rt.alloc());
+    rt.reader().take(MOST_READ as u64).read_to_end(&mut input)?;
+    let mut out = BufWriter::new(rt.alloc(), io::writer(&rt))?;
+    if MOST_READ <= input.len() {
+        text(&mut out, b"at most 65,535 bytes are read\n")?;
+        return out.flush();
     }
-    script::run_script(&space[..got]);
+    script::run_script(&mut out, &input)?;
+    out.flush()
 }

@@ -1,6 +1,8 @@
 // A run: what the lines of a script have come to.
 use printing::{number_bytes, text};
 use spans::{Span, Spans};
+use std::io;
+use std::io::Write;
 use volume::Volume;
 
 // The state, the span table, the medium, how many of its bytes are lent to a call, a medium that was kept, and whether
@@ -94,23 +96,23 @@ pub fn keep(run: Run) -> Run {
 }
 
 // Lends so many bytes of the medium from now on.
-pub fn with_lent(run: Run, lent: usize) -> Run {
+pub fn with_lent(out: &mut impl Write, run: Run, lent: usize) -> io::Result<Run> {
     if 18_432 < lent {
-        text(b": the medium has at most 18,432 bytes");
-        return run;
+        text(out, b": the medium has at most 18,432 bytes")?;
+        return Ok(run);
     }
     let v = run.v;
     let table = run.table;
     let medium = run.medium;
     let kept = run.kept;
-    Run {
+    Ok(Run {
         v,
         table,
         lent,
         cached: run.cached,
         medium,
         kept,
-    }
+    })
 }
 
 // Drives with a write cache from now on, or, for 0, without.

@@ -14,105 +14,114 @@ use super::states::{show_change, state_of};
 use super::two_clients::{client_read, client_write, make_table, put_table};
 use super::views::{view, view_of_lengths};
 use printing::{first_changed, labelled, last_changed, text};
+use std::io;
+use std::io::Write;
 use volume::Volume;
 
 // What needs the state alone.
-fn look(v: Volume, given: Given) {
+fn look(out: &mut impl Write, v: Volume, given: Given) -> io::Result<()> {
     let call = given.call;
     match call {
-        ADDRESS => address(v, given.a),
-        HOLDER => holder(v, given.a, given.b),
-        ADDRESSES => addresses(v, given.a),
-        MOVES => moves(v, given.a),
-        TABLE_MOVE => table_move(given.a, given.b, given.c),
-        _ => text(b": no such line, or not so many numbers"),
+        ADDRESS => address(out, v, given.a),
+        HOLDER => holder(out, v, given.a, given.b),
+        ADDRESSES => addresses(out, v, given.a),
+        MOVES => moves(out, v, given.a),
+        TABLE_MOVE => table_move(out, given.a, given.b, given.c),
+        _ => text(out, b": no such line, or not so many numbers"),
     }
 }
 
 // What reads the medium.
-fn fetch(v: Volume, medium: &[u8], given: Given) {
+fn fetch(out: &mut impl Write, v: Volume, medium: &[u8], given: Given) -> io::Result<()> {
     let call = given.call;
     match call {
-        READ => read(v, medium, given.a, given.b),
-        READS => reads(v, medium, given.a, given.b),
-        VIEW => view(v, medium, given.a, given.b),
-        VIEW_OF_LENGTHS => view_of_lengths(v, medium, given.a, given.b, given.c, given.d),
-        CHART => chart(v, medium, given.a, false),
-        CHART_OF_RECORD => chart(v, medium, given.a, true),
-        _ => look(v, given),
+        READ => read(out, v, medium, given.a, given.b),
+        READS => reads(out, v, medium, given.a, given.b),
+        VIEW => view(out, v, medium, given.a, given.b),
+        VIEW_OF_LENGTHS => view_of_lengths(out, v, medium, given.a, given.b, given.c, given.d),
+        CHART => chart(out, v, medium, given.a, false),
+        CHART_OF_RECORD => chart(out, v, medium, given.a, true),
+        _ => look(out, v, given),
     }
 }
 
 // The same, on the bytes that are lent.
-fn fetch_lent(v: Volume, medium: &[u8], lent: usize, given: Given) {
+fn fetch_lent(
+    out: &mut impl Write,
+    v: Volume,
+    medium: &[u8],
+    lent: usize,
+    given: Given,
+) -> io::Result<()> {
     if lent <= medium.len() {
-        fetch(v, &medium[0..lent], given);
+        fetch(out, v, &medium[0..lent], given)?;
     }
+    Ok(())
 }
 
 // What leaves state and medium as they are.
-fn leave(run: Run, given: Given) -> Run {
+fn leave(out: &mut impl Write, run: Run, given: Given) -> io::Result<Run> {
     let medium = run.medium;
-    fetch_lent(run.v, &medium, run.lent, given);
-    run
+    fetch_lent(out, run.v, &medium, run.lent, given)?;
+    Ok(run)
 }
 
 // What changes the medium from outside.
-fn damage(run: Run, line: &[u8], given: Given) -> Run {
+fn damage(out: &mut impl Write, run: Run, line: &[u8], given: Given) -> io::Result<Run> {
     let call = given.call;
     match call {
-        RECORD => put_record(run),
-        PUT => put(run, given),
-        BYTES => put_text(run, line, given.a),
-        BACK => put_back(run, given.a, given.b),
-        _ => leave(run, given),
+        RECORD => Ok(put_record(run)),
+        PUT => Ok(put(run, given)),
+        BYTES => Ok(put_text(run, line, given.a)),
+        BACK => Ok(put_back(run, given.a, given.b)),
+        _ => leave(out, run, given),
     }
 }
 
 // What changes the rest of the run from outside.
-fn set(run: Run, line: &[u8], given: Given) -> Run {
+fn set(out: &mut impl Write, run: Run, line: &[u8], given: Given) -> io::Result<Run> {
     let call = given.call;
     match call {
-        STATE => with_state(run, state_of(line)),
-        MEDIUM => with_lent(run, given.a),
-        CACHE => with_cache(run, given.a),
-        KEEP => keep(run),
-        _ => damage(run, line, given),
+        STATE => Ok(with_state(run, state_of(line))),
+        MEDIUM => with_lent(out, run, given.a),
+        CACHE => Ok(with_cache(run, given.a)),
+        KEEP => Ok(keep(run)),
+        _ => damage(out, run, line, given),
     }
 }
 
 // What is of two clients.
-fn serve(run: Run, line: &[u8], given: Given) -> Run {
+fn serve(out: &mut impl Write, run: Run, line: &[u8], given: Given) -> io::Result<Run> {
     let call = given.call;
     match call {
-        SPANS => make_table(run, given),
-        TABLE => put_table(run, given),
-        CLIENT_WRITE => client_write(run, given),
-        CLIENT_READ => client_read(run, given),
-        _ => set(run, line, given),
+        SPANS => make_table(out, run, given),
+        TABLE => Ok(put_table(run, given)),
+        CLIENT_WRITE => client_write(out, run, given),
+        CLIENT_READ => client_read(out, run, given),
+        _ => set(out, run, line, given),
     }
 }
 
-fn run_given(run: Run, line: &[u8], given: Given) -> Run {
+fn run_given(out: &mut impl Write, run: Run, line: &[u8], given: Given) -> io::Result<Run> {
     let call = given.call;
     if call < WRITE {
-        return make(run, given);
+        return make(out, run, given);
     }
     match call {
-        WRITE => write(run, given),
-        SAVES => saves(run, given.a, given.b),
-        _ => serve(run, line, given),
+        WRITE => write(out, run, given),
+        SAVES => saves(out, run, given.a, given.b),
+        _ => serve(out, run, line, given),
     }
 }
 
 // Which bytes changed.
-fn show_changed(before: [u8; 18_432], after: [u8; 18_432]) {
+fn show_changed(out: &mut impl Write, before: [u8; 18_432], after: [u8; 18_432]) -> io::Result<()> {
     let first = first_changed(&before, &after);
     if first < 18_432 {
-        labelled(b"; medium changed from byte", first);
-        labelled(b" to", last_changed(&before, &after));
+        labelled(out, b"; medium changed from byte", first)?;
+        labelled(out, b" to", last_changed(&before, &after))?;
     }
-    text(b"\n");
+    text(out, b"\n")
 }
 
 // The bytes of a line; none where it ends before it starts.
@@ -134,30 +143,31 @@ fn is_shown_alone(line: &[u8]) -> bool {
     byte_at(line, 0) == b'#'
 }
 
-fn run_line(run: Run, line: &[u8]) -> Run {
-    text(line);
+fn run_line(out: &mut impl Write, run: Run, line: &[u8]) -> io::Result<Run> {
+    text(out, line)?;
     if is_shown_alone(line) {
-        text(b"\n");
-        return run;
+        text(out, b"\n")?;
+        return Ok(run);
     }
-    let next = run_given(run, line, given_by(line));
-    show_change(run.v, next.v);
+    let next = run_given(out, run, line, given_by(line))?;
+    show_change(out, run.v, next.v)?;
     let before = run.medium;
     let after = next.medium;
-    show_changed(before, after);
-    next
+    show_changed(out, before, after)?;
+    Ok(next)
 }
 
-pub fn run_script(script: &[u8]) {
+pub fn run_script(out: &mut impl Write, script: &[u8]) -> io::Result<()> {
     let mut run = start();
     let mut at = 0;
     while at < script.len() {
         let end = line_end(script, at);
         let next = place_after(script, end);
         if next <= at {
-            return;
+            return Ok(());
         }
-        run = run_line(run, line_of(script, at, end));
+        run = run_line(out, run, line_of(script, at, end))?;
         at = next;
     }
+    Ok(())
 }

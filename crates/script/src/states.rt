@@ -2,6 +2,8 @@
 // word, and what is pending, 1 for a record and 2 for blocks.
 use super::lines::numbers_of;
 use printing::{number, text};
+use std::io;
+use std::io::Write;
 use volume::{Pending, Volume};
 
 fn pending_of(word: usize) -> Pending {
@@ -48,50 +50,49 @@ fn state_numbers(v: Volume) -> [usize; 16] {
 }
 
 fn same_numbers(a: [usize; 16], b: [usize; 16]) -> bool {
-    let mut k = 0;
-    while k < 16 {
+    for k in 0..16 {
         if a[k] != b[k] {
             return false;
         }
-        k += 1;
     }
     true
 }
 
 // Shows a byte or, where it is #, number k; gives the place of the next number.
-fn show_at(b: u8, k: usize, list: [usize; 16]) -> usize {
+fn show_at(out: &mut impl Write, b: u8, k: usize, list: [usize; 16]) -> io::Result<usize> {
     if b != b'#' {
-        text(&[b; 1]);
-        return k;
+        text(out, &[b; 1])?;
+        return Ok(k);
     }
     if 16 <= k {
-        return k;
+        return Ok(k);
     }
-    number(list[k]);
-    k + 1
+    number(out, list[k])?;
+    Ok(k + 1)
 }
 
 // Each # stands for the next number.
-fn show_numbers(words: &[u8], list: [usize; 16]) {
+fn show_numbers(out: &mut impl Write, words: &[u8], list: [usize; 16]) -> io::Result<()> {
     let mut k = 0;
-    let mut i = 0;
-    while i < words.len() {
-        k = show_at(words[i], k, list);
-        i += 1;
+    for i in 0..words.len() {
+        k = show_at(out, words[i], k, list)?;
     }
+    Ok(())
 }
 
 // The state after a call, if it is another one than before.
-pub fn show_change(before: Volume, after: Volume) {
+pub fn show_change(out: &mut impl Write, before: Volume, after: Volume) -> io::Result<()> {
     let numbers = state_numbers(after);
     if same_numbers(state_numbers(before), numbers) {
-        return;
+        return Ok(());
     }
     show_numbers(
+        out,
         b"; state Z #, s #, t #, N # # # # # # # #, growing #, w #, recorded #, copied #, pending #",
         numbers,
-    );
+    )?;
     if !after.is_sound() {
-        text(b", not sound");
+        text(out, b", not sound")?;
     }
+    Ok(())
 }

@@ -6,6 +6,8 @@ use super::run::{Run, with_medium, with_table};
 use layout::Block;
 use printing::{labelled, next_number, text};
 use spans::{Span, Spans};
+use std::io;
+use std::io::Write;
 use volume::{Reply, Volume};
 
 // The table of a line's numbers.
@@ -21,32 +23,31 @@ fn table_of(given: Given) -> Spans {
     Spans { zero, one }
 }
 
-fn show_table(table: Spans) {
+fn show_table(out: &mut impl Write, table: Spans) -> io::Result<()> {
     let zero = table.zero;
     let one = table.one;
-    text(b", table");
-    next_number(zero.first);
-    next_number(zero.count);
-    next_number(one.first);
-    next_number(one.count);
+    text(out, b", table")?;
+    next_number(out, zero.first)?;
+    next_number(out, zero.count)?;
+    next_number(out, one.first)?;
+    next_number(out, one.count)
 }
 
-fn show_refusal(k: usize) {
+fn show_refusal(out: &mut impl Write, k: usize) -> io::Result<()> {
     if k == 0 {
-        text(b": done");
-        return;
+        return text(out, b": done");
     }
-    labelled(b": refusal", k);
+    labelled(out, b": refusal", k)
 }
 
 // Makes a table. What comes of it is the run's from now on.
-pub fn make_table(run: Run, given: Given) -> Run {
+pub fn make_table(out: &mut impl Write, run: Run, given: Given) -> io::Result<Run> {
     let asked = table_of(given);
     let made = spans::make_spans(asked.zero, asked.one);
     let table = made.spans;
-    show_refusal(made.refusal);
-    show_table(table);
-    with_table(run, table)
+    show_refusal(out, made.refusal)?;
+    show_table(out, table)?;
+    Ok(with_table(run, table))
 }
 
 // A table that nobody has tested.
@@ -69,40 +70,54 @@ fn write_lent(table: Spans, v: Volume, medium: &mut [u8], lent: usize, given: Gi
     write_bytes(table, v, &mut medium[0..lent], given)
 }
 
-pub fn client_write(run: Run, given: Given) -> Run {
+pub fn client_write(out: &mut impl Write, run: Run, given: Given) -> io::Result<Run> {
     if 1_024 < given.c {
-        text(b": a piece has at most 1,024 bytes");
-        return run;
+        text(out, b": a piece has at most 1,024 bytes")?;
+        return Ok(run);
     }
     let mut medium = run.medium;
     let reply = write_lent(run.table, run.v, &mut medium, run.lent, given);
-    told(with_medium(run, medium), reply)
+    told(out, with_medium(run, medium), reply)
 }
 
 // Fills a piece with a block, and shows it.
-fn read_piece(table: Spans, v: Volume, medium: &[u8], given: Given, piece: &mut [u8]) {
+fn read_piece(
+    out: &mut impl Write,
+    table: Spans,
+    v: Volume,
+    medium: &[u8],
+    given: Given,
+    piece: &mut [u8],
+) -> io::Result<()> {
     let reply = clients::client_read(table, given.a, v, medium, Block(given.b), piece);
     let answer = reply.answer;
-    show_answer(answer);
-    show_piece(piece);
+    show_answer(out, answer)?;
+    show_piece(out, piece)
 }
 
 // A piece holds 170 in each byte before the call.
-fn read_lent(table: Spans, v: Volume, medium: &[u8], lent: usize, given: Given) {
+fn read_lent(
+    out: &mut impl Write,
+    table: Spans,
+    v: Volume,
+    medium: &[u8],
+    lent: usize,
+    given: Given,
+) -> io::Result<()> {
     let mut space = [170u8; 1_024];
     let piece: &mut [u8] = &mut space;
     let size = given.c;
     if 1_024 < size {
-        text(b": a piece has at most 1,024 bytes");
-        return;
+        return text(out, b": a piece has at most 1,024 bytes");
     }
     if lent <= medium.len() {
-        read_piece(table, v, &medium[0..lent], given, &mut piece[0..size]);
+        read_piece(out, table, v, &medium[0..lent], given, &mut piece[0..size])?;
     }
+    Ok(())
 }
 
-pub fn client_read(run: Run, given: Given) -> Run {
+pub fn client_read(out: &mut impl Write, run: Run, given: Given) -> io::Result<Run> {
     let medium = run.medium;
-    read_lent(run.table, run.v, &medium, run.lent, given);
-    run
+    read_lent(out, run.table, run.v, &medium, run.lent, given)?;
+    Ok(run)
 }
