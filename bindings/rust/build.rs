@@ -14,7 +14,7 @@ fn main() {
     println!("cargo::rerun-if-changed={}", library.display());
     if !library.is_file() {
         println!(
-            "cargo::error=no {}: 'rt staticlib capi' writes it, or STRETERVA_LIB names its folder",
+            "cargo::error=no {}: 'tools/build capi' writes it, or STRETERVA_LIB names its folder",
             library.display()
         );
         return;

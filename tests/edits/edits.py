@@ -123,6 +123,11 @@ def functions_of(texts, file):
     return found
 
 
+def is_exported(before):
+    """Does a function with this text before it have the attribute of an export?"""
+    return '#[unsafe(no_mangle)]' in re.search(r'(?:^#\[.*\]\n)*\Z', before, re.M).group()
+
+
 def offered_of(texts):
     """The functions that a crate offers: exported to C, named by lib.rt, or public methods of a public type."""
     lib, names = texts.get('src/lib.rt', ''), set()
@@ -131,7 +136,7 @@ def offered_of(texts):
         for name, start, _ in functions_of(texts, file):
             line = texts[file][start:texts[file].index('\n', start)]
             public = line.lstrip().startswith('pub fn') and (file == 'src/lib.rt' or line.startswith(' '))
-            if public or name in named or texts[file][:start].endswith('#[no_mangle]\n'):
+            if public or name in named or is_exported(texts[file][:start]):
                 names.add(name)
     return names
 
@@ -221,9 +226,10 @@ def is_judged(folder):
 
 
 def crates_below(root):
-    """The crates of crates.txt in its order, each with those that it names."""
+    """The crates of crates.txt in its order, each with those that it names. A static library is told so behind its
+    name."""
     lines = [line.partition('#')[0].partition(':') for line in read(os.path.join(root, 'crates.txt')).split('\n')]
-    return {name.strip(): below.split() for name, colon, below in lines if colon}
+    return {head.split()[0]: below.split() for head, colon, below in lines if colon}
 
 
 def crates_of(root):

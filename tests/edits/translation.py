@@ -8,7 +8,8 @@ from edits import functions_of
 
 GHOST = re.compile(r'^ghost use [^;]*;\n', re.M)
 CLAUSE = re.compile(r'^[ \t]*(?:requires|ensures)\b[^{\n]*(?=\{)', re.M)
-EXPORT = re.compile(r'^#\[no_mangle\]\n|\bextern "C" (?=fn\b)', re.M)
+ATTRIBUTE = re.compile(r'^[ \t]*#!?\[(?:tactic|derive|cycle|unsafe\(no_mangle)\b[^\]]*\]\n+', re.M)
+EXPORT = re.compile(r'\bextern "C" (?=fn\b)')
 PRIVATE = re.compile(r'^([ \t]*)(?:pub\(crate\) )?(?=(?:fn|struct|enum|mod|const) )', re.M)
 TYPE = re.compile(r'^(?=pub (?:struct|enum) )', re.M)
 STRUCT = re.compile(r'^pub struct \w+ \{\n.*?^\}', re.M | re.S)
@@ -37,7 +38,7 @@ def without_contracts(text):
 
 def as_rust(text):
     """A text of Rattle, as Rust."""
-    text = EXPORT.sub('', GHOST.sub('', without_contracts(text)))
+    text = EXPORT.sub('', ATTRIBUTE.sub('', GHOST.sub('', without_contracts(text))))
     text = PRIVATE.sub(lambda m: m.group(1) + 'pub ', text)
     text = STRUCT.sub(lambda m: FIELD.sub(r'\1pub ', m.group()), TYPE.sub(DERIVED, text))
     return text.replace('std::num::', 'num::')

@@ -22,7 +22,7 @@ const PICTURE: &str = "   row         0         1         2         3         4
 /// The program `chart`.
 fn program() -> PathBuf {
     let path = std::env::var_os("STRETERVA_CHART").map_or(in_the_repository("target/bin/chart"), PathBuf::from);
-    assert!(path.is_file(), "no {}: 'rt check chart' makes it, or STRETERVA_CHART names it", path.display());
+    assert!(path.is_file(), "no {}: 'tools/build chart' makes it, or STRETERVA_CHART names it", path.display());
     path
 }
 
