@@ -4,9 +4,9 @@ use Rattle.promise.specs.Model.{CachedModel}
 use Rattle.promise.specs.Promise.{begin, system_after, model_of}
 use Rattle.promise.proofs.Theorem.{start_geometry, start_cached}
 use Rattle.clients.specs.Stations.{stations_after, stations_model}
-use Rattle.clients.specs.OwnCalls.{kept_all, SameAsOwn, AsOwnCalls}
+use Rattle.clients.specs.OwnCalls.{kept_all, AsOwnCalls}
 use Rattle.clients.proofs.Separated.{ready_start}
-use Rattle.clients.proofs.Translated.{SameRun, same_run, early_kept}
+use Rattle.clients.proofs.Translated.{same_run, early_kept}
 
 pub as_own_calls : AsOwnCalls
 unfolding stations_after stations_model system_after model_of
