@@ -1,14 +1,14 @@
 -- What the code of the exported functions on a span table needs.
 use Prim.Native.Nat.{ℕ}
 use mathlib.Core.Path.{◌≡◌, refl, sym, ap, ◌∙◌}
-use mathlib.Core.Bool.{Bool, true, false, cond, not, ◌&&◌}
+use mathlib.Core.Bool.{Bool, true, false, cond, ◌&&◌}
 use mathlib.Core.List.{List, [], ◌∷◌}
 use mathlib.Core.Logic.{◌≢◌}
 use native.Mathlib.Omega.{arith}
 use lib.Dec.{eqb}
 use lib.ListN.{length, set}
-use borrow.Author.Tests.{eqb-true, eq-eqb, ne_eqb, not-true, not-false}
-use Rattle.base.proofs.Booleans.{by_test, and_left, and_right}
+use borrow.Author.Tests.{eq-eqb, ne_eqb}
+use Rattle.base.proofs.Booleans.{by_test}
 use Rattle.medium.specs.declared.Geometry.{Geometry}
 use Rattle.medium.specs.Medium.{observe, apply}
 use Rattle.volume.specs.Answers.{number}
@@ -21,7 +21,7 @@ use Rattle.clients.proofs.Laws.{client_laws}
 use Rattle.promise.specs.Lists.{call_outcome}
 use Rattle.capi.specs.Exported.{Left, wrong_length, state_fits, untouched, handed_back, looked_up, call_left, read_left, write_left}
 use Rattle.capi.specs.Clients.{words_of_spans, spans_left, client_fits, client_read_left, client_write_left}
-use Rattle.capi.specs.Words.{state_words, words_of, state_from, are_state}
+use Rattle.capi.specs.Words.{words_of, state_from, are_state}
 use Rattle.capi.proofs.WordLaws.{state_words_law, words_back}
 
 -- four words, each stored
@@ -63,12 +63,12 @@ no_fit spans words n = rw (ne_eqb (length spans) span_words n) refl
 
 -- what `allows_words` told
 pub told_outside : (spans : List ℕ) (client x : ℕ) (told : Bool) → length spans ≡ span_words → told ≡ (eqb (length spans) span_words && allowed (spans_from spans) client x)
-    → not told ≡ true → allowed (spans_from spans) client x ≡ false
-told_outside spans client x told n e h = rw (eq-eqb (length spans) span_words n) at (sym e ∙ not-true told h)
+    → told ≡ false → allowed (spans_from spans) client x ≡ false
+told_outside spans client x told n e h = rw (eq-eqb (length spans) span_words n) at (sym e ∙ h)
 
 pub told_inside : (spans : List ℕ) (client x : ℕ) (told : Bool) → length spans ≡ span_words → told ≡ (eqb (length spans) span_words && allowed (spans_from spans) client x)
-    → not told ≡ false → allowed (spans_from spans) client x ≡ true
-told_inside spans client x told n e h = rw (eq-eqb (length spans) span_words n) at (sym e ∙ not-false told h)
+    → told ≡ true → allowed (spans_from spans) client x ≡ true
+told_inside spans client x told n e h = rw (eq-eqb (length spans) span_words n) at (sym e ∙ h)
 
 -- the number outside the span
 abbrev outside_number : (words : List ℕ) → ℕ

@@ -1,13 +1,13 @@
 -- What the code of the exported functions needs: the tests of the lengths, and what load puts and leaves.
 use Prim.Native.Nat.{ℕ}
 use mathlib.Core.Path.{◌≡◌, refl, sym, ap, ◌∙◌}
-use mathlib.Core.Bool.{Bool, true, false, cond, not, ◌&&◌}
+use mathlib.Core.Bool.{Bool, true, false, cond, ◌&&◌}
 use mathlib.Core.List.{List, [], ◌∷◌, ◌++◌, append-nil}
 use mathlib.Core.Logic.{◌≢◌}
 use native.Mathlib.Omega.{arith}
 use lib.Dec.{eqb}
 use lib.ListN.{length, take, drop, set, drop_of_length-le}
-use borrow.Author.Tests.{eqb-true, eq-eqb, ne_eqb, not-true, not-false}
+use borrow.Author.Tests.{eqb-true, eq-eqb, ne_eqb}
 use Rattle.base.specs.Refusals.{refusal}
 use Rattle.base.proofs.Booleans.{and_left, and_right, by_test}
 use Rattle.medium.specs.declared.Geometry.{Geometry}
@@ -50,14 +50,14 @@ pub record Fits (words : List ℕ) (n : ℕ) (figures : List ℕ) : Type 0 where
   pub figures_length : length figures ≡ n
 
 module _ (words : List ℕ) (n : ℕ) (figures : List ℕ) (told : Bool) (e : told ≡ (are_state words && eqb (length figures) n)) where
-  pub fits_not : not told ≡ true → state_fits words n figures ≡ false
+  pub fits_not : told ≡ false → state_fits words n figures ≡ false
   unfolding state_fits
-  fits_not h = sym e ∙ not-true told h
+  fits_not h = sym e ∙ h
 
-  pub fitting : not told ≡ false → Fits words n figures
+  pub fitting : told ≡ true → Fits words n figures
   unfolding state_fits
   fitting h =
-      let both : (are_state words && eqb (length figures) n) ≡ true = sym e ∙ not-false told h in
+      let both : (are_state words && eqb (length figures) n) ≡ true = sym e ∙ h in
       let state = and_left (are_state words) (eqb (length figures) n) both in
       record {
         fits = both;
@@ -75,10 +75,10 @@ module _ (words : List ℕ) (told : Bool) (e : told ≡ are_state words) where
       and_true true = refl
       and_true false = refl
 
-  pub no_state : not told ≡ true → state_fits words 0 [] ≡ false
+  pub no_state : told ≡ false → state_fits words 0 [] ≡ false
   no_state = fits_not words 0 [] told no_figures
 
-  pub state_told : not told ≡ false → Fits words 0 []
+  pub state_told : told ≡ true → Fits words 0 []
   state_told = fitting words 0 [] told no_figures
 
 -- what a call on a state leaves, as the code makes it: where the lent slices do not fit, and where they do
@@ -86,7 +86,7 @@ module _ (n : ℕ) (figures_of : Answer → List ℕ) (c : Call) (words figures 
   abbrev left : Left
   left = call_left n figures_of c words figures piece (observe m)
 
-  pub call_not_made : (g : Geometry) (told : Bool) → told ≡ (are_state words && eqb (length figures) n) → not told ≡ true
+  pub call_not_made : (g : Geometry) (told : Bool) → told ≡ (are_state words && eqb (length figures) n) → told ≡ false
       → (wrong_length ≡ left.number) × ((words ≡ left.words) × ((figures ≡ left.figures) × (m ≡ apply g left.store m)))
   unfolding call_left untouched apply
   call_not_made g told e h = rw (fits_not words n figures told e h) (refl, (refl, (refl, refl)))
@@ -106,7 +106,7 @@ module _ (n number : ℕ) (told words figures : List ℕ) where
   abbrev left_by_look_up : Left
   left_by_look_up = look_up_left n number told words figures
 
-  pub look_up_not_made : (fits : Bool) → fits ≡ (are_state words && eqb (length figures) n) → not fits ≡ true
+  pub look_up_not_made : (fits : Bool) → fits ≡ (are_state words && eqb (length figures) n) → fits ≡ false
       → (wrong_length ≡ left_by_look_up.number) × (figures ≡ left_by_look_up.figures)
   unfolding look_up_left untouched
   look_up_not_made fits e h = rw (fits_not words n figures fits e h) (refl, refl)
