@@ -1,15 +1,15 @@
 -- What the code of the lines needs.
-use Prim.Native.Nat.{ℕ, ◌+◌, ◌-◌, ◌*◌, ◌≤◌}
+use Prim.Native.Nat.{ℕ, ◌-◌, ◌≤◌}
 use mathlib.Core.Path.{◌≡◌, sym, ◌∙◌}
-use mathlib.Core.List.{List, [], ◌∷◌, ◌++◌, append-nil}
+use mathlib.Core.List.{List, [], ◌∷◌, ◌++◌}
 use native.Mathlib.Omega.{arith}
-use lib.ListN.{length, drop, set, drop_of_length-le}
+use lib.ListN.{length, drop, set}
 use lib.Seq.{sets, length-sets}
 use Rattle.base.specs.Below.{joined}
 use Rattle.base.proofs.Lists.{sets_append, front_stored, whole_stored, length_joined}
 use Rattle.record.specs.Decimal.{column_width}
 use Rattle.record.specs.Sector.{line_feed}
-use Rattle.wall_chart.specs.Chart.{heading, dash, row_width, text_bytes, line_bytes, line}
+use Rattle.wall_chart.specs.Chart.{heading, row_width, text_bytes, line_bytes, line}
 use Rattle.wall_chart.proofs.Lengths.{length_heading, length_line}
 
 -- the heading, copied

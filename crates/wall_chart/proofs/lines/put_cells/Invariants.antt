@@ -1,13 +1,9 @@
-use Prim.Native.Nat.{◌-◌, ◌+◌, ◌*◌, ◌≤◌}
-use mathlib.Core.Path.{◌≡◌, refl}
-use native.Mathlib.Omega.{arith}
+use Prim.Native.Nat.{◌-◌, ◌≤◌}
+use mathlib.Core.Path.{◌≡◌}
 use lib.ListN.{length}
 use lib.Seq.{sets}
-use borrow.Author.Rules.{rules}
 use Rattle.base.specs.Below.{joined}
-use Rattle.base.proofs.Lists.{lent_length, joined_back}
 use Rattle.wall_chart.specs.Chart.{cell_at}
-use Rattle.wall_chart.proofs.Lengths.{length_cell_at}
 use Rattle.wall_chart.proofs.lines.put_cells.Given as goal
 
 abbrev pub invariant-loop-disk : goal.invariant-loop-disk

@@ -1,7 +1,5 @@
 -- `put_row_line` meets its contract.
 use native.Mathlib.Omega.{arith}
-use lib.ListN.{length-set}
-use borrow.Author.Rules.{rules}
 use Rattle.record.specs.Decimal.{decimal}
 use Rattle.record.proofs.Lengths.{length_decimal}
 use Rattle.record.proofs.WriteCode.{full_part_back}

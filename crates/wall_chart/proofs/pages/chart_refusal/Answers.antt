@@ -1,8 +1,7 @@
 -- `chart_refusal` meets its contract.
 use mathlib.Core.Path.{◌≡◌, sym, ◌∙◌}
 use mathlib.Core.Bool.{true}
-use borrow.Author.Rules.{rules}
-use borrow.Author.Tests.{not-true, not-false, lt-ltb, le-ltb}
+use borrow.Author.Tests.{lt-ltb, le-ltb}
 use Rattle.base.specs.Refusals.{refusal}
 use Rattle.volume.specs.Sound.{sound}
 use Rattle.volume.proofs.CallsCode.{disks_most}

@@ -1,6 +1,5 @@
 -- `put_chart` meets its contract.
 use mathlib.Core.Path.{refl}
-use borrow.Author.Rules.{rules}
 use Rattle.wall_chart.specs.Pages.{untouched, with_chart}
 use Rattle.wall_chart.proofs.PagesCode.{chart_refused, chart_accepted, chart_fits}
 use Rattle.wall_chart.proofs.pages.put_chart.Goals as goal

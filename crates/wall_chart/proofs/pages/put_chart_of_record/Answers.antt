@@ -1,6 +1,5 @@
 -- `put_chart_of_record` meets its contract.
 use mathlib.Core.Path.{◌≡◌, refl, ap}
-use borrow.Author.Rules.{rules}
 use Rattle.medium.specs.Medium.{observe}
 use Rattle.volume.specs.Calls.{reporting}
 use Rattle.volume.specs.States.{pending_with, with_pending}

@@ -3,7 +3,6 @@ use Prim.Native.Nat.{◌+◌, ◌*◌, ◌≤◌}
 use mathlib.Core.Path.{◌≡◌, sym, ◌∙◌}
 use native.Mathlib.Omega.{arith}
 use lib.ListN.{length, length-take, length-drop}
-use borrow.Author.Rules.{rules}
 use Rattle.layout.specs.Limits.{most_disks, most_rows}
 use Rattle.volume.proofs.CallsCode.{disks_most}
 use Rattle.volume.proofs.SoundLaws.{sound_facts}

@@ -1,10 +1,8 @@
 -- `put_rows` meets its contract.
-use Prim.Native.Nat.{◌-◌, ◌+◌, ◌*◌, ◌≤◌}
+use Prim.Native.Nat.{◌+◌, ◌*◌, ◌≤◌}
 use mathlib.Core.Path.{◌≡◌, refl, sym, ◌∙◌}
 use native.Mathlib.Omega.{arith}
 use lib.ListN.{length}
-use lib.Seq.{sets}
-use borrow.Author.Rules.{rules}
 use Rattle.base.specs.Below.{joined}
 use Rattle.base.proofs.Lists.{lent_length, joined_back}
 use Rattle.wall_chart.specs.Chart.{row_line}

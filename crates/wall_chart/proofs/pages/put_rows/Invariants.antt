@@ -1,14 +1,9 @@
-use Prim.Native.Nat.{◌-◌, ◌+◌, ◌*◌, ◌≤◌}
-use mathlib.Core.Path.{◌≡◌, refl, sym, ◌∙◌}
-use native.Mathlib.Omega.{arith}
+use Prim.Native.Nat.{◌-◌, ◌≤◌}
+use mathlib.Core.Path.{◌≡◌}
 use lib.ListN.{length}
 use lib.Seq.{sets}
-use borrow.Author.Rules.{rules}
 use Rattle.base.specs.Below.{joined}
-use Rattle.base.proofs.Lists.{lent_length, joined_back}
 use Rattle.wall_chart.specs.Chart.{row_line}
-use Rattle.wall_chart.proofs.Lengths.{length_row_line}
-use Rattle.wall_chart.proofs.PagesCode.{row_room}
 use Rattle.wall_chart.proofs.pages.put_rows.Given as goal
 
 abbrev pub invariant-loop-b : goal.invariant-loop-b
