@@ -36,6 +36,10 @@ class Edit:
     after: dict
     problem: str = ''
 
+    @property
+    def of_code(self):
+        return all(pair.file.startswith('src/') for pair in self.pairs)
+
 
 @dataclasses.dataclass
 class WrongLine:
@@ -156,14 +160,24 @@ def put_in(pair, texts, spans):
     texts[pair.file] = text[:at] + pair.new + text[end:]
 
 
+def put_all_in(pairs, before):
+    """The files of a crate after these pairs."""
+    after, spans = dict(before), collections.defaultdict(list)
+    for pair in pairs:
+        put_in(pair, after, spans)
+    return after
+
+
 def make_edit(folder, path):
     before = files_of(folder)
     pairs, problem = read_edit(path)
-    edit = Edit(os.path.basename(path).removesuffix('.edit'), pairs, before, dict(before), problem)
-    spans = collections.defaultdict(list)
-    for pair in pairs:
-        put_in(pair, edit.after, spans)
-    return edit
+    return Edit(os.path.basename(path).removesuffix('.edit'), pairs, before, put_all_in(pairs, before), problem)
+
+
+def with_lines(edit, lines):
+    """The files of an edit's crate with these of its wrong lines alone."""
+    pairs = [dataclasses.replace(pair) for line in lines for pair in line.pairs]
+    return put_all_in(sorted(pairs, key=lambda pair: pair.line), edit.before)
 
 
 def words_of(texts, file, function):

@@ -1,56 +1,82 @@
-"""What the log of an edit shows: which functions are not proved, and which facts fail; and whether that is what the
-edit's wrong lines say."""
+"""What rt says of an edit: which functions are not proved, and which facts fail; and whether that is what the edit's
+wrong lines say."""
 import collections
 import dataclasses
-import os
 import re
 
 from claims import declarations, is_lemma, records_of
-from edits import claim_of, files_of, read, wrong_lines
+from edits import claim_of, with_lines, wrong_lines
+from tries import with_names
 
 NO_FACT = ('not admitted', 'cannot be checked', 'can be named from here')
 NO_FIELD = 'record `'
-UNPROVED = re.compile(r'fn \w+::(\S+): (?:not proved|no proof)')
-PROVED = re.compile(r'fn \w+::(\S+): proved$')
-UNCLOSED = re.compile(r'`search` does not close (`[^;]*`)')
+# What is said of a proof that names what the code no longer has.
+MISFIT = re.compile(r'record `[^`]*` has no field|.*: module `[^`]*` has no |`[^`]*` is not in scope')
+FUNCTION = re.compile(r'fn \w+::(\S+): (proved$|not proved|no proof)(.*)')
+UNCLOSED = re.compile(r'`search` did not prove (`[^;]*`)')
+OPEN = re.compile(r'note: \S+:\d+:\d+: it is not proved that .*\(`([^`]+)`\)')
 ERROR = re.compile(r'(?:\S*/)?(?:proofs|specs)/(\S+\.antt):\d+:\d+: error: `([^`]*)`: (.*)')
 
 
 @dataclasses.dataclass
 class Log:
-    """The functions that are not proved, those that are, and what fails: facts by function, declarations by file. What
-    rests on them is not admitted either. A misfit is a function or file whose proof does not fit the shape."""
+    """Whether rt came to a verdict; functions that are not proved, those that are, and what fails: facts by function,
+    declarations by file. What rests on them is not admitted either. A misfit is a function or file whose proof does not
+    fit the shape. Of a function that waits for another one's proof not all facts were tried."""
+    ended: bool = False
     refused: bool = False
     unproved: set = dataclasses.field(default_factory=set)
     proved: set = dataclasses.field(default_factory=set)
+    waiting: set = dataclasses.field(default_factory=set)
     facts: dict = dataclasses.field(default_factory=lambda: collections.defaultdict(set))
     resting: dict = dataclasses.field(default_factory=lambda: collections.defaultdict(set))
     misfits: set = dataclasses.field(default_factory=set)
 
 
 def owner_of(file):
-    """What the facts of a file of proofs are told of: the function for its Proof.antt, else the file."""
-    return file.removesuffix('/Proof.antt').replace('/', '::') if file.endswith('/Proof.antt') else file
+    """What the facts of a file of proofs are told of: the function in whose folder it stands, else the file."""
+    folder, _, _ = file.rpartition('/')
+    return folder.replace('/', '::') or file
 
 
-def read_log(path):
-    log = Log()
-    for line in read(path).split('\n'):
+def read_function(line, log, open_facts):
+    """Reads the line that tells of a function whether it is proved. Before it stand its facts that have no answer."""
+    name, told, more = FUNCTION.match(line).groups()
+    if told == 'proved':
+        log.proved.add(name)
+        return
+    log.unproved.add(name)
+    if 'it calls `' in more:
+        log.waiting.add(name)
+    for closed in UNCLOSED.findall(more):
+        log.facts[name] |= set(re.findall(r'`([^`]+)`', closed))
+    log.facts[name] |= open_facts
+
+
+def read_error(line, log):
+    """Reads the line that tells what is wrong in a file of proofs."""
+    file, name, why = ERROR.match(line).groups()
+    of = owner_of(file)
+    fits = not MISFIT.match(why)
+    rests = any(words in why for words in NO_FACT)
+    (log.facts if fits and not rests else log.resting)[of].add(name)
+    if not fits and ('/' in file or why.startswith(NO_FIELD)):
+        log.misfits.add(of)
+
+
+def read_log(said):
+    log, open_facts = Log(), set()
+    for line in said.split('\n'):
+        log.ended |= line.startswith('logic=')
         log.refused |= line.startswith('logic=not-proved')
-        log.proved |= set(PROVED.findall(line))
-        unproved = UNPROVED.match(line)
-        if unproved:
-            log.unproved.add(unproved.group(1))
-            # A function without a file of proofs: the facts that the search leaves.
-            for closed in UNCLOSED.findall(line):
-                log.facts[unproved.group(1)] |= set(re.findall(r'`([^`]+)`', closed))
-        error = ERROR.match(line)
-        if error:
-            of, rests = owner_of(error.group(1)), any(words in error.group(3) for words in NO_FACT)
-            (log.resting if rests else log.facts)[of].add(error.group(2))
-            if error.group(3).startswith(NO_FIELD):
-                log.misfits.add(of)
-    for of in log.misfits:
+        if OPEN.match(line):
+            open_facts.add(OPEN.match(line).group(1))
+        if FUNCTION.match(line):
+            read_function(line, log, open_facts)
+            open_facts = set()
+        if ERROR.match(line):
+            read_error(line, log)
+    for of in log.misfits & log.facts.keys():
         del log.facts[of]
     return log
 
@@ -75,17 +101,6 @@ def shares(line, others):
                 return f'{of} is reached by the wrong line {other.pairs[0].line} too: name a fact of each'
             if any(of == also and (not fact or not also_fact or fact == also_fact) for also, also_fact in other.claims):
                 return f'the wrong line {other.pairs[0].line} rests on the same fact of {of}'
-    return ''
-
-
-def problem_of_log(edit, folder):
-    """What is wrong with the log that rt left of this edit, or ''."""
-    if not os.path.exists(os.path.join(folder, '.log')):
-        return 'it has no log: run rt must-fail'
-    there = files_of(folder)
-    changed = [file for file in edit.after if there.get(file, '').strip() != edit.after[file].strip()]
-    if changed or len(there) != len(edit.after):
-        return f'its log is of other files: run rt must-fail again ({" ".join(changed[:3])})'
     return ''
 
 
@@ -114,7 +129,7 @@ def is_not_adapted(pair, edit, log):
         return f'its `proved:` line names {other[0]}, which is no declaration of {file}'
     of, names = owner_of(file), {claim_of(name)[1] for name in pair.proved}
     failing = log.facts.get(of, set()) | log.resting.get(of, set())
-    fails = of in log.misfits or (failing if file.endswith('/Proof.antt') else failing & names)
+    fails = of in log.misfits or (failing if '/' in file else failing & names)
     return f'the adapted proof {file} fails, so not a law alone refuses the definition' if fails else ''
 
 
@@ -135,22 +150,58 @@ def names_a_lemma(line, edit):
     return ''
 
 
-def judge(edit, folder):
+def tried(crate, texts, tries, claims):
+    """What rt says of a crate with these texts, or None where it comes to no verdict. Names that the texts' code has in
+    the place of others are turned in its proofs, and facts are told by those that the crate has as it stands."""
+    log = read_log(tries.said(crate, texts))
+    unknown = {of for of, fact in claims if fact and fact not in log.facts.get(of, ())} & log.unproved
+    others = tries.other_names(crate, texts, log.misfits | unknown) if log.misfits | unknown else {}
+    log = read_log(tries.said(crate, with_names(texts, others)))
+    for of, words in others.items():
+        back = {new: old for old, new in words.items()}
+        log.facts[of] = {back.get(fact, fact) for fact in log.facts.get(of, ())}
+    return log if log.ended else None
+
+
+def why_not(line, lines, edit, log):
+    """Why a wrong line is not seen to fail, or ''."""
+    fails = [does_not_fail(claim, log) for claim in line.claims]
+    why = line.problem or next((f for f in fails if f), '') or shares(line, [o for o in lines if o is not line])
+    return why or names_a_lemma(line, edit)
+
+
+def judge_lines(crate, edit, lines, tries):
+    """The problem of an edit, or ''; and why each wrong line is not seen to fail, or ''. Lines whose function waits for
+    the proof of another one are tried again without those that are seen to fail."""
+    whys, left = {}, lines
+    while left:
+        claims = [claim for line in left for claim in line.claims]
+        log = tried(crate, with_lines(edit, left) if whys else edit.after, tries, claims)
+        problem = problem_of_log(edit, log) if not whys else '' if log else 'rt came to no verdict'
+        if problem:
+            return problem, []
+        found = {id(line): why_not(line, lines, edit, log) for line in left}
+        waits = [line for line in left if found[id(line)] and {of for of, _ in line.claims} & log.waiting]
+        whys |= found
+        # A definition has what rests on it as its facts, and no line less.
+        left = waits if len(waits) < len(left) and edit.of_code else []
+    return '', [(line, whys[id(line)]) for line in lines]
+
+
+def problem_of_log(edit, log):
+    """What is wrong with what rt says of a whole edit, or ''."""
+    if not log:
+        return 'rt came to no verdict'
+    follows = [does_not_follow(pair, edit, log) for pair in edit.pairs if pair.proved] + [fails_too(edit, log)]
+    return next((why for why in follows if why), '' if log.refused else 'the prover did not refuse it')
+
+
+def judge(crate, edit, tries):
     """Why the edit cannot be judged, or ''; and each wrong line with '' where it is seen to fail, else why not."""
     lines = wrong_lines(edit)
-    missing = [line for line in lines if line.problem.startswith('its old text')]
-    problem = edit.problem or ('' if missing else problem_of_log(edit, folder))
-    log = Log() if problem or missing else read_log(os.path.join(folder, '.log'))
-    if not problem and not missing:
-        follows = [does_not_follow(pair, edit, log) for pair in edit.pairs if pair.proved] + [fails_too(edit, log)]
-        problem = next((why for why in follows if why), '' if log.refused else 'the prover did not refuse it')
-    if problem:
-        return problem, [(line, problem) for line in lines]
-    if missing:
+    if edit.problem:
+        return edit.problem, [(line, edit.problem) for line in lines]
+    if any(line.problem.startswith('its old text') for line in lines):
         return '', [(line, line.problem or 'another pair is not in its file') for line in lines]
-    verdicts = []
-    for line in lines:
-        fails = [does_not_fail(claim, log) for claim in line.claims]
-        why = line.problem or next((f for f in fails if f), '') or shares(line, [o for o in lines if o is not line])
-        verdicts.append((line, why or names_a_lemma(line, edit)))
-    return '', verdicts
+    problem, verdicts = judge_lines(crate, edit, lines, tries)
+    return problem, [(line, problem) for line in lines] if problem else verdicts

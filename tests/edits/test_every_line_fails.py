@@ -1,53 +1,76 @@
-#!/usr/bin/env python3
-"""The test of every_line_fails, on logs that rt leaves of a small crate with five edits."""
+"""The test of every_line_fails, on a small crate with seven edits."""
 import os
 import subprocess
 import sys
 import tempfile
 import unittest
 
+sys.dont_write_bytecode = True
+
+from edits import make_edit
+from logs import judge
+from tries import Tries
+
 PROGRAM = os.path.join(os.path.dirname(os.path.abspath(__file__)), 'every_line_fails')
 
-CODE = '''ghost use mathlib.Core.Path.{_≡_};
-ghost use Rattle·small·specs.specs.Numbers.{told};
+CODE = '''#![tactic(auto)]
+
+ghost use Rattle.std.specs.Prelude.{◌≡◌};
+ghost use Rattle.small.specs.Numbers.{told, few};
 
 const MOST: usize = 9;
 
 pub(crate) fn most() -> usize
-    ensures { λ r. ⌜ r ≡ 9 ⌝ }
+    ensures { result ≡ 9 }
 {
     MOST
 }
 
 pub(crate) fn seven() -> usize
-    ensures { λ r. ⌜ r ≡ 7 ⌝ }
+    ensures { result ≡ 7 }
 {
     7
 }
 
 pub(crate) fn first(a: usize, b: usize) -> usize
-    ensures { λ r. ⌜ r ≡ a ⌝ }
+    ensures { result ≡ a }
 {
     let _other = b;
     a
 }
 
 pub(crate) fn tell(flag: bool) -> usize
-    ensures { λ r. ⌜ r ≡ told flag ⌝ }
+    ensures { result ≡ told flag }
 {
     if flag {
         return 1;
     }
     2
 }
+
+pub(crate) fn ask(flag: bool, _again: bool) -> usize
+    ensures { result ≡ told flag }
+{
+    tell(flag)
+}
+
+pub(crate) fn are_few(n: usize) -> bool
+    ensures { result ≡ few n }
+{
+    if n > 3 {
+        return false;
+    }
+    true
+}
 '''
 
-SPECS = '''use mathlib.Core.Path.{_≡_}
-use mathlib.Core.Bool.{Bool, true, false, cond}
-use Prim.Native.Nat.{ℕ}
+SPECS = '''use Rattle.std.specs.Prelude.{◌≡◌, Bool, true, false, cond, ℕ, nat_lt}
 
 unfoldable pub told : Bool → ℕ
 told flag = cond flag 1 2
+
+unfoldable pub few : ℕ → Bool
+few n = nat_lt n 4
 
 pub record ToldLaws : Type 0 where
   pub one : told true ≡ 1
@@ -57,51 +80,60 @@ abbrev pub FirstTold : (n : ℕ) → Type 0
 FirstTold n = told true ≡ n
 '''
 
-PROOF = '''use mathlib.Core.Path.{refl}
-use Rattle·small·specs.specs.Numbers.{told}
-use Rattle·small·proofs.proofs.tell.Statement.{statement}
-use Rattle·small·proofs.proofs.tell.Tie as tie
+TELL = '''use Rattle.std.proofs.Common.{refl}
+use Rattle.small.specs.Numbers.{told}
+use Rattle.small.proofs.tell.Goals as goal
 
-returns : tie.Need-returns
+pub returns-then-flag : goal.returns-then-flag
 unfolding told
-returns c = rw (c .if1 .taken) refl
+returns-then-flag c = rw c.if-flag.true refl
 
-returns-2 : tie.Need-returns-2
+pub returns : goal.returns
 unfolding told
-returns-2 c = rw (c .if1 .left) refl
-
-pub tell-spec : {M : Type 1} → statement M
-tell-spec = tie.close (tie.spec returns returns-2)
+returns c = rw c.if-flag.false refl
 '''
 
-LAWS = '''use mathlib.Core.Path.{_≡_, refl}
+ARE_FEW = '''use Rattle.std.proofs.Common.{rules}
+use Rattle.small.specs.Numbers.{few}
+use Rattle.small.proofs.are_few.Goals as goal
+
+pub returns-then-n-gt3 : goal.returns-then-n-gt3
+unfolding few
+returns-then-n-gt3 c = search rules
+
+pub returns : goal.returns
+unfolding few
+returns c = search rules
+'''
+
+LAWS = '''use mathlib.Core.Path.{◌≡◌, refl}
 use mathlib.Core.Bool.{true, false}
-use Rattle·small·specs.specs.Numbers.{told, ToldLaws, FirstTold}
+use Rattle.small.specs.Numbers.{told, ToldLaws, FirstTold}
 
-told-one : told true ≡ 1
+told_one : told true ≡ 1
 unfolding told
-told-one = refl
+told_one = refl
 
-told-two : told false ≡ 2
+told_two : told false ≡ 2
 unfolding told
-told-two = refl
+told_two = refl
 
-pub told-laws : ToldLaws
-told-laws = record { one = told-one; two = told-two }
+pub told_laws : ToldLaws
+told_laws = record { one = told_one; two = told_two }
 
-pub first-told : FirstTold 1
+pub first_told : FirstTold 1
 unfolding told
-first-told = refl
+first_told = refl
 '''
 
 # A lemma that no law rests on.
-LEMMAS = '''use mathlib.Core.Path.{_≡_, refl}
+LEMMAS = '''use mathlib.Core.Path.{◌≡◌, refl}
 use mathlib.Core.Bool.{true}
-use Rattle·small·specs.specs.Numbers.{told}
+use Rattle.small.specs.Numbers.{told}
 
-pub told-first : told true ≡ 1
+pub told_first : told true ≡ 1
 unfolding told
-told-first = refl
+told_first = refl
 '''
 
 # A constant, a number, an argument, and two numbers that change places: all are wrong.
@@ -134,11 +166,11 @@ new:     8
 witness: seven() == 7
 old: return 1;
 new: return 3;
-fails: tell:returns
+fails: tell:returns-then-flag
 witness: tell(true) == 1
 old:     2
 new:     4
-fails: tell:returns-2
+fails: tell:returns
 witness: tell(false) == 2
 '''
 
@@ -152,7 +184,7 @@ fails: tell
 BOTH_WRONG = '''file: specs/Numbers.antt
 old: told flag = cond flag 1 2
 new: told flag = cond flag 3 2
-fails: Laws.antt:told-one
+fails: Laws.antt:told_one
 file: src/lib.rt
 old: return 1;
 new: return 3;
@@ -160,20 +192,44 @@ proved: tell
 '''
 
 # A lemma is adapted besides, and the proof of the function, so that only the laws refuse them.
-ADAPTED = BOTH_WRONG.replace('told-one', 'told-one Laws.antt:first-told') + '''file: proofs/Lemmas.antt
-old: pub told-first : told true ≡ 1
-new: pub told-first : told true ≡ 3
-proved: Lemmas.antt:told-first
-file: proofs/tell/Proof.antt
-old: returns c = rw (c .if1 .taken) refl
-new: returns c = rw (c .if1 .taken) (refl)
-proved: tell/Proof.antt:returns
+ADAPTED = BOTH_WRONG.replace('told_one', 'told_one Laws.antt:first_told') + '''file: proofs/Lemmas.antt
+old: pub told_first : told true ≡ 1
+new: pub told_first : told true ≡ 3
+proved: Lemmas.antt:told_first
+file: proofs/tell/Answers.antt
+old: returns c = rw c.if-flag.false refl
+new: returns c = rw c.if-flag.false (refl)
+proved: tell/Answers.antt:returns
+'''
+
+# The proof of `ask` waits for that of `tell`. Both answer with the wrong flag.
+CALLED = '''file: src/lib.rt
+old: if flag {
+new: if !flag {
+witness: tell(true) == 1
+old: tell(flag)
+new: tell(_again)
+witness: ask(true, false) == 1
+'''
+
+# The goals of `are_few` have other names than in the right code.
+RENAMED = '''file: src/lib.rt
+old: if n > 3 {
+new: if n >= 3 {
+fails: are_few:returns-then-n-gt3
+witness: are_few(3)
 '''
 
 # A program that the small repository has in some tests, and what it writes.
-PROGRAM_CODE = '''fn main() {
-    io::print_decimal(1, small::most() as u64);
-    io::write_all(1, b"\\n");
+PROGRAM_CODE = '''#![tactic(auto)]
+
+use std::io;
+use std::io::Write;
+
+fn main(rt: HostRuntime) -> io::Result<()> {
+    let mut out = io::writer(&rt);
+    let most = small::most();
+    write!(out, "{most}\\n")
 }
 '''
 
@@ -182,7 +238,8 @@ FILES = {
     'crates/small/src/lib.rt': CODE,
     'crates/small/specs/Lib.antt': 'pub mod Numbers\n',
     'crates/small/specs/Numbers.antt': SPECS,
-    'crates/small/proofs/tell/Proof.antt': PROOF,
+    'crates/small/proofs/tell/Answers.antt': TELL,
+    'crates/small/proofs/are_few/Answers.antt': ARE_FEW,
     'crates/small/proofs/Lib.antt': 'pub mod Laws\npub mod Lemmas\n',
     'crates/small/proofs/Laws.antt': LAWS,
     'crates/small/proofs/Lemmas.antt': LEMMAS,
@@ -207,7 +264,7 @@ class EveryLineFails(unittest.TestCase):
         for path, text in FILES.items():
             cls.write(path, text)
         edits = dict(all_wrong=ALL_WRONG, one_harmless=ONE_HARMLESS, definition=DEFINITION, both_wrong=BOTH_WRONG)
-        cls.put_edits(adapted=ADAPTED, **edits)
+        cls.put_edits(adapted=ADAPTED, called=CALLED, renamed=RENAMED, **edits)
         cls.rt = subprocess.run(['rt', 'must-fail'], cwd=cls.root, capture_output=True, text=True)
 
     @classmethod
@@ -230,7 +287,7 @@ class EveryLineFails(unittest.TestCase):
             cls.write(f'crates/small/must-fail/{name}.edit', text)
 
     def judge(self, **edits):
-        """The exit status and the printed lines, over these edits and the logs that rt left."""
+        """The exit status and the printed lines, over these edits."""
         self.put_edits(**edits)
         ran = subprocess.run([sys.executable, PROGRAM, self.root], capture_output=True, text=True)
         self.assertEqual(ran.stderr, '')
@@ -252,7 +309,7 @@ class EveryLineFails(unittest.TestCase):
 
     def test_rt_is_content(self):
         self.assertEqual(self.rt.returncode, 0, self.rt.stdout)
-        self.assertIn('5 must-fail edits refused', self.rt.stdout)
+        self.assertEqual(self.rt.stdout.count('edit: refused, as it must be'), 7, self.rt.stdout)
 
     def test_all_wrong(self):
         counts = '2 edits, 5 wrong lines seen to fail (0 by a case, 4 by a witness, 1 in definitions)'
@@ -298,25 +355,23 @@ class EveryLineFails(unittest.TestCase):
         self.assert_told(told, one_harmless=without_fails(ONE_HARMLESS))
 
     def test_an_exchange_of_other_words(self):
-        other = ALL_WRONG.replace('new: return 2;', 'new: return 5;')
-        self.assert_told(['its log is of other files'], all_wrong=other)
-        self.write('target/must-fail/small/all_wrong/src/lib.rt', self.edited(other))
-        self.assert_told(['a text is replaced twice in tell'], all_wrong=other)
-        self.write('target/must-fail/small/all_wrong/src/lib.rt', self.edited(ALL_WRONG))
+        told = ['a text is replaced twice in tell']
+        self.assert_told(told, all_wrong=ALL_WRONG.replace('new: return 2;', 'new: return 5;'))
 
-    def edited(self, edit):
-        text, lines = CODE, edit.splitlines()
-        for old, new in zip((l[5:] for l in lines if l[:5] == 'old: '), (l[5:] for l in lines if l[:5] == 'new: ')):
-            text = text.replace(old, new)
-        return text
+    def test_a_function_whose_callee_is_not_proved(self):
+        self.assert_good(called=CALLED)
+        harmless = CALLED.replace('new: tell(_again)', 'new: tell(flag)').replace('old: tell(flag)', 'old:     tell(flag)')
+        self.assert_told(['ask is proved all the same'], called=harmless.replace('new: tell', 'new:     tell'))
+
+    def test_names_that_are_made_of_the_code(self):
+        self.assert_good(renamed=RENAMED)
+        self.assert_told(['are_few does not fail by returns'], renamed=RENAMED.replace('-then-n-gt3', ''))
 
     def test_a_function_offered_with_one_wrong_line(self):
-        paths = ['crates/small/src/lib.rt', 'target/must-fail/small/all_wrong/src/lib.rt']
-        for path, text in zip(paths, [CODE, self.edited(ALL_WRONG)]):
-            self.write(path, text.replace('pub(crate) fn tell', 'pub fn tell'))
+        path = 'crates/small/src/lib.rt'
+        self.write(path, CODE.replace('pub(crate) fn tell', 'pub fn tell'))
         self.assert_told(['tell: 1 wrong lines, and two are asked for'], all_wrong=ALL_WRONG)
-        for path, text in zip(paths, [CODE, self.edited(ALL_WRONG)]):
-            self.write(path, text)
+        self.write(path, CODE)
 
     def test_a_library_without_edits(self):
         path = 'crates/small/src/lib.rt'
@@ -327,7 +382,6 @@ class EveryLineFails(unittest.TestCase):
         self.write(path, CODE)
 
     def test_an_edit_that_cannot_be_judged(self):
-        self.assert_told(['it has no log'], never_run=ALL_WRONG)
         self.assert_told(['it changes code and definitions'], all_wrong=ALL_WRONG + DEFINITION)
         self.assert_told(['a `fails:` line stands behind no pair'], all_wrong='fails: most\n' + ALL_WRONG)
         self.assert_told(['it has no pair'], all_wrong='# nothing\n')
@@ -345,7 +399,7 @@ class EveryLineFails(unittest.TestCase):
         ]))
 
     def test_code_that_a_case_shows(self):
-        self.write('crates.txt', 'small:\nsay: small io libc\n')
+        self.write('crates.txt', 'small:\nsay: small\n')
         self.write('crates/say/src/main.rt', PROGRAM_CODE)
         self.write('crates/say/stdout', '9\n')
         _, lines = self.judge(all_wrong=without('witness: most', ALL_WRONG))
@@ -371,10 +425,10 @@ class EveryLineFails(unittest.TestCase):
         self.assert_good(all_wrong=ALL_WRONG.replace('most() == 9', '{ while most() == 8 {} true }'))
 
     def test_a_lemma(self):
-        told = 'Lemmas.antt:told-first is a lemma; name a field of a law record, a case or a contract'
-        self.assert_told([told], definition=DEFINITION.replace(': tell', ': Lemmas.antt:told-first'))
-        self.assert_good(definition=DEFINITION.replace(': tell', ': Laws.antt:told-one'))
-        self.assert_good(definition=DEFINITION.replace(': tell', ': Laws.antt:first-told'))
+        told = 'Lemmas.antt:told_first is a lemma; name a field of a law record, a case or a contract'
+        self.assert_told([told], definition=DEFINITION.replace(': tell', ': Lemmas.antt:told_first'))
+        self.assert_good(definition=DEFINITION.replace(': tell', ': Laws.antt:told_one'))
+        self.assert_good(definition=DEFINITION.replace(': tell', ': Laws.antt:first_told'))
 
     def test_a_changed_proof(self):
         alone = ''.join(ADAPTED.partition('file: proofs/')[1:])
@@ -386,30 +440,55 @@ class EveryLineFails(unittest.TestCase):
     def test_an_adapted_proof(self):
         self.assert_good(adapted=ADAPTED)
         told = 'names Lemmas.antt:none, which is no declaration of Lemmas.antt'
-        self.assert_told([told], adapted=ADAPTED.replace('Lemmas.antt:told-first', 'Lemmas.antt:none'))
-        told = 'names Laws.antt:told-one, which is no declaration of Lemmas.antt'
-        self.assert_told([told], adapted=ADAPTED.replace('Lemmas.antt:told-first', 'Laws.antt:told-one'))
-        told = 'Laws.antt:first-told fails too, so not a law alone refuses'
-        self.assert_told([told], adapted=ADAPTED.replace(' Laws.antt:first-told', ''))
+        self.assert_told([told], adapted=ADAPTED.replace('Lemmas.antt:told_first', 'Lemmas.antt:none'))
+        told = 'names Laws.antt:told_one, which is no declaration of Lemmas.antt'
+        self.assert_told([told], adapted=ADAPTED.replace('Lemmas.antt:told_first', 'Laws.antt:told_one'))
+        told = 'Laws.antt:first_told fails too, so not a law alone refuses'
+        self.assert_told([told], adapted=ADAPTED.replace(' Laws.antt:first_told', ''))
+
+    def said_of_adapted(self):
+        """What rt says of the adapted edit."""
+        with Tries(self.root) as tries:
+            return tries.said('small', self.adapted().after)
+
+    def adapted(self):
+        self.put_edits(adapted=ADAPTED)
+        return make_edit(os.path.join(self.root, 'crates/small'), os.path.join(self.root, 'crates/small/must-fail/adapted.edit'))
 
     def test_an_adapted_proof_that_fails(self):
-        path = os.path.join(self.root, 'target/must-fail/small/adapted/.log')
-        with open(path, encoding='utf-8') as f:
-            log = f.read()
-        whys = ['3 and 4 differ', '`told-one` was not admitted, so this cannot be checked']
-        places = [('Lemmas.antt', 'told-first'), ('tell/Proof.antt', 'returns')]
+        said = self.said_of_adapted()
+        whys = ['3 and 4 differ', '`told_one` was not admitted, so this cannot be checked']
+        places = [('Lemmas.antt', 'told_first'), ('tell/Answers.antt', 'returns')]
         for file, name, why in [(*place, why) for place in places for why in whys]:
-            self.write(path, f'proofs/{file}:6:1: error: `{name}`: {why}\n' + log)
-            self.assert_told([f'the adapted proof {file} fails'], adapted=ADAPTED)
-        self.write(path, log)
+            problem, _ = judge('small', self.adapted(), Said(f'./proofs/{file}:6:1: error: `{name}`: {why}\n' + said))
+            self.assertIn(f'the adapted proof {file} fails', problem)
 
     def test_a_law_that_fails_beside_an_adapted_proof(self):
-        path = os.path.join(self.root, 'target/must-fail/small/adapted/.log')
-        with open(path, encoding='utf-8') as f:
-            log = f.read()
-        self.write(path, 'proofs/Lemmas.antt:9:1: error: `other`: 3 and 4 differ\n' + log)
-        self.assert_told(['Lemmas.antt:other fails too'], adapted=ADAPTED)
-        self.write(path, log)
+        said = './proofs/Lemmas.antt:9:1: error: `other`: 3 and 4 differ\n' + self.said_of_adapted()
+        problem, _ = judge('small', self.adapted(), Said(said))
+        self.assertIn('Lemmas.antt:other fails too', problem)
+
+    def test_a_crate_that_is_not_proved(self):
+        path = 'crates/small/src/lib.rt'
+        self.write(path, CODE.replace('    7\n', '    8\n'))
+        self.put_edits(definition=DEFINITION)
+        ran = subprocess.run([sys.executable, PROGRAM, self.root], capture_output=True, text=True)
+        self.assertEqual((ran.returncode, ran.stdout), (1, ''))
+        self.assertIn('not proved as they stand, so that their edits show nothing: small', ran.stderr)
+        self.write(path, CODE)
+
+
+class Said:
+    """In the place of tries: rt says the same of all texts."""
+
+    def __init__(self, text):
+        self.text = text
+
+    def said(self, _crate, _texts):
+        return self.text
+
+    def other_names(self, _crate, _texts, _functions):
+        return {}
 
 
 if __name__ == '__main__':

@@ -1,6 +1,6 @@
-"""The crates' sources as Rust: Rattle without its contracts. A function with wrong lines has a body for each of them
-beside its own and takes the one whose number `wrong::line` tells; a constant with wrong lines becomes such a function.
-Every item is public, so that a witness reaches it."""
+"""The crates' sources as Rust: Rattle without its contracts, over rust/kit.rs in the place of its std. A function with
+wrong lines has a body for each of them beside its own and takes the one whose number `wrong::line` tells; a constant
+with wrong lines becomes such a function. Every item is public, so that a witness reaches it."""
 import collections
 import re
 
@@ -10,6 +10,8 @@ GHOST = re.compile(r'^ghost use [^;]*;\n', re.M)
 CLAUSE = re.compile(r'^[ \t]*(?:requires|ensures)\b[^{\n]*(?=\{)', re.M)
 ATTRIBUTE = re.compile(r'^[ \t]*#!?\[(?:tactic|derive|cycle|unsafe\(no_mangle)\b[^\]]*\]\n+', re.M)
 EXPORT = re.compile(r'\bextern "C" (?=fn\b)')
+STD = re.compile(r'\bstd::(?=(?:io|num)\b)')
+HANDLE = re.compile(r'\bHostRuntime\b')
 PRIVATE = re.compile(r'^([ \t]*)(?:pub\(crate\) )?(?=(?:fn|struct|enum|mod|const) )', re.M)
 TYPE = re.compile(r'^(?=pub (?:struct|enum) )', re.M)
 STRUCT = re.compile(r'^pub struct \w+ \{\n.*?^\}', re.M | re.S)
@@ -41,7 +43,7 @@ def as_rust(text):
     text = EXPORT.sub('', ATTRIBUTE.sub('', GHOST.sub('', without_contracts(text))))
     text = PRIVATE.sub(lambda m: m.group(1) + 'pub ', text)
     text = STRUCT.sub(lambda m: FIELD.sub(r'\1pub ', m.group()), TYPE.sub(DERIVED, text))
-    return text.replace('std::num::', 'num::')
+    return HANDLE.sub('kit::HostRuntime', STD.sub('kit::', text).replace('Vec::new(rt.alloc())', 'Vec::new()'))
 
 
 def with_pairs(text, pairs):

@@ -19,7 +19,7 @@ from edits import crates_below, edits_of, files_of, make_edit, module_of, read, 
 from translation import constants_of, translate, witness_names, wrong_constants
 
 RUST = os.path.join(os.path.dirname(os.path.abspath(__file__)), 'rust')
-KIT = ('wrong', 'num', 'bytes', 'io')
+KIT = ('wrong', 'kit')
 OPTIONS = ['--edition=2021', '-Copt-level=1', '-Coverflow-checks=on', '-Cdebuginfo=0', '--cap-lints=allow']
 # Of the processor, not of the clock, for a run that takes tenths of one: what else runs does not matter.
 MOST_SECONDS = 3
@@ -108,7 +108,7 @@ def is_program(crate):
 
 
 def compile_kit(place):
-    """Compiles what stands for the kit's libraries."""
+    """Compiles what stands for Rattle's std, and what tells which wrong line runs."""
     os.makedirs(place, exist_ok=True)
     for name in KIT:
         compile_rust(place, name, [os.path.join(RUST, name + '.rs')], [])
@@ -132,7 +132,7 @@ def build(root, crates):
         compile_crate(place, crate)
     write(run_source, program_text(root, crates))
     files = [path for crate in crates.values() if is_program(crate) for path in case_files(root, crate) if path]
-    compile_rust(place, 'run', [run_source] + files, ['io'] + list(crates), 'bin')
+    compile_rust(place, 'run', [run_source] + files, ['kit'] + list(crates), 'bin')
     return os.path.join(place, 'run')
 
 
@@ -168,7 +168,8 @@ def case_files(root, crate):
 def case_arm(root, crate):
     """The arm that runs a program, with its files stdin and stdout."""
     given, expected = (f'include_bytes!("{path}")' if path else 'b""' for path in case_files(root, crate))
-    return f'        "{crate.name}" => {{ io::begin({given}, {expected}); {crate.name}::main(); io::end(); true }}\n'
+    run = f'{crate.name}::main(kit::begin({given}, {expected})).unwrap(); kit::end(); true'
+    return f'        "{crate.name}" => {{ {run} }}\n'
 
 
 def witness_arms(crate):
