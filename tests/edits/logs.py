@@ -81,6 +81,16 @@ def read_log(said):
     return log
 
 
+def is_of(fact, named):
+    """Is this the fact of that name, or a clause of it?"""
+    return fact == named or fact.startswith(named + '-clause-')
+
+
+def may_be_one(fact, other):
+    """May two names be of one fact? No name is that of any."""
+    return not fact or not other or is_of(fact, other) or is_of(other, fact)
+
+
 def does_not_fail(claim, log):
     """Why this is not seen to fail, or ''."""
     of, fact = claim
@@ -88,7 +98,7 @@ def does_not_fail(claim, log):
         return f'{of} is proved all the same'
     if not log.facts.get(of):
         return f'{of} fails by no fact of its own'
-    if fact and fact not in log.facts[of]:
+    if fact and not any(is_of(each, fact) for each in log.facts[of]):
         return f'{of} does not fail by {fact}, but by {" ".join(sorted(log.facts[of]))}'
     return ''
 
@@ -99,7 +109,7 @@ def shares(line, others):
         for other in others:
             if not fact and of in other.touches:
                 return f'{of} is reached by the wrong line {other.pairs[0].line} too: name a fact of each'
-            if any(of == also and (not fact or not also_fact or fact == also_fact) for also, also_fact in other.claims):
+            if any(of == also and may_be_one(fact, also_fact) for also, also_fact in other.claims):
                 return f'the wrong line {other.pairs[0].line} rests on the same fact of {of}'
     return ''
 
@@ -154,7 +164,7 @@ def tried(crate, texts, tries, claims):
     """What rt says of a crate with these texts, or None where it comes to no verdict. Names that the texts' code has in
     the place of others are turned in its proofs, and facts are told by those that the crate has as it stands."""
     log = read_log(tries.said(crate, texts))
-    unknown = {of for of, fact in claims if fact and fact not in log.facts.get(of, ())} & log.unproved
+    unknown = {claim[0] for claim in claims if claim[1] and does_not_fail(claim, log)} & log.unproved
     others = tries.other_names(crate, texts, log.misfits | unknown) if log.misfits | unknown else {}
     log = read_log(tries.said(crate, with_names(texts, others)))
     for of, words in others.items():
