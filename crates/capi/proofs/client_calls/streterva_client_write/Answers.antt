@@ -2,10 +2,16 @@ use Rattle.capi.proofs.ClientsCode.{told_outside, told_inside, write_not_made, o
 use Rattle.capi.proofs.client_calls.streterva_client_write.Goals as goal
 
 pub returns-then-spans-ne-SPAN_WORDS : goal.returns-then-spans-ne-SPAN_WORDS
-returns-then-spans-ne-SPAN_WORDS c = let h = write_not_made c.args.spans.now _ _ _ _ _ _ c.if-spans-ne-SPAN_WORDS.true in record { value = h.0; state_after = h.1.0; medium_after = h.1.1 }
+returns-then-spans-ne-SPAN_WORDS c =
+    let h = write_not_made c.args.spans.now _ _ _ _ _ _ c.if-spans-ne-SPAN_WORDS.true in
+    record { value = h.0; state_after = h.1.0; medium_after = h.1.1 }
 
 pub returns-then-not-allows_words : goal.returns-then-not-allows_words
-returns-then-not-allows_words c = let h = outside_write c.args.spans.now _ _ _ _ _ c.if-spans-ne-SPAN_WORDS.false _ (told_outside _ _ _ _ c.if-spans-ne-SPAN_WORDS.false c.allows_words.ensures c.if-not-allows_words.true) _ c.outside.ensures in record { value = h.0; state_after = h.1.0; medium_after = h.1.1 }
+returns-then-not-allows_words c =
+    let h = outside_write c.args.spans.now _ _ _ _ _ c.if-spans-ne-SPAN_WORDS.false _ (told_outside _ _ _ _ c.if-spans-ne-SPAN_WORDS.false c.allows_words.ensures c.if-not-allows_words.true) _ c.outside.ensures in
+    record { value = h.0; state_after = h.1.0; medium_after = h.1.1 }
 
 pub returns : goal.returns
-returns c = let h = write_inside c.args.spans.now _ _ _ _ _ c.if-spans-ne-SPAN_WORDS.false _ (told_inside _ _ _ _ c.if-spans-ne-SPAN_WORDS.false c.allows_words.ensures c.if-not-allows_words.false) _ _ _ (c.streterva_write.ensures.value, (c.streterva_write.ensures.state_after, c.streterva_write.ensures.medium_after)) in record { value = h.0; state_after = h.1.0; medium_after = h.1.1 }
+returns c =
+    let h = write_inside c.args.spans.now _ _ _ _ _ c.if-spans-ne-SPAN_WORDS.false _ (told_inside _ _ _ _ c.if-spans-ne-SPAN_WORDS.false c.allows_words.ensures c.if-not-allows_words.false) _ _ _ (c.streterva_write.ensures.value, (c.streterva_write.ensures.state_after, c.streterva_write.ensures.medium_after)) in
+    record { value = h.0; state_after = h.1.0; medium_after = h.1.1 }

@@ -11,7 +11,9 @@ use Rattle.capi.proofs.growth.streterva_advance.Goals as goal
 use Rattle.capi.proofs.growth.streterva_advance.Goals.{Else-not-state_fits}
 
 pub returns-then-not-state_fits : goal.returns-then-not-state_fits
-returns-then-not-state_fits c = let h = call_not_made 4 advance_figures _ _ _ [] _ _ _ c.state_fits.ensures c.if-not-state_fits.true in record { value = h.0; state_after = h.1.0; figures_after = h.1.1.0; medium_after = h.1.1.1 }
+returns-then-not-state_fits c =
+    let h = call_not_made 4 advance_figures _ _ _ [] _ _ _ c.state_fits.ensures c.if-not-state_fits.true in
+    record { value = h.0; state_after = h.1.0; figures_after = h.1.1.0; medium_after = h.1.1.1 }
 
 -- the words are a state's, and the figures are as many as they should be
 told : (c : Else-not-state_fits) → let a = c.args in Fits a.state.now 4 a.figures.now
@@ -32,4 +34,5 @@ pub returns : goal.returns
 unfolding call_outcome
 returns c =
     let put = c.put.ensures ∙ c.advance_figures-told.ensures in
-    let h = call_made 4 advance_figures advance _ _ [] _ (told (goal.at.returns c).Else-not-state_fits) _ c.state_of-v.ensures _ _ (c.advance-reply.ensures.value, c.advance-reply.ensures.medium_after) _ _ _ (c.number.ensures, (c.put_state.ensures, put)) in record { value = h.0; state_after = h.1.0; figures_after = h.1.1.0; medium_after = h.1.1.1 }
+    let h = call_made 4 advance_figures advance _ _ [] _ (told (goal.at.returns c).Else-not-state_fits) _ c.state_of-v.ensures _ _ (c.advance-reply.ensures.value, c.advance-reply.ensures.medium_after) _ _ _ (c.number.ensures, (c.put_state.ensures, put)) in
+    record { value = h.0; state_after = h.1.0; figures_after = h.1.1.0; medium_after = h.1.1.1 }

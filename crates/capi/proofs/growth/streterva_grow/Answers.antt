@@ -8,7 +8,9 @@ use Rattle.capi.proofs.growth.streterva_grow.Goals as goal
 use Rattle.capi.proofs.growth.streterva_grow.Goals.{Else-not-state_fits}
 
 pub returns-then-not-state_fits : goal.returns-then-not-state_fits
-returns-then-not-state_fits c = let h = call_not_made 1 calls_figures _ _ _ [] _ _ _ c.state_fits.ensures c.if-not-state_fits.true in record { value = h.0; state_after = h.1.0; figures_after = h.1.1.0; medium_after = h.1.1.1 }
+returns-then-not-state_fits c =
+    let h = call_not_made 1 calls_figures _ _ _ [] _ _ _ c.state_fits.ensures c.if-not-state_fits.true in
+    record { value = h.0; state_after = h.1.0; figures_after = h.1.1.0; medium_after = h.1.1.1 }
 
 -- the words are a state's, and the figures are as many as they should be
 told : (c : Else-not-state_fits) → let a = c.args in Fits a.state.now 1 a.figures.now
@@ -18,9 +20,12 @@ pub state_of-v-requires : goal.state_of-v-requires
 state_of-v-requires c = (told (goal.at.state_of-v-requires c).Else-not-state_fits).words_length
 
 pub hand_back-requires : goal.hand_back-requires
-hand_back-requires c = let t = told (goal.at.hand_back-requires c).Else-not-state_fits in record { words_len = t.words_length; figures_len = t.figures_length }
+hand_back-requires c =
+    let t = told (goal.at.hand_back-requires c).Else-not-state_fits in
+    record { words_len = t.words_length; figures_len = t.figures_length }
 
 pub returns : goal.returns
 unfolding call_outcome
 returns c =
-    let h = call_made 1 calls_figures (grow _) _ _ [] _ (told (goal.at.returns c).Else-not-state_fits) _ c.state_of-v.ensures _ _ (c.grow-reply.ensures.value, c.grow-reply.ensures.medium_after) _ _ _ (c.hand_back.ensures.value, (c.hand_back.ensures.words_after, c.hand_back.ensures.figures_after)) in record { value = h.0; state_after = h.1.0; figures_after = h.1.1.0; medium_after = h.1.1.1 }
+    let h = call_made 1 calls_figures (grow _) _ _ [] _ (told (goal.at.returns c).Else-not-state_fits) _ c.state_of-v.ensures _ _ (c.grow-reply.ensures.value, c.grow-reply.ensures.medium_after) _ _ _ (c.hand_back.ensures.value, (c.hand_back.ensures.words_after, c.hand_back.ensures.figures_after)) in
+    record { value = h.0; state_after = h.1.0; figures_after = h.1.1.0; medium_after = h.1.1.1 }

@@ -15,7 +15,9 @@ told : (c : Else-not-state_fits) → let a = c.args in Fits a.state.now 17 a.fig
 told c = fitting _ 17 _ _ c.state_fits.ensures c.if-not-state_fits.false
 
 pub slice_bounds-put-end : goal.slice_bounds-put-end
-slice_bounds-put-end c = let e = (told (goal.at.slice_bounds-put-end c).Else-not-state_fits).figures_length in omega (arith, e)
+slice_bounds-put-end c =
+    let e = (told (goal.at.slice_bounds-put-end c).Else-not-state_fits).figures_length in
+    omega (arith, e)
 
 pub put-requires : goal.put-requires
 put-requires c =

@@ -9,7 +9,10 @@ use Rattle.capi.proofs.pieces.streterva_read.Goals.{Else-not-is_state}
 
 pub returns-then-not-is_state : goal.returns-then-not-is_state
 unfolding call_left call_outcome untouched
-returns-then-not-is_state c = rw (no_state _ _ c.is_state.ensures c.if-not-is_state.true) (record { value = refl; piece_after = refl })
+returns-then-not-is_state c = rw (no_state _ _ c.is_state.ensures c.if-not-is_state.true) (record {
+  value = refl;
+  piece_after = refl;
+})
 
 -- the words are a state's
 told : (c : Else-not-is_state) → Fits c.args.state.now 0 []
@@ -22,4 +25,7 @@ pub returns : goal.returns
 unfolding call_left call_outcome handed_back
 returns c =
     let made = rw c.state_of-v.ensures at c.read-reply.ensures in
-    rw ((told (goal.at.returns c).Else-not-is_state).fits, sym made.value) (record { value = c.number.ensures; piece_after = made.piece_after })
+    rw ((told (goal.at.returns c).Else-not-is_state).fits, sym made.value) (record {
+      value = c.number.ensures;
+      piece_after = made.piece_after;
+    })

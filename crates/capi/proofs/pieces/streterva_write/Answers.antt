@@ -12,7 +12,11 @@ use Rattle.capi.proofs.pieces.streterva_write.Goals.{Else-not-is_state}
 
 pub returns-then-not-is_state : goal.returns-then-not-is_state
 unfolding call_left call_outcome untouched apply
-returns-then-not-is_state c = rw (no_state _ _ c.is_state.ensures c.if-not-is_state.true) (record { value = refl; state_after = refl; medium_after = refl })
+returns-then-not-is_state c = rw (no_state _ _ c.is_state.ensures c.if-not-is_state.true) (record {
+  value = refl;
+  state_after = refl;
+  medium_after = refl;
+})
 
 -- the words are a state's
 told : (c : Else-not-is_state) → Fits c.args.state.now 0 []
@@ -30,4 +34,8 @@ returns c =
     let w = c.write-reply in
     let made = rw c.state_of-v.ensures at w.ensures in
     let words = pending_put _ (told (goal.at.returns c).Else-not-is_state).are_state_law w.result.state _ (ap (λ (r : Reply). r.state) made.value) (write_pending _ _ _ _) _ c.put_pending.ensures in
-    rw ((told (goal.at.returns c).Else-not-is_state).fits, sym made.value) (record { value = c.number.ensures; state_after = words; medium_after = made.medium_after })
+    rw ((told (goal.at.returns c).Else-not-is_state).fits, sym made.value) (record {
+      value = c.number.ensures;
+      state_after = words;
+      medium_after = made.medium_after;
+    })

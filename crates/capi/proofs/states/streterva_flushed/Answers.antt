@@ -10,7 +10,10 @@ use Rattle.capi.proofs.states.streterva_flushed.Goals.{Else-not-is_state}
 
 pub returns-then-not-is_state : goal.returns-then-not-is_state
 unfolding flushed_left untouched
-returns-then-not-is_state c = rw (no_state _ _ c.is_state.ensures c.if-not-is_state.true) (record { value = refl; state_after = refl })
+returns-then-not-is_state c = rw (no_state _ _ c.is_state.ensures c.if-not-is_state.true) (record {
+  value = refl;
+  state_after = refl;
+})
 
 -- the words are a state's
 told : (c : Else-not-is_state) → Fits c.args.state.now 0 []
@@ -28,4 +31,7 @@ returns c =
     let f = c.flushed-reply in
     let made = rw c.state_of-v.ensures at f.ensures in
     let words = pending_put _ (told (goal.at.returns c).Else-not-is_state).are_state_law f.result.state _ (ap (λ (r : Reply). r.state) made) (flushed_pending _) _ c.put_pending.ensures in
-    rw ((told (goal.at.returns c).Else-not-is_state).fits, sym made) (record { value = c.number.ensures; state_after = words })
+    rw ((told (goal.at.returns c).Else-not-is_state).fits, sym made) (record {
+      value = c.number.ensures;
+      state_after = words;
+    })

@@ -10,7 +10,11 @@ use Rattle.capi.proofs.states.streterva_format.Goals.{Else-state-ne-STATE_WORDS}
 
 pub returns-then-state-ne-STATE_WORDS : goal.returns-then-state-ne-STATE_WORDS
 unfolding format_left untouched apply
-returns-then-state-ne-STATE_WORDS c = rw (words_wrong _ 0 [] c.if-state-ne-STATE_WORDS.true) (record { value = refl; state_after = refl; medium_after = refl })
+returns-then-state-ne-STATE_WORDS c = rw (words_wrong _ 0 [] c.if-state-ne-STATE_WORDS.true) (record {
+  value = refl;
+  state_after = refl;
+  medium_after = refl;
+})
 
 -- the length is right
 fits : (c : Else-state-ne-STATE_WORDS) → lengths_fit c.args.state.now 0 [] ≡ true
@@ -21,4 +25,8 @@ unfolding format_left handed_back
 returns c =
     let made = c.format-reply.ensures in
     rw (fits (goal.at.returns c).Else-state-ne-STATE_WORDS, sym made.value)
-    (record { value = c.number.ensures; state_after = c.put_state.ensures; medium_after = format_stores _ _ _ _ _ _ _ _ made.medium_after })
+    (record {
+      value = c.number.ensures;
+      state_after = c.put_state.ensures;
+      medium_after = format_stores _ _ _ _ _ _ _ _ made.medium_after;
+    })

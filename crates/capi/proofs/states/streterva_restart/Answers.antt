@@ -8,11 +8,19 @@ use Rattle.capi.proofs.states.streterva_restart.Goals.{Else-figures-ne-CALLS_FIG
 
 pub returns-then-state-ne-STATE_WORDS : goal.returns-then-state-ne-STATE_WORDS
 unfolding restart_left untouched
-returns-then-state-ne-STATE_WORDS c = rw (words_wrong _ 1 _ c.if-state-ne-STATE_WORDS.true) (record { value = refl; state_after = refl; figures_after = refl })
+returns-then-state-ne-STATE_WORDS c = rw (words_wrong _ 1 _ c.if-state-ne-STATE_WORDS.true) (record {
+  value = refl;
+  state_after = refl;
+  figures_after = refl;
+})
 
 pub returns-then-figures-ne-CALLS_FIGURES : goal.returns-then-figures-ne-CALLS_FIGURES
 unfolding restart_left untouched
-returns-then-figures-ne-CALLS_FIGURES c = rw (figures_wrong _ 1 _ c.if-state-ne-STATE_WORDS.false c.if-figures-ne-CALLS_FIGURES.true) (record { value = refl; state_after = refl; figures_after = refl })
+returns-then-figures-ne-CALLS_FIGURES c = rw (figures_wrong _ 1 _ c.if-state-ne-STATE_WORDS.false c.if-figures-ne-CALLS_FIGURES.true) (record {
+  value = refl;
+  state_after = refl;
+  figures_after = refl;
+})
 
 -- both lengths are right
 fits : (c : Else-figures-ne-CALLS_FIGURES) → let a = c.args in lengths_fit a.state.now 1 a.figures.now ≡ true

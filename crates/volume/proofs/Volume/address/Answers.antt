@@ -13,7 +13,9 @@ accepted : (c : Else-k-ne0) → AddressFacts c.args.self c.args.x.0
 accepted c = address_accepted _ _ (sym c.address_refusal-k.ensures ∙ c.if-k-ne0.false)
 
 pub live_address-found-requires : goal.live_address-found-requires
-live_address-found-requires c = let a = accepted (goal.at.live_address-found-requires c).Else-k-ne0 in record { self_value = a.is_sound; counts_value = refl; x_bound = a.block_open }
+live_address-found-requires c =
+    let a = accepted (goal.at.live_address-found-requires c).Else-k-ne0 in
+    record { self_value = a.is_sound; counts_value = refl; x_bound = a.block_open }
 
 pub returns : goal.returns
 unfolding live_address_of

@@ -16,21 +16,36 @@ returns-then-k-ne0 c =
     let v = c.args.self in
     let h = c.if-k-ne0.true in
     let e = advance_refused v _ _ c.growth_refusal-k.ensures h in
-    record { value = refused_reply _ v [] _ _ e h v _ refl c.refuse.ensures; medium_after = refused_stores _ v [] _ _ e h _ _ }
+    record {
+      value = refused_reply _ v [] _ _ e h v _ refl c.refuse.ensures;
+      medium_after = refused_stores _ v [] _ _ e h _ _;
+    }
 
 accepted : (c : Else-k-ne0) → let a = c.args in AdvanceFacts a.self (length a.medium.now)
 accepted c = growth_accepted _ _ (sym c.growth_refusal-k.ensures ∙ c.if-k-ne0.false)
 
 pub next_copy-requires : goal.next_copy-requires
-next_copy-requires c = let a = accepted (goal.at.next_copy-requires c).Else-k-ne0 in record { self_value = (a.is_sound, a.is_growing); counts_value = refl }
+next_copy-requires c =
+    let a = accepted (goal.at.next_copy-requires c).Else-k-ne0 in
+    record { self_value = (a.is_sound, a.is_growing); counts_value = refl }
 
 pub advance_record-requires : goal.advance_record-requires
 advance_record-requires c =
     let a = accepted (goal.at.advance_record-requires c).Else-k-ne0 in
-    record { self_value = (a.is_sound, a.is_growing); self_in_bounds = a.room; self_value_2 = next_none _ _ _ (sym c.next_copy.ensures ∙ c.in_default.is) }
+    record {
+      self_value = (a.is_sound, a.is_growing);
+      self_in_bounds = a.room;
+      self_value_2 = next_none _ _ _ (sym c.next_copy.ensures ∙ c.in_default.is);
+    }
 
 pub advance_copy-requires : goal.advance_copy-requires
 advance_copy-requires c =
     let a = accepted (goal.at.advance_copy-requires c).Else-k-ne0 in
     let n = next_some _ _ _ _ _ _ _ (sym c.next_copy.ensures ∙ c.in-CopyOf.is) in
-    record { self_value = (a.is_sound, a.is_growing); counts_value = refl; self_in_bounds = a.room; self_value_2 = (n.0, n.1); p_value = (n.2, n.3) }
+    record {
+      self_value = (a.is_sound, a.is_growing);
+      counts_value = refl;
+      self_in_bounds = a.room;
+      self_value_2 = (n.0, n.1);
+      p_value = (n.2, n.3);
+    }

@@ -15,12 +15,17 @@ use Rattle.volume.proofs.Volume.advance_record.Goals as goal
 use Rattle.volume.proofs.Volume.advance_record.Goals.{After-record_refusal-k, Start}
 
 facts : (c : Start) → AdvanceFacts c.args.self (length c.args.medium.now)
-facts c = record { is_sound = c.requires.self_value.0; room = c.requires.self_in_bounds; is_growing = c.requires.self_value.1 }
+facts c =
+    record {
+      is_sound = c.requires.self_value.0;
+      room = c.requires.self_in_bounds;
+      is_growing = c.requires.self_value.1;
+    }
 
 -- the last tests are those of the table
 tested : (c : After-record_refusal-k)
     → let a = c.args in c.record_refusal-k.result ≡ refusal (advance_table a.self (length a.medium.now))
-tested c = c.record_refusal-k.ensures ∙ record_due _ _ ((let it : AdvanceFacts c.args.self (length c.args.medium.now) = record { is_sound = c.requires.self_value.0; room = c.requires.self_in_bounds; is_growing = c.requires.self_value.1 } in it)) c.requires.self_value_2
+tested c = c.record_refusal-k.ensures ∙ record_due _ _ (record { is_sound = c.requires.self_value.0; room = c.requires.self_in_bounds; is_growing = c.requires.self_value.1 }) c.requires.self_value_2
 
 pub returns-then-k-ne0 : goal.returns-then-k-ne0
 unfolding advance_outcome observe
@@ -28,7 +33,10 @@ returns-then-k-ne0 c =
     let v = c.args.self in
     let e = tested (goal.at.returns-then-k-ne0 c).After-record_refusal-k in
     let h = c.if-k-ne0.true in
-    record { value = refused_reply _ v [] _ _ e h v _ refl c.refuse.ensures; medium_after = refused_stores _ v [] _ _ e h _ _ }
+    record {
+      value = refused_reply _ v [] _ _ e h v _ refl c.refuse.ensures;
+      medium_after = refused_stores _ v [] _ _ e h _ _;
+    }
 
 pub store_record-requires : goal.store_record-requires
 store_record-requires c = record_room _ _ _ c.requires.self_in_bounds
@@ -36,7 +44,8 @@ store_record-requires c = record_room _ _ _ c.requires.self_in_bounds
 pub calls_left-left-requires : goal.calls_left-left-requires
 calls_left-left-requires c =
     let a = facts (goal.at.calls_left-left-requires c).Start in
-    let h = calls_asks c.checkpointed-v.result (rw c.checkpointed-v.ensures (checkpointed_sound _ a.is_sound a.is_growing)) in record { limits = h.0; fact = h.1 }
+    let h = calls_asks c.checkpointed-v.result (rw c.checkpointed-v.ensures (checkpointed_sound _ a.is_sound a.is_growing)) in
+    record { limits = h.0; fact = h.1 }
 
 pub returns : goal.returns
 unfolding advance_outcome observe
@@ -47,4 +56,8 @@ returns c =
     let d = c.requires.self_value_2 in
     let w = c.checkpointed-v in
     let n = w.ensures in
-    let left = calls_told w.result _ c.calls_left-left.ensures in record { value = accepted_reply _ v [] _ _ e h _ (records_told v _ d _ n _ c.after_record-after.ensures _ c.checkpoint_told-did.ensures _ left _ c.tell.ensures); medium_after = accepted_stores _ v [] _ _ e h _ _ _ (records_stored v _ d _ n _ _ _ c.store_record.ensures) }
+    let left = calls_told w.result _ c.calls_left-left.ensures in
+    record {
+      value = accepted_reply _ v [] _ _ e h _ (records_told v _ d _ n _ c.after_record-after.ensures _ c.checkpoint_told-did.ensures _ left _ c.tell.ensures);
+      medium_after = accepted_stores _ v [] _ _ e h _ _ _ (records_stored v _ d _ n _ _ _ c.store_record.ensures);
+    }

@@ -9,7 +9,10 @@ use Rattle.volume.proofs.Volume.checkpointed.Goals as goal
 
 pub all_copied-requires : goal.all_copied-requires
 all_copied-requires c =
-    record { limits = history_limits _ c.requires.0; t_nonzero = (has_growth _ c.requires.1 c.requires.0, window_below _ c.requires.1 c.requires.0) }
+    record {
+      limits = history_limits _ c.requires.0;
+      t_nonzero = (has_growth _ c.requires.1 c.requires.0, window_below _ c.requires.1 c.requires.0);
+    }
 
 pub returns-then-not-all_copied : goal.returns-then-not-all_copied
 returns-then-not-all_copied c = c.with_growth.ensures ∙ marks_recorded _ _ c.all_copied.ensures (c.if-not-all_copied.true)
@@ -24,7 +27,10 @@ overflow_add-w c = omega (arith, window_most _ c.requires.0 c.requires.1)
 pub window_count-requires : goal.window_count-requires
 window_count-requires c =
     let l = history_limits _ c.requires.0 in
-    record { grows = newest_grows _ _ l (newest_old _ _ _ (has_growth _ c.requires.1 c.requires.0) l) _ c.newest_growth-g.ensures; s_le_most_rows = l.rows_most }
+    record {
+      grows = newest_grows _ _ l (newest_old _ _ _ (has_growth _ c.requires.1 c.requires.0) l) _ c.newest_growth-g.ensures;
+      s_le_most_rows = l.rows_most;
+    }
 
 pub returns-then-w-window_count : goal.returns-then-w-window_count
 returns-then-w-window_count c =

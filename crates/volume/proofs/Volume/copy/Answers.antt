@@ -28,10 +28,13 @@ returns-then-found-ne0 c =
     let v = c.args.self in
     let e = judged (goal.at.returns-then-found-ne0 c).After-copy_spot-found in
     let h = c.if-found-ne0.true in
-    record { value = refused_reply _ v [] _ _ e h v _ refl c.refuse.ensures; medium_after = refused_stores _ v [] _ _ e h _ _ }
+    record {
+      value = refused_reply _ v [] _ _ e h v _ refl c.refuse.ensures;
+      medium_after = refused_stores _ v [] _ _ e h _ _;
+    }
 
 accepted : (c : Else-found-ne0) → let a = c.args in CopyFacts a.self a.x.0 (length a.medium.now)
-accepted c = (copy_accepted _ _ _ (sym ((let it : let a = c.args in c.copy_spot-found.result.refusal ≡ refusal (copy_table a.self a.x.0 (length a.medium.now)) = refusal_found _ _ _ _ c.copy_spot-found.ensures in it)) ∙ c.if-found-ne0.false)).0
+accepted c = (copy_accepted _ _ _ (sym (refusal_found _ _ _ _ c.copy_spot-found.ensures) ∙ c.if-found-ne0.false)).0
 
 -- and the old spot
 from_old : (c : Else-found-ne0)
@@ -47,7 +50,13 @@ pub store_copy-requires : goal.store_copy-requires
 store_copy-requires c =
     let f = accepted (goal.at.store_copy-requires c).Else-found-ne0 in
     let a = f.advances in
-    record { self_value = (a.is_sound, a.is_growing); counts_value = refl; self_in_bounds = a.room; x_value = (f.moves, f.not_copied); p_value = from_old (goal.at.store_copy-requires c).Else-found-ne0 }
+    record {
+      self_value = (a.is_sound, a.is_growing);
+      counts_value = refl;
+      self_in_bounds = a.room;
+      x_value = (f.moves, f.not_copied);
+      p_value = from_old (goal.at.store_copy-requires c).Else-found-ne0;
+    }
 
 pub with_mark-v-requires : goal.with_mark-v-requires
 with_mark-v-requires c =
@@ -55,7 +64,7 @@ with_mark-v-requires c =
 
 copied : (c : After-with_mark-v)
     → let a = c.args in c.with_mark-v.result ≡ with_copy a.self a.x.0
-copied c = c.with_mark-v.ensures ∙ copied_at _ _ _ ((let it : let a = c.args in c.copy_spot-found.result.mark ≡ mark_of a.self.rows (history_of a.self) a.x.0 = (spot_found _ _ _ _ c.copy_spot-found.ensures c.if-found-ne0.false).1 in it))
+copied c = c.with_mark-v.ensures ∙ copied_at _ _ _ (((spot_found _ _ _ _ c.copy_spot-found.ensures c.if-found-ne0.false).1))
 
 pub calls_left-left-requires : goal.calls_left-left-requires
 unfolding with_copy with_growth
@@ -64,13 +73,18 @@ calls_left-left-requires c =
     let a = (accepted (goal.at.calls_left-left-requires c).Else-found-ne0).advances in
     let f = (accepted (goal.at.calls_left-left-requires c).Else-found-ne0).moves in
     rw (copied (goal.at.calls_left-left-requires c).After-with_mark-v)
-    (let h = calls_asks (with_copy v.self v.x.0) (copied_sound _ _ a.is_sound a.is_growing f) in record { limits = h.0; fact = h.1 })
+    (let h = calls_asks (with_copy v.self v.x.0) (copied_sound _ _ a.is_sound a.is_growing f) in record {
+      limits = h.0;
+      fact = h.1;
+    })
 
 -- what is reported
 left_told : (c : After-calls_left-left)
     → let v = c.args in c.calls_left-left.result ≡ calls_left_of (tally_of (with_copy v.self v.x.0))
 unfolding with_copy with_growth
-left_told c = let v = c.args in calls_told (with_copy v.self v.x.0) _ (rw ((let it : let a = c.args in c.with_mark-v.result ≡ with_copy a.self a.x.0 = c.with_mark-v.ensures ∙ copied_at _ _ _ ((let it : let a = c.args in c.copy_spot-found.result.mark ≡ mark_of a.self.rows (history_of a.self) a.x.0 = (spot_found _ _ _ _ c.copy_spot-found.ensures c.if-found-ne0.false).1 in it)) in it)) at c.calls_left-left.ensures)
+left_told c =
+    let v = c.args in
+    calls_told (with_copy v.self v.x.0) _ (rw ((c.with_mark-v.ensures ∙ copied_at _ _ _ (((spot_found _ _ _ _ c.copy_spot-found.ensures c.if-found-ne0.false).1)))) at c.calls_left-left.ensures)
 
 pub returns : goal.returns
 unfolding copy_outcome copy_effect copy_store reporting pending_with observe
@@ -78,4 +92,8 @@ returns c =
     let a = c.args in
     let v = a.self in
     let e = judged (goal.at.returns c).After-copy_spot-found in
-    let h = c.if-found-ne0.false in record { value = accepted_reply _ v [] _ _ e h _ (report_made _ _ _ (copy_store v a.x.0 (observe a.medium.now)) (copied (goal.at.returns c).After-with_mark-v) c.after_block-after.ensures _ (left_told (goal.at.returns c).After-calls_left-left) _ c.report.ensures); medium_after = accepted_stores _ v [] _ _ e h _ _ _ c.store_copy.ensures }
+    let h = c.if-found-ne0.false in
+    record {
+      value = accepted_reply _ v [] _ _ e h _ (report_made _ _ _ (copy_store v a.x.0 (observe a.medium.now)) (copied (goal.at.returns c).After-with_mark-v) c.after_block-after.ensures _ (left_told (goal.at.returns c).After-calls_left-left) _ c.report.ensures);
+      medium_after = accepted_stores _ v [] _ _ e h _ _ _ c.store_copy.ensures;
+    }

@@ -25,7 +25,11 @@ advances : (c : Else-k-ne0) → AdvanceFacts c.args.self c.args.len
 advances c = growth_accepted _ _ (sym c.growth_refusal-k.ensures ∙ c.if-k-ne0.false)
 
 pub open_blocks_by-requires : goal.open_blocks_by-requires
-open_blocks_by-requires c = record { self_value = (advances (goal.at.open_blocks_by-requires c).Else-k-ne0).is_sound; counts_value = c.requires }
+open_blocks_by-requires c =
+    record {
+      self_value = (advances (goal.at.open_blocks_by-requires c).Else-k-ne0).is_sound;
+      counts_value = c.requires;
+    }
 
 pub returns-then-open_blocks_by-x : goal.returns-then-open_blocks_by-x
 returns-then-open_blocks_by-x c =
@@ -36,12 +40,17 @@ block_open : (c : Else-open_blocks_by-x) → c.args.x.0 < open_blocks (tally_of 
 block_open c = rw c.open_blocks_by.ensures at c.if-open_blocks_by-x.false
 
 pub overflow_sub-t : goal.overflow_sub-t
-overflow_sub-t c = let a = advances (goal.at.overflow_sub-t c).Else-k-ne0 in omega (arith, has_growth _ a.is_growing a.is_sound)
+overflow_sub-t c =
+    let a = advances (goal.at.overflow_sub-t c).Else-k-ne0 in
+    omega (arith, has_growth _ a.is_growing a.is_sound)
 
 pub spot_of-spot-requires : goal.spot_of-spot-requires
 spot_of-spot-requires c =
     let a = advances (goal.at.spot_of-spot-requires c).Else-k-ne0 in
-    rw c.requires (let h = asks_before c.args.self a.is_growing a.is_sound _ (block_open (goal.at.spot_of-spot-requires c).Else-open_blocks_by-x) in record { limits = h.0; x_bound = h.1 })
+    rw c.requires (let h = asks_before c.args.self a.is_growing a.is_sound _ (block_open (goal.at.spot_of-spot-requires c).Else-open_blocks_by-x) in record {
+      limits = h.0;
+      x_bound = h.1;
+    })
 
 -- what the lent counts, which are the state's, tell
 spot_told_law : (c : After-spot_of-spot)
@@ -60,16 +69,17 @@ growth_told c = rw c.requires at c.newest_growth-g.ensures
 pub moves_now-requires : goal.moves_now-requires
 moves_now-requires c =
     let a = advances (goal.at.moves_now-requires c).Else-k-ne0 in
-    let h = spot_asks _ a.is_growing a.is_sound _ (growth_told (goal.at.moves_now-requires c).After-newest_growth-g) _ (block_open (goal.at.moves_now-requires c).Else-open_blocks_by-x) _ (spot_told_law (goal.at.moves_now-requires c).After-spot_of-spot) in record { grows = h.0; disk_lt_m = h.1 }
+    let h = spot_asks _ a.is_growing a.is_sound _ (growth_told (goal.at.moves_now-requires c).After-newest_growth-g) _ (block_open (goal.at.moves_now-requires c).Else-open_blocks_by-x) _ (spot_told_law (goal.at.moves_now-requires c).After-spot_of-spot) in
+    record { grows = h.0; disk_lt_m = h.1 }
 
 -- whether it is a moving block of window w
 moves_told_law : (c : After-moves_now)
     → let a = c.args in
     c.moves_now.result ≡ moving_in a.self.rows (counts_now a.self) a.self.window a.x.0
 moves_told_law c =
-    let a = (let it : AdvanceFacts c.args.self c.args.len = growth_accepted _ _ (sym c.growth_refusal-k.ensures ∙ c.if-k-ne0.false) in it) in
+    let a = (growth_accepted _ _ (sym c.growth_refusal-k.ensures ∙ c.if-k-ne0.false)) in
     c.moves_now.ensures
-    ∙ moves_read _ a.is_growing a.is_sound _ ((let it : let v = c.args.self in c.newest_growth-g.result ≡ newest_growth (history v.growths v.counts) = rw c.requires at c.newest_growth-g.ensures in it)) _ ((let it : c.args.x.0 < open_blocks (tally_of c.args.self) = rw c.open_blocks_by.ensures at c.if-open_blocks_by-x.false in it)) _ ((let it : let a = c.args in c.spot_of-spot.result ≡ spot_of a.self.rows (history (a.self.growths - 1) a.self.counts) a.x.0 = rw c.requires at c.spot_of-spot.ensures in it))
+    ∙ moves_read _ a.is_growing a.is_sound _ (rw c.requires at c.newest_growth-g.ensures) _ (rw c.open_blocks_by.ensures at c.if-open_blocks_by-x.false) _ (rw c.requires at c.spot_of-spot.ensures)
 
 pub returns-then-not-moves_now : goal.returns-then-not-moves_now
 returns-then-not-moves_now c =
@@ -84,7 +94,8 @@ moves c = sym c.moves_now.ensures ∙ c.if-not-moves_now.false
 pub mark_of_spot-mark-requires : goal.mark_of_spot-mark-requires
 mark_of_spot-mark-requires c =
     let a = advances (goal.at.mark_of_spot-mark-requires c).Else-k-ne0 in
-    let h = mark_asks _ a.is_growing a.is_sound _ (growth_told (goal.at.mark_of_spot-mark-requires c).After-newest_growth-g) _ (block_open (goal.at.mark_of_spot-mark-requires c).Else-open_blocks_by-x) _ (spot_told_law (goal.at.mark_of_spot-mark-requires c).After-spot_of-spot) (moves (goal.at.mark_of_spot-mark-requires c).Else-not-moves_now) in record { grows = h.0; disk_lt_m = h.1 }
+    let h = mark_asks _ a.is_growing a.is_sound _ (growth_told (goal.at.mark_of_spot-mark-requires c).After-newest_growth-g) _ (block_open (goal.at.mark_of_spot-mark-requires c).Else-open_blocks_by-x) _ (spot_told_law (goal.at.mark_of_spot-mark-requires c).After-spot_of-spot) (moves (goal.at.mark_of_spot-mark-requires c).Else-not-moves_now) in
+    record { grows = h.0; disk_lt_m = h.1 }
 
 pub has_mark-requires : goal.has_mark-requires
 has_mark-requires c =
@@ -96,9 +107,9 @@ last_test : (c : After-has_mark) (copied : Bool) → copied ≡ c.has_mark.resul
     → let a = c.args in
     cond copied 11 (refusal (block_rows a.self)) ≡ refusal (copy_table a.self a.x.0 a.len)
 last_test c copied t =
-    let a = (let it : AdvanceFacts c.args.self c.args.len = growth_accepted _ _ (sym c.growth_refusal-k.ensures ∙ c.if-k-ne0.false) in it) in
-    let m = mark_set_read _ a.is_growing a.is_sound _ ((let it : let v = c.args.self in c.newest_growth-g.result ≡ newest_growth (history v.growths v.counts) = rw c.requires at c.newest_growth-g.ensures in it)) _ ((let it : c.args.x.0 < open_blocks (tally_of c.args.self) = rw c.open_blocks_by.ensures at c.if-open_blocks_by-x.false in it)) _ ((let it : let a = c.args in c.spot_of-spot.result ≡ spot_of a.self.rows (history (a.self.growths - 1) a.self.counts) a.x.0 = rw c.requires at c.spot_of-spot.ensures in it)) _ c.mark_of_spot-mark.ensures ((let it : moves_at c.newest_growth-g.result.old c.newest_growth-g.result.added c.args.self.window c.spot_of-spot.result ≡ true = sym c.moves_now.ensures ∙ c.if-not-moves_now.false in it)) _ _ c.has_mark.ensures in
-    copy_left _ _ _ c.growth_refusal-k.ensures c.if-k-ne0.false _ ((let it : c.args.x.0 < open_blocks (tally_of c.args.self) = rw c.open_blocks_by.ensures at c.if-open_blocks_by-x.false in it)) _ ((let it : let a = c.args in c.moves_now.result ≡ moving_in a.self.rows (counts_now a.self) a.self.window a.x.0 = let a = (let it : AdvanceFacts c.args.self c.args.len = growth_accepted _ _ (sym c.growth_refusal-k.ensures ∙ c.if-k-ne0.false) in it) in c.moves_now.ensures ∙ moves_read _ a.is_growing a.is_sound _ ((let it : let v = c.args.self in c.newest_growth-g.result ≡ newest_growth (history v.growths v.counts) = rw c.requires at c.newest_growth-g.ensures in it)) _ ((let it : c.args.x.0 < open_blocks (tally_of c.args.self) = rw c.open_blocks_by.ensures at c.if-open_blocks_by-x.false in it)) _ ((let it : let a = c.args in c.spot_of-spot.result ≡ spot_of a.self.rows (history (a.self.growths - 1) a.self.counts) a.x.0 = rw c.requires at c.spot_of-spot.ensures in it)) in it)) (c.if-not-moves_now.false) copied
+    let a = (growth_accepted _ _ (sym c.growth_refusal-k.ensures ∙ c.if-k-ne0.false)) in
+    let m = mark_set_read _ a.is_growing a.is_sound _ (rw c.requires at c.newest_growth-g.ensures) _ (rw c.open_blocks_by.ensures at c.if-open_blocks_by-x.false) _ (rw c.requires at c.spot_of-spot.ensures) _ c.mark_of_spot-mark.ensures (sym c.moves_now.ensures ∙ c.if-not-moves_now.false) _ _ c.has_mark.ensures in
+    copy_left _ _ _ c.growth_refusal-k.ensures c.if-k-ne0.false _ (rw c.open_blocks_by.ensures at c.if-open_blocks_by-x.false) _ ((let a = (growth_accepted _ _ (sym c.growth_refusal-k.ensures ∙ c.if-k-ne0.false)) in c.moves_now.ensures ∙ moves_read _ a.is_growing a.is_sound _ (rw c.requires at c.newest_growth-g.ensures) _ (rw c.open_blocks_by.ensures at c.if-open_blocks_by-x.false) _ (rw c.requires at c.spot_of-spot.ensures))) (c.if-not-moves_now.false) copied
     (t ∙ m)
 
 pub returns-then-has_mark : goal.returns-then-has_mark

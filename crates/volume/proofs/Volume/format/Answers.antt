@@ -19,7 +19,10 @@ unfolding format_outcome observe
 returns-then-k-ne0 c =
     let e = c.format_refusal-k.ensures in
     let h = c.if-k-ne0.true in
-    record { value = refused_reply _ _ _ _ _ e h _ _ c.zeros.ensures c.refuse.ensures; medium_after = refused_stores _ zeros [] _ _ e h _ _ }
+    record {
+      value = refused_reply _ _ _ _ _ e h _ _ c.zeros.ensures c.refuse.ensures;
+      medium_after = refused_stores _ zeros [] _ _ e h _ _;
+    }
 
 -- the table refuses nothing
 clear : (c : Else-k-ne0)
@@ -35,4 +38,8 @@ returns c =
     let a = c.args in
     let e = c.format_refusal-k.ensures in
     let h = c.if-k-ne0.false in
-    let n = c.new_state-fresh.ensures in record { value = accepted_reply _ zeros [] _ _ e h _ (done_made _ _ _ (record_store (record_of (new_state a.size a.rows a.disks))) n c.after_record-formatted.ensures []); medium_after = accepted_stores _ zeros [] _ _ e h _ _ _ (record_stored _ _ _ _ _ n c.store_record.ensures) }
+    let n = c.new_state-fresh.ensures in
+    record {
+      value = accepted_reply _ zeros [] _ _ e h _ (done_made _ _ _ (record_store (record_of (new_state a.size a.rows a.disks))) n c.after_record-formatted.ensures []);
+      medium_after = accepted_stores _ zeros [] _ _ e h _ _ _ (record_stored _ _ _ _ _ n c.store_record.ensures);
+    }

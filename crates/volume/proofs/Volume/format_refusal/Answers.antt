@@ -38,7 +38,9 @@ returns-then-not-disks_hold c =
     simp (size_passes (goal.at.returns-then-not-disks_hold c).Else-not-size_holds, rows_pass (goal.at.returns-then-not-disks_hold c).Else-not-rows_hold, e)
 
 pub bytes_needed-requires : goal.bytes_needed-requires
-bytes_needed-requires c = let h = bytes_within _ _ _ (size_passes (goal.at.bytes_needed-requires c).Else-not-size_holds) (rows_pass (goal.at.bytes_needed-requires c).Else-not-rows_hold) (disks_pass (goal.at.bytes_needed-requires c).Else-not-disks_hold) in record { size_nonzero = h.0; disks_bound = h.1 }
+bytes_needed-requires c =
+    let h = bytes_within _ _ _ (size_passes (goal.at.bytes_needed-requires c).Else-not-size_holds) (rows_pass (goal.at.bytes_needed-requires c).Else-not-rows_hold) (disks_pass (goal.at.bytes_needed-requires c).Else-not-disks_hold) in
+    record { size_nonzero = h.0; disks_bound = h.1 }
 
 pub returns-then-len-bytes_needed : goal.returns-then-len-bytes_needed
 unfolding refusal format_table too_short

@@ -38,11 +38,11 @@ returns-then-found-ne0 c =
     refused_reply _ _ _ _ _ e (λ z. omega arith) _ _ c.zeros-then-found-ne0.ensures c.refuse-then-found-ne0.ensures
 
 well_formed : (c : Else-found-ne0) → (read_record (take record_bytes c.args.sector.now)).refusal ≡ 0
-well_formed c = rw ((let it : c.read_record-found.result ≡ read_record (take record_bytes c.args.sector.now) = c.read_record-found.ensures in it)) at c.if-found-ne0.false
+well_formed c = rw (c.read_record-found.ensures) at c.if-found-ne0.false
 
 state : (c : After-from_record-v) → c.from_record-v.result ≡ state_read (take record_bytes c.args.sector.now)
 unfolding state_read
-state c = rw ((let it : c.read_record-found.result ≡ read_record (take record_bytes c.args.sector.now) = c.read_record-found.ensures in it)) at c.from_record-v.ensures
+state c = rw (c.read_record-found.ensures) at c.from_record-v.ensures
 
 pub returns-then-not-is_sound : goal.returns-then-not-is_sound
 unfolding sector_outcome
@@ -56,7 +56,9 @@ state_sound : (c : Else-not-is_sound) → sound c.from_record-v.result ≡ true
 state_sound c = sym c.is_sound.ensures ∙ c.if-not-is_sound.false
 
 pub calls_left-left-requires : goal.calls_left-left-requires
-calls_left-left-requires c = let h = calls_asks _ (state_sound (goal.at.calls_left-left-requires c).Else-not-is_sound) in record { limits = h.0; fact = h.1 }
+calls_left-left-requires c =
+    let h = calls_asks _ (state_sound (goal.at.calls_left-left-requires c).Else-not-is_sound) in
+    record { limits = h.0; fact = h.1 }
 
 pub returns : goal.returns
 unfolding sector_outcome restart_effect reporting pending_with with_pending observe

@@ -66,10 +66,10 @@ tests_passed : (c : Else-count-gt-MOST_DISKS) → let a = c.args in refusal (cou
 unfolding refusal grow_table_of
 tests_passed c =
     simp (
-      (let it : sound c.args.self ≡ true = sym c.is_sound.ensures ∙ c.if-not-is_sound.false in it),
-      (let it : eqb c.args.self.growing 0 ≡ true = eq-eqb _ _ c.if-self-ne0.false in it),
-      (let it : eqb c.args.self.growths most_growths ≡ false = ne_eqb _ _ c.if-self-eq-MOST_GROWTHS.false in it),
-      (let it : let a = c.args in leb a.count (disks a.self) ≡ false = lt-leb _ _ (rw c.disk_count.ensures at c.if-count-disk_count.false) in it),
+      (sym c.is_sound.ensures ∙ c.if-not-is_sound.false),
+      (eq-eqb _ _ c.if-self-ne0.false),
+      (ne_eqb _ _ c.if-self-eq-MOST_GROWTHS.false),
+      (lt-leb _ _ (rw c.disk_count.ensures at c.if-count-disk_count.false)),
       le-ltb _ _ c.if-count-gt-MOST_DISKS.false,
     )
 

@@ -3,7 +3,9 @@ use Rattle.volume.proofs.LiveCode.{bytes_asked, short_told}
 use Rattle.volume.proofs.Volume.is_short.Goals as goal
 
 pub bytes_needed-requires : goal.bytes_needed-requires
-bytes_needed-requires c = let h = bytes_asked _ c.requires.self_value _ c.geometry-g.ensures _ c.requires.disks_le_most_disks in record { size_nonzero = h.0; disks_bound = h.1 }
+bytes_needed-requires c =
+    let h = bytes_asked _ c.requires.self_value _ c.geometry-g.ensures _ c.requires.disks_le_most_disks in
+    record { size_nonzero = h.0; disks_bound = h.1 }
 
 pub returns : goal.returns
 returns c = short_told _ _ c.geometry-g.ensures _ _ _ c.bytes_needed.ensures

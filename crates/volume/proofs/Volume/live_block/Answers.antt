@@ -6,7 +6,10 @@ use Rattle.volume.proofs.Volume.live_block.Goals as goal
 
 pub block_at-requires : goal.block_at-requires
 unfolding history_of
-block_at-requires c = rw c.requires.counts_value (record { limits = history_limits c.args.self c.requires.self_value; within = c.requires.within })
+block_at-requires c = rw c.requires.counts_value (record {
+  limits = history_limits c.args.self c.requires.self_value;
+  within = c.requires.within;
+})
 
 pub returns-then-self-eq0 : goal.returns-then-self-eq0
 returns-then-self-eq0 c = rest_block c.args.self c.if-self-eq0.true _ _ (rw c.requires.counts_value at c.block_at.ensures)
@@ -15,7 +18,10 @@ pub live_block-requires : goal.live_block-requires
 unfolding history_of
 live_block-requires c =
     let v = c.args.self in
-    rw c.requires.counts_value (record { limits = history_limits v c.requires.self_value; t_nonzero = (has_growth v c.if-self-eq0.false c.requires.self_value, c.requires.within) })
+    rw c.requires.counts_value (record {
+      limits = history_limits v c.requires.self_value;
+      t_nonzero = (has_growth v c.if-self-eq0.false c.requires.self_value, c.requires.within);
+    })
 
 pub returns : goal.returns
 returns c = rw c.requires.counts_value at c.live_block.ensures ∙ growing_block c.args.self c.if-self-eq0.false _

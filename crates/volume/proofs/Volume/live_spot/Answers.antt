@@ -6,11 +6,14 @@ pub overflow_sub-t : goal.overflow_sub-t
 overflow_sub-t c = growing_most _ c.requires.self_value
 
 pub spot_of-old-requires : goal.spot_of-old-requires
-spot_of-old-requires c = let h = open_asks _ c.requires.self_value _ c.requires.x_bound in record { limits = h.0; x_bound = h.1 }
+spot_of-old-requires c =
+    let h = open_asks _ c.requires.self_value _ c.requires.x_bound in
+    record { limits = h.0; x_bound = h.1 }
 
 pub live_spot-requires : goal.live_spot-requires
 live_spot-requires c =
-    let h = spot_known _ c.requires.self_value _ c.requires.x_bound _ c.spot_of-old.ensures in record { limits = h.0; fact = h.1 }
+    let h = spot_known _ c.requires.self_value _ c.requires.x_bound _ c.spot_of-old.ensures in
+    record { limits = h.0; fact = h.1 }
 
 pub returns : goal.returns
 returns c =

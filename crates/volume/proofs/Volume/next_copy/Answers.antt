@@ -9,7 +9,10 @@ pub next_copy-requires : goal.next_copy-requires
 next_copy-requires c =
     let v = c.args.self in
     let p = c.requires.self_value in
-    rw c.requires.counts_value (record { limits = history_limits v p.0; t_nonzero = (has_growth v p.1 p.0, window_below v p.1 p.0) })
+    rw c.requires.counts_value (record {
+      limits = history_limits v p.0;
+      t_nonzero = (has_growth v p.1 p.0, window_below v p.1 p.0);
+    })
 
 pub returns : goal.returns
 unfolding next_block next_of_window moves_now rank_now tally_of history_of

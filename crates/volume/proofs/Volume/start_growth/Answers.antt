@@ -22,7 +22,10 @@ returns-then-k-ne0 c =
     let v = c.args.self in
     let e = c.grow_refusal-k.ensures in
     let h = c.if-k-ne0.true in
-    record { value = refused_reply _ v [] _ _ e h v _ refl c.refuse.ensures; medium_after = refused_stores _ v [] _ _ e h _ _ }
+    record {
+      value = refused_reply _ v [] _ _ e h v _ refl c.refuse.ensures;
+      medium_after = refused_stores _ v [] _ _ e h _ _;
+    }
 
 -- the table refuses nothing
 clear : (c : Else-k-ne0) → let a = c.args in refusal (grow_table_of a.limited a.self a.count (length a.medium.now)) ≡ 0
@@ -36,7 +39,8 @@ store_record-requires c = record_room _ _ _ (grow_accepted _ _ _ _ (clear (goal.
 
 pub calls_left-left-requires : goal.calls_left-left-requires
 calls_left-left-requires c =
-    let h = calls_asks c.grown-v.result (rw c.grown-v.ensures (grown_sound _ _ _ _ (clear (goal.at.calls_left-left-requires c).Else-k-ne0))) in record { limits = h.0; fact = h.1 }
+    let h = calls_asks c.grown-v.result (rw c.grown-v.ensures (grown_sound _ _ _ _ (clear (goal.at.calls_left-left-requires c).Else-k-ne0))) in
+    record { limits = h.0; fact = h.1 }
 
 pub returns : goal.returns
 unfolding grow_outcome_of grow_effect reporting pending_with observe
@@ -47,4 +51,8 @@ returns c =
     let h = c.if-k-ne0.false in
     let g = c.grown-v in
     let n = g.ensures in
-    let left = rw n at (calls_told g.result _ c.calls_left-left.ensures) in record { value = accepted_reply _ v [] _ _ e h _ (report_made _ _ _ (record_store (record_of (grown v a.count))) n c.after_record-after.ensures _ left _ c.report.ensures); medium_after = accepted_stores _ v [] _ _ e h _ _ _ (record_stored _ _ _ _ _ n c.store_record.ensures) }
+    let left = rw n at (calls_told g.result _ c.calls_left-left.ensures) in
+    record {
+      value = accepted_reply _ v [] _ _ e h _ (report_made _ _ _ (record_store (record_of (grown v a.count))) n c.after_record-after.ensures _ left _ c.report.ensures);
+      medium_after = accepted_stores _ v [] _ _ e h _ _ _ (record_stored _ _ _ _ _ n c.store_record.ensures);
+    }

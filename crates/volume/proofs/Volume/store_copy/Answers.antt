@@ -32,11 +32,12 @@ to_new : (c : After-spot_after-to)
     → let v = c.args.self in c.spot_after-to.result ≡ spot_of v.rows (counts_now v) c.args.x.0
 to_new c =
     let p = c.requires.self_value in
-    new_read _ p.1 p.0 _ ((let it : let v = c.args.self in c.newest_growth-d.result ≡ newest_growth (history v.growths v.counts) = rw c.requires.counts_value at c.newest_growth-d.ensures in it)) _ ((let it : CopyFacts c.args.self c.args.x.0 (length c.args.medium.now) = copy_facts _ _ _ c.requires.self_value (c.requires.self_in_bounds, c.requires.x_value) in it)).block_open _ (spot_before_it _ p.1 p.0 _ _ c.requires.p_value) _ c.spot_after-to.ensures
+    new_read _ p.1 p.0 _ (rw c.requires.counts_value at c.newest_growth-d.ensures) _ ((copy_facts _ _ _ c.requires.self_value (c.requires.self_in_bounds, c.requires.x_value))).block_open _ (spot_before_it _ p.1 p.0 _ _ c.requires.p_value) _ c.spot_after-to.ensures
 
 pub copy_block-requires : goal.copy_block-requires
 copy_block-requires c =
-    let h = copy_asks _ _ _ (facts (goal.at.copy_block-requires c).Start) _ c.geometry-g.ensures _ _ c.requires.p_value (to_new (goal.at.copy_block-requires c).After-spot_after-to) in record { size_in_range = h.0; from_inside = h.1.0; to_inside = h.1.1 }
+    let h = copy_asks _ _ _ (facts (goal.at.copy_block-requires c).Start) _ c.geometry-g.ensures _ _ c.requires.p_value (to_new (goal.at.copy_block-requires c).After-spot_after-to) in
+    record { size_in_range = h.0; from_inside = h.1.0; to_inside = h.1.1 }
 
 pub returns : goal.returns
 returns c =

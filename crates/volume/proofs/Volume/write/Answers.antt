@@ -25,11 +25,14 @@ returns-then-target-ne0 c =
     let a = c.args in
     let e = judged (goal.at.returns-then-target-ne0 c).After-write_spot-target in
     let h = c.if-target-ne0.true in
-    record { value = refused_reply _ a.self a.piece.now _ _ e h a.self _ refl c.refuse.ensures; medium_after = refused_stores _ a.self a.piece.now _ _ e h _ _ }
+    record {
+      value = refused_reply _ a.self a.piece.now _ _ e h a.self _ refl c.refuse.ensures;
+      medium_after = refused_stores _ a.self a.piece.now _ _ e h _ _;
+    }
 
 accepted : (c : Else-target-ne0)
     → let a = c.args in ReadFacts a.self a.x.0 (length a.piece.now) (length a.medium.now)
-accepted c = (write_accepted _ _ _ _ (sym ((let it : let a = c.args in c.write_spot-target.result.refusal ≡ refusal (write_table a.self a.x.0 (length a.piece.now) (length a.medium.now)) = refusal_found _ _ _ _ c.write_spot-target.ensures in it)) ∙ c.if-target-ne0.false)).0
+accepted c = (write_accepted _ _ _ _ (sym (refusal_found _ _ _ _ c.write_spot-target.ensures) ∙ c.if-target-ne0.false)).0
 
 -- and the live spot
 lives : (c : Else-target-ne0)
@@ -37,7 +40,9 @@ lives : (c : Else-target-ne0)
 lives c = (spot_found _ _ _ _ c.write_spot-target.ensures c.if-target-ne0.false).0
 
 pub store_block-requires : goal.store_block-requires
-store_block-requires c = let h = piece_fits _ _ _ _ (accepted (goal.at.store_block-requires c).Else-target-ne0) _ c.geometry-g.ensures _ (lives (goal.at.store_block-requires c).Else-target-ne0) in record { size_in_range = h.0; inside = h.1.0; piece_len = h.1.1 }
+store_block-requires c =
+    let h = piece_fits _ _ _ _ (accepted (goal.at.store_block-requires c).Else-target-ne0) _ c.geometry-g.ensures _ (lives (goal.at.store_block-requires c).Else-target-ne0) in
+    record { size_in_range = h.0; inside = h.1.0; piece_len = h.1.1 }
 
 pub returns : goal.returns
 unfolding write_outcome write_effect doing pending_with observe

@@ -22,7 +22,10 @@ pub overflow_sub-t : goal.overflow_sub-t
 overflow_sub-t c = growing_most _ (accepted (goal.at.overflow_sub-t c).Else-k-ne0).is_sound
 
 pub spot_of-old-requires : goal.spot_of-old-requires
-spot_of-old-requires c = let a = accepted (goal.at.spot_of-old-requires c).Else-k-ne0 in let h = open_asks _ a.is_sound _ a.block_open in record { limits = h.0; x_bound = h.1 }
+spot_of-old-requires c =
+    let a = accepted (goal.at.spot_of-old-requires c).Else-k-ne0 in
+    let h = open_asks _ a.is_sound _ a.block_open in
+    record { limits = h.0; x_bound = h.1 }
 
 -- ---- while a growth runs
 pub newest_growth-g-requires : goal.newest_growth-g-requires
@@ -34,13 +37,14 @@ was_at : (c : Then-growing-ne0)
     → let a = c.args in
     c.spot_of-old.result ≡ spot_of a.self.rows (counts_before a.self) a.x.0
 was_at c =
-    let a = (let it : let a = c.args in ReadFacts a.self a.x.0 a.piece a.len = read_accepted _ _ _ _ (sym c.read_refusal-k.ensures ∙ c.if-k-ne0.false) in it) in
+    let a = (read_accepted _ _ _ _ (sym c.read_refusal-k.ensures ∙ c.if-k-ne0.false)) in
     spot_in_growth _ a.is_sound _ a.block_open _ c.spot_of-old.ensures c.if-growing-ne0.true
 
 pub is_waiting-requires : goal.is_waiting-requires
 is_waiting-requires c =
     let a = accepted (goal.at.is_waiting-requires c).Else-k-ne0 in
-    let h = spot_asks _ c.if-growing-ne0.true a.is_sound _ c.newest_growth-g.ensures _ a.block_open _ (was_at (goal.at.is_waiting-requires c).Then-growing-ne0) in record { grows = h.0; disk_lt_m = h.1 }
+    let h = spot_asks _ c.if-growing-ne0.true a.is_sound _ c.newest_growth-g.ensures _ a.block_open _ (was_at (goal.at.is_waiting-requires c).Then-growing-ne0) in
+    record { grows = h.0; disk_lt_m = h.1 }
 
 pub returns-then-is_waiting : goal.returns-then-is_waiting
 returns-then-is_waiting c =

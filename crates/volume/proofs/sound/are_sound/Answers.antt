@@ -34,7 +34,7 @@ state c =
     }
 
 -- the array has the length of its type, the words are below their type's bound
-types_hold_law : (c : Start) → types_hold ((let it : Volume = let a = c.args in record { size = a.size; rows = a.rows; growths = a.t; counts = a.counts.now; growing = a.growing; window = a.w; recorded = a.recorded; copied = a.copied; pending = none_pending } in it)) ≡ true
+types_hold_law : (c : Start) → types_hold (let a = c.args in record { size = a.size; rows = a.rows; growths = a.t; counts = a.counts.now; growing = a.growing; window = a.w; recorded = a.recorded; copied = a.copied; pending = none_pending }) ≡ true
 unfolding types_hold
 types_hold_law c =
     let recorded : c.args.recorded < 2 ^ mark_count = search rules in
@@ -43,7 +43,9 @@ types_hold_law c =
 
 pub returns-then-not-size_holds : goal.returns-then-not-size_holds
 unfolding sound limits_hold
-returns-then-not-size_holds c = let e = sym c.size_holds.ensures ∙ c.if-not-size_holds.true in simp (types_hold_law (goal.at.returns-then-not-size_holds c).Start, e)
+returns-then-not-size_holds c =
+    let e = sym c.size_holds.ensures ∙ c.if-not-size_holds.true in
+    simp (types_hold_law (goal.at.returns-then-not-size_holds c).Start, e)
 
 -- the tests passed
 size_passed : (c : Else-not-size_holds) → size_holds c.args.size ≡ true
@@ -83,7 +85,7 @@ returns-then-not-counts_rise c =
       e,
     )
 
-counts_passed : (c : Else-not-counts_rise) → rising (history_of ((let it : Volume = let a = c.args in record { size = a.size; rows = a.rows; growths = a.t; counts = a.counts.now; growing = a.growing; window = a.w; recorded = a.recorded; copied = a.copied; pending = none_pending } in it))) ≡ true
+counts_passed : (c : Else-not-counts_rise) → rising (history_of (let a = c.args in record { size = a.size; rows = a.rows; growths = a.t; counts = a.counts.now; growing = a.growing; window = a.w; recorded = a.recorded; copied = a.copied; pending = none_pending })) ≡ true
 unfolding history_of
 counts_passed c = sym c.counts_rise.ensures ∙ c.if-not-counts_rise.false
 
@@ -102,14 +104,14 @@ returns-then-counts-t-gt-MOST_DISKS c =
     )
 
 -- all limits hold
-limits_passed : (c : Else-counts-t-gt-MOST_DISKS) → limits_hold ((let it : Volume = let a = c.args in record { size = a.size; rows = a.rows; growths = a.t; counts = a.counts.now; growing = a.growing; window = a.w; recorded = a.recorded; copied = a.copied; pending = none_pending } in it)) ≡ true
+limits_passed : (c : Else-counts-t-gt-MOST_DISKS) → limits_hold (let a = c.args in record { size = a.size; rows = a.rows; growths = a.t; counts = a.counts.now; growing = a.growing; window = a.w; recorded = a.recorded; copied = a.copied; pending = none_pending }) ≡ true
 unfolding limits_hold history_of
 limits_passed c =
     let a = c.args in
-    and_both ((let it : size_holds c.args.size ≡ true = sym c.size_holds.ensures ∙ c.if-not-size_holds.false in it))
-    (and_both ((let it : rows_hold c.args.rows ≡ true = sym c.rows_hold.ensures ∙ c.if-not-rows_hold.false in it))
-    (and_both ((let it : leb c.args.t most_growths ≡ true = le-leb _ _ c.if-t-gt-MOST_GROWTHS.false in it))
-    (and_both ((let it : rising (history_of ((let it : Volume = let a = c.args in record { size = a.size; rows = a.rows; growths = a.t; counts = a.counts.now; growing = a.growing; window = a.w; recorded = a.recorded; copied = a.copied; pending = none_pending } in it))) ≡ true = unfold history_of in sym c.counts_rise.ensures ∙ c.if-not-counts_rise.false in it)) (rw (history_disks a.t a.counts.now) (le-leb _ _ c.if-counts-t-gt-MOST_DISKS.false)))))
+    and_both (sym c.size_holds.ensures ∙ c.if-not-size_holds.false)
+    (and_both (sym c.rows_hold.ensures ∙ c.if-not-rows_hold.false)
+    (and_both (le-leb _ _ c.if-t-gt-MOST_GROWTHS.false)
+    (and_both (unfold history_of in sym c.counts_rise.ensures ∙ c.if-not-counts_rise.false) (rw (history_disks a.t a.counts.now) (le-leb _ _ c.if-counts-t-gt-MOST_DISKS.false)))))
 
 pub returns-then-not-zeros_after : goal.returns-then-not-zeros_after
 unfolding sound
