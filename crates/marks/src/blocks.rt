@@ -90,7 +90,7 @@ pub fn live_spot(
     p: Spot,
 ) -> Spot
     requires limits { Limits s (history t counts.now) }
-    requires fact { (growing ≡ 0) ⊎ ((0 < t) × (p.disk < old_count (history t counts.now))) }
+    requires while_growing { (growing ≡ 0) ⊎ ((0 < t) × (p.disk < old_count (history t counts.now))) }
     ensures { result ≡ cond (eqb growing 0) p (live_from (old_count (history t counts.now)) (added_count (history t counts.now)) s w (marks_of recorded) x.0 p) }
 {
     if growing == 0 {

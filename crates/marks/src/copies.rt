@@ -110,7 +110,7 @@ pub fn calls_left(
     copied: usize,
 ) -> usize
     requires limits { Limits s (history t counts.now) }
-    requires fact { (growing ≡ 0) ⊎ ((0 < t) × (w < windows (old_count (history t counts.now)) (added_count (history t counts.now)) s)) }
+    requires while_growing { (growing ≡ 0) ⊎ ((0 < t) × (w < windows (old_count (history t counts.now)) (added_count (history t counts.now)) s)) }
     ensures { result ≡ cond (eqb growing 0) 0 (calls_left s (history t counts.now) w (marked_blocks s (history t counts.now) w (marks_of copied))) }
 {
     if growing == 0 {

@@ -28,7 +28,7 @@ fn is_refused(blocks: usize, place: usize, first: usize, count: usize) -> bool
 
 // The numbers with the blocks of a scene added.
 fn with_blocks(v: Volume, served: [usize; 16], first: usize, count: usize) -> [usize; 16]
-    requires v_sound { sound v ≡ true }
+    requires sound_state { sound v ≡ true }
     requires all_open { AllOpen v (record { first = first; count = count }) }
     requires none_wraps { NoneWraps served count }
     ensures { result ≡ with_blocks v served (record { first = first; count = count }) }

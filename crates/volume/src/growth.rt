@@ -74,11 +74,11 @@ impl Volume {
 
     // Stores the bytes of block x, which are at its old spot p, at its new spot.
     pub(crate) fn store_copy(self, counts: &[usize; 8], medium: &mut [u8], x: Block, p: Spot)
-        requires self_value { (sound self ≡ true) × (self.growing ≢ 0) }
-        requires counts_value { counts.now ≡ self.counts }
-        requires self_in_bounds { bytes_needed (geometry self) (disks self) ≤ length medium.old }
-        requires x_value { (moves_now (tally_of self) x.0 ≡ true) × ((tally_of self).copied x.0 ≡ false) }
-        requires p_value { p ≡ old_spot self.rows (history_of self) x.0 }
+        requires sound_state { (sound self ≡ true) × (self.growing ≢ 0) }
+        requires counts_same { counts.now ≡ self.counts }
+        requires room { bytes_needed (geometry self) (disks self) ≤ length medium.old }
+        requires to_copy { (moves_now (tally_of self) x.0 ≡ true) × ((tally_of self).copied x.0 ≡ false) }
+        requires at_old_spot { p ≡ old_spot self.rows (history_of self) x.0 }
         ensures { medium.new ≡ apply (geometry self) (copy_store self x.0 (observe medium.old)) medium.old }
     {
         let d = layout::newest_growth(counts, self.growths);
@@ -205,9 +205,9 @@ impl Volume {
 
     // The advance that does the checkpoint.
     pub(crate) fn advance_record(self, medium: &mut [u8]) -> Reply
-        requires self_value { (sound self ≡ true) × (self.growing ≢ 0) }
-        requires self_in_bounds { bytes_needed (geometry self) (disks self) ≤ length medium.old }
-        requires self_value_2 { next_block (tally_of self) ≡ none }
+        requires sound_state { (sound self ≡ true) × (self.growing ≢ 0) }
+        requires room { bytes_needed (geometry self) (disks self) ≤ length medium.old }
+        requires next { next_block (tally_of self) ≡ none }
         ensures value { result ≡ (advance_outcome self (observe medium.old)).reply }
         ensures medium_after { medium.new ≡ apply (geometry self) (advance_outcome self (observe medium.old)).store medium.old }
     {
@@ -234,11 +234,11 @@ impl Volume {
         p: Spot,
         j: usize,
     ) -> Reply
-        requires self_value { (sound self ≡ true) × (self.growing ≢ 0) }
-        requires counts_value { counts.now ≡ self.counts }
-        requires self_in_bounds { bytes_needed (geometry self) (disks self) ≤ length medium.old }
-        requires self_value_2 { (next_block (tally_of self) ≡ some x.0) × (part ≡ part_moved self.rows (history_of self) x.0) }
-        requires p_value { (p ≡ old_spot self.rows (history_of self) x.0) × (j ≡ mark_of self.rows (history_of self) x.0) }
+        requires sound_state { (sound self ≡ true) × (self.growing ≢ 0) }
+        requires counts_same { counts.now ≡ self.counts }
+        requires room { bytes_needed (geometry self) (disks self) ≤ length medium.old }
+        requires next { (next_block (tally_of self) ≡ some x.0) × (part ≡ part_moved self.rows (history_of self) x.0) }
+        requires at_old_spot { (p ≡ old_spot self.rows (history_of self) x.0) × (j ≡ mark_of self.rows (history_of self) x.0) }
         ensures value { result ≡ (advance_outcome self (observe medium.old)).reply }
         ensures medium_after { medium.new ≡ apply (geometry self) (advance_outcome self (observe medium.old)).store medium.old }
     {
@@ -255,8 +255,8 @@ impl Volume {
 
     // The block to copy next.
     pub(crate) fn next_copy(self, counts: &[usize; 8]) -> NextCopy
-        requires self_value { (sound self ≡ true) × (self.growing ≢ 0) }
-        requires counts_value { counts.now ≡ self.counts }
+        requires sound_state { (sound self ≡ true) × (self.growing ≢ 0) }
+        requires counts_same { counts.now ≡ self.counts }
         ensures { result ≡ as_next_copy self.rows (history_of self) (next_block (tally_of self)) }
     {
         let copied = self.copied;

@@ -46,7 +46,7 @@ impl Volume {
 
     // Are so many bytes too few for the record and so many disks?
     pub(crate) fn is_short(self, disks: usize, len: usize) -> bool
-        requires self_value { sound self ≡ true }
+        requires sound_state { sound self ≡ true }
         requires disks_le_most_disks { disks ≤ most_disks }
         ensures { result ≡ too_short (geometry self) disks len }
     {
@@ -64,8 +64,8 @@ impl Volume {
     }
 
     pub fn open_blocks_by(self, counts: &[usize; 8]) -> usize
-        requires self_value { sound self ≡ true }
-        requires counts_value { counts.now ≡ self.counts }
+        requires sound_state { sound self ≡ true }
+        requires counts_same { counts.now ≡ self.counts }
         ensures { result ≡ open_blocks (tally_of self) }
     {
         let t = self.growths;
@@ -77,7 +77,7 @@ impl Volume {
 
     // The live spot of block x.
     pub fn live_spot(self, x: Block) -> Spot
-        requires self_value { sound self ≡ true }
+        requires sound_state { sound self ≡ true }
         requires x_bound { x.0 < open_blocks (tally_of self) }
         ensures { result ≡ live_spot_of (tally_of self) x.0 }
     {
@@ -92,8 +92,8 @@ impl Volume {
 
     // The live spot of block x, why it is there, and by how many growths it was moved.
     pub(crate) fn live_address(self, counts: &[usize; 8], x: Block) -> Address
-        requires self_value { sound self ≡ true }
-        requires counts_value { counts.now ≡ self.counts }
+        requires sound_state { sound self ≡ true }
+        requires counts_same { counts.now ≡ self.counts }
         requires x_bound { x.0 < open_blocks (tally_of self) }
         ensures { result ≡ live_address_of (tally_of self) x.0 }
     {
@@ -117,8 +117,8 @@ impl Volume {
 
     // The block that lives at p.
     pub(crate) fn live_block(self, counts: &[usize; 8], p: Spot) -> LiveBlock
-        requires self_value { sound self ≡ true }
-        requires counts_value { counts.now ≡ self.counts }
+        requires sound_state { sound self ≡ true }
+        requires counts_same { counts.now ≡ self.counts }
         requires within { Within self.rows (history_of self) p }
         ensures { result ≡ as_live_block (live_block_of (tally_of self) p) }
     {

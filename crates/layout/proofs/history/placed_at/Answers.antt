@@ -38,7 +38,7 @@ added : (c : After-added_spot-arg-1)
     → get_or c.args.counts.now (c.args.k - 1) 0 * c.args.s
     ≤ c.args.x
 added c =
-    not_before_counted _ (c.args.k - 1) c.args.k c.args.counts.now _ (omega arith) c.requires.fact
+    not_before_counted _ (c.args.k - 1) c.args.k c.args.counts.now _ (omega arith) c.requires.not_older
 
 pub overflow_sub-x : goal.overflow_sub-x
 overflow_sub-x c = omega (arith, added (goal.at.overflow_sub-x c).After-added_spot-arg-1)

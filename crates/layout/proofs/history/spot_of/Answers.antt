@@ -9,7 +9,7 @@ pub placed_by-k-requires : goal.placed_by-k-requires
 placed_by-k-requires c = c.requires
 
 pub placed_at-p-requires : goal.placed_at-p-requires
-placed_at-p-requires c = record { limits = limits_at _ _ _ c.args.counts.now c.requires.limits c.placed_by-k.ensures.0; fact = c.placed_by-k.ensures.2 }
+placed_at-p-requires c = record { limits = limits_at _ _ _ c.args.counts.now c.requires.limits c.placed_by-k.ensures.0; not_older = c.placed_by-k.ensures.2 }
 
 pub loop-k-init : goal.loop-k-init
 loop-k-init c =

@@ -12,16 +12,16 @@ running : {growing : ℕ} {A : Type 0} → (growing ≡ 0 → ⊥) → (growing 
 running f e = ⊎_elim (λ z. absurd (f z)) (λ h. h) e
 
 pub newest_growth-g-requires : goal.newest_growth-g-requires
-newest_growth-g-requires c = newest_asks _ _ c.args.counts.now (running c.if-growing-eq0.false c.requires.fact).0 c.requires.limits
+newest_growth-g-requires c = newest_asks _ _ c.args.counts.now (running c.if-growing-eq0.false c.requires.while_growing).0 c.requires.limits
 
 pub live_from-requires : goal.live_from-requires
 live_from-requires c =
-    let k = running c.if-growing-eq0.false c.requires.fact in
+    let k = running c.if-growing-eq0.false c.requires.while_growing in
     let r = read_growth c.args.counts.now c.requires.limits k.0 c.newest_growth-g.ensures in
     record { grows = grows_read r; s_le_most_rows = (c.requires.limits.rows_most, rw (old_read r) k.1) }
 
 pub returns : goal.returns
 returns c =
-    let k = running c.if-growing-eq0.false c.requires.fact in
+    let k = running c.if-growing-eq0.false c.requires.while_growing in
     let r = read_growth c.args.counts.now c.requires.limits k.0 c.newest_growth-g.ensures in
     simp (ne_eqb _ _ c.if-growing-eq0.false) (rw (old_read r, added_read r) at c.live_from.ensures)

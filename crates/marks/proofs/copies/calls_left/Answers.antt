@@ -17,7 +17,7 @@ returns-then-growing-eq0 c = simp (eq-eqb _ _ c.if-growing-eq0.true)
 running : (c : Else-growing-eq0)
     → let a = c.args in
     (0 < a.t) × (a.w < windows (old_count (history a.t a.counts.now)) (added_count (history a.t a.counts.now)) a.s)
-running c = ⊎_elim (λ e. absurd (c.if-growing-eq0.false e)) (λ h. h) c.requires.fact
+running c = ⊎_elim (λ e. absurd (c.if-growing-eq0.false e)) (λ h. h) c.requires.while_growing
 
 pub newest_growth-g-requires : goal.newest_growth-g-requires
 newest_growth-g-requires c = newest_asks _ _ c.args.counts.now (running (goal.at.newest_growth-g-requires c).Else-growing-eq0).0 c.requires.limits

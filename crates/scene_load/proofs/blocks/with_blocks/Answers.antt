@@ -15,15 +15,15 @@ loop-j-init c = (omega arith, none_added _ _ _ (search rules))
 
 pub overflow_add-first : goal.overflow_add-first
 overflow_add-first c =
-    omega (arith, c.requires.all_open c.loop-j.j c.loop-j-test.true, open_most _ c.requires.v_sound)
+    omega (arith, c.requires.all_open c.loop-j.j c.loop-j-test.true, open_most _ c.requires.sound_state)
 
 pub live_spot-spot-requires : goal.live_spot-spot-requires
-live_spot-spot-requires c = record { self_value = c.requires.v_sound; x_bound = c.requires.all_open _ c.loop-j-test.true }
+live_spot-spot-requires c = record { sound_state = c.requires.sound_state; x_bound = c.requires.all_open _ c.loop-j-test.true }
 
 -- the block's disk is one of the 16
 small : (c : After-live_spot-spot) → c.live_spot-spot.result.disk < most_disks
 small c =
-    disk_small _ c.requires.v_sound _ _ (c.requires.all_open _ (omega (arith, c.loop-j-test.true))) c.live_spot-spot.ensures
+    disk_small _ c.requires.sound_state _ _ (c.requires.all_open _ (omega (arith, c.loop-j-test.true))) c.live_spot-spot.ensures
 
 pub offset_bounds-sum-disk : goal.offset_bounds-sum-disk
 offset_bounds-sum-disk c = omega (arith, small (goal.at.offset_bounds-sum-disk c).After-live_spot-spot)
@@ -45,7 +45,7 @@ loop-j-preserved c =
     let l = c.loop-j in
     let block = c.requires.all_open l.j c.loop-j-test.true in
     let disk = ap (λ (p : Spot). p.disk) c.live_spot-spot.ensures in
-    (omega (arith, c.loop-j-test.true), rw (← l.invariant.1) at (block_added c.args.v c.args.served c.args.first c.requires.v_sound l.j _ block disk (small (goal.at.loop-j-preserved c).After-live_spot-spot)))
+    (omega (arith, c.loop-j-test.true), rw (← l.invariant.1) at (block_added c.args.v c.args.served c.args.first c.requires.sound_state l.j _ block disk (small (goal.at.loop-j-preserved c).After-live_spot-spot)))
 
 pub returns : goal.returns
 returns c =

@@ -29,7 +29,7 @@ with_blocks-served-requires c =
     let usable = c.requires in
     let e = allowed (goal.at.with_blocks-served-requires c).Else-is_refused in
     record {
-      v_sound = counted_sound _ _ _ counted usable;
+      sound_state = counted_sound _ _ _ counted usable;
       all_open = block_within _ _ _ e;
       none_wraps = none_wraps _ _ _ _ counted usable e;
     }

@@ -18,7 +18,7 @@ is_sound c = state_sound _ _ _ _ _ c.shelves_refusal-refusal.ensures c.if-refusa
 
 -- ---- at rest
 pub open_blocks_by-requires : goal.open_blocks_by-requires
-open_blocks_by-requires c = record { self_value = is_sound (goal.at.open_blocks_by-requires c).Else-refusal-ne0; counts_value = refl }
+open_blocks_by-requires c = record { sound_state = is_sound (goal.at.open_blocks_by-requires c).Else-refusal-ne0; counts_same = refl }
 
 pub returns-then-open_blocks_by-x : goal.returns-then-open_blocks_by-x
 returns-then-open_blocks_by-x c = block_refused _ _ _ _ _ _ c.shelves_refusal-refusal.ensures c.if-refusal-ne0.false _ c.open_blocks_by.ensures c.if-open_blocks_by-x.true
@@ -47,7 +47,7 @@ returns-then-v-eq0 c =
 
 -- ---- while a growth runs
 pub open_blocks_by-requires-2 : goal.open_blocks_by-requires-2
-open_blocks_by-requires-2 c = record { self_value = is_sound (goal.at.open_blocks_by-requires-2 c).Else-refusal-ne0; counts_value = refl }
+open_blocks_by-requires-2 c = record { sound_state = is_sound (goal.at.open_blocks_by-requires-2 c).Else-refusal-ne0; counts_same = refl }
 
 pub returns-then-open_blocks_by-x-2 : goal.returns-then-open_blocks_by-x-2
 returns-then-open_blocks_by-x-2 c = block_refused _ _ _ _ _ _ c.shelves_refusal-refusal.ensures c.if-refusal-ne0.false _ c.open_blocks_by-2.ensures c.if-open_blocks_by-x-2.true
@@ -67,7 +67,7 @@ pub live_spot-p-requires : goal.live_spot-p-requires
 live_spot-p-requires c =
     let e = is_sound (goal.at.live_spot-p-requires c).Else-refusal-ne0 in
     let asked = spot_known _ e _ (is_old (goal.at.live_spot-p-requires c).Else-open_blocks_by-x-2) _ (old_found _ e c.if-v-eq0.false _ _ c.spot_of-old.ensures) in
-    record { limits = asked.0; fact = asked.1 }
+    record { limits = asked.0; while_growing = asked.1 }
 
 live_in_growth : (c : After-live_spot-p) → let a = c.args in sound a.v ≡ true → a.x.0 < open_blocks (tally_of a.v)
     → c.live_spot-p.result ≡ live_spot_of (tally_of a.v) a.x.0

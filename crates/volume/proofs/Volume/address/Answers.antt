@@ -15,7 +15,7 @@ accepted c = address_accepted _ _ (sym c.address_refusal-k.ensures ∙ c.if-k-ne
 pub live_address-found-requires : goal.live_address-found-requires
 live_address-found-requires c =
     let a = accepted (goal.at.live_address-found-requires c).Else-k-ne0 in
-    record { self_value = a.is_sound; counts_value = refl; x_bound = a.block_open }
+    record { sound_state = a.is_sound; counts_same = refl; x_bound = a.block_open }
 
 pub returns : goal.returns
 unfolding live_address_of

@@ -27,15 +27,15 @@ accepted c = growth_accepted _ _ (sym c.growth_refusal-k.ensures ∙ c.if-k-ne0.
 pub next_copy-requires : goal.next_copy-requires
 next_copy-requires c =
     let a = accepted (goal.at.next_copy-requires c).Else-k-ne0 in
-    record { self_value = (a.is_sound, a.is_growing); counts_value = refl }
+    record { sound_state = (a.is_sound, a.is_growing); counts_same = refl }
 
 pub advance_record-requires : goal.advance_record-requires
 advance_record-requires c =
     let a = accepted (goal.at.advance_record-requires c).Else-k-ne0 in
     record {
-      self_value = (a.is_sound, a.is_growing);
-      self_in_bounds = a.room;
-      self_value_2 = next_none _ _ _ (sym c.next_copy.ensures ∙ c.in_default.is);
+      sound_state = (a.is_sound, a.is_growing);
+      room = a.room;
+      next = next_none _ _ _ (sym c.next_copy.ensures ∙ c.in_default.is);
     }
 
 pub advance_copy-requires : goal.advance_copy-requires
@@ -43,9 +43,9 @@ advance_copy-requires c =
     let a = accepted (goal.at.advance_copy-requires c).Else-k-ne0 in
     let n = next_some _ _ _ _ _ _ _ (sym c.next_copy.ensures ∙ c.in-CopyOf.is) in
     record {
-      self_value = (a.is_sound, a.is_growing);
-      counts_value = refl;
-      self_in_bounds = a.room;
-      self_value_2 = (n.0, n.1);
-      p_value = (n.2, n.3);
+      sound_state = (a.is_sound, a.is_growing);
+      counts_same = refl;
+      room = a.room;
+      next = (n.0, n.1);
+      at_old_spot = (n.2, n.3);
     }

@@ -19,18 +19,18 @@ use Rattle.volume.proofs.Volume.advance_copy.Goals.{After-block_refusal-waits, A
 growth_facts : (c : Start) → AdvanceFacts c.args.self (length c.args.medium.now)
 growth_facts c =
     record {
-      is_sound = c.requires.self_value.0;
-      room = c.requires.self_in_bounds;
-      is_growing = c.requires.self_value.1;
+      is_sound = c.requires.sound_state.0;
+      room = c.requires.room;
+      is_growing = c.requires.sound_state.1;
     }
 
 facts : (c : Start) → CopyFacts c.args.self c.args.x.0 (length c.args.medium.now)
-facts c = next_facts _ _ _ (record { is_sound = c.requires.self_value.0; room = c.requires.self_in_bounds; is_growing = c.requires.self_value.1 }) c.requires.self_value_2.0
+facts c = next_facts _ _ _ (record { is_sound = c.requires.sound_state.0; room = c.requires.room; is_growing = c.requires.sound_state.1 }) c.requires.next.0
 
 -- the last test is that of the table
 tested : (c : After-block_refusal-waits)
     → let a = c.args in c.block_refusal-waits.result ≡ refusal (advance_table a.self (length a.medium.now))
-tested c = c.block_refusal-waits.ensures ∙ block_due _ _ (record { is_sound = c.requires.self_value.0; room = c.requires.self_in_bounds; is_growing = c.requires.self_value.1 }) _ c.requires.self_value_2.0
+tested c = c.block_refusal-waits.ensures ∙ block_due _ _ (record { is_sound = c.requires.sound_state.0; room = c.requires.room; is_growing = c.requires.sound_state.1 }) _ c.requires.next.0
 
 pub returns-then-waits-ne0 : goal.returns-then-waits-ne0
 unfolding advance_outcome observe
@@ -47,36 +47,36 @@ pub store_copy-requires : goal.store_copy-requires
 store_copy-requires c =
     let f = facts (goal.at.store_copy-requires c).Start in
     record {
-      self_value = c.requires.self_value;
-      counts_value = c.requires.counts_value;
-      self_in_bounds = f.advances.room;
-      x_value = (f.moves, f.not_copied);
-      p_value = c.requires.p_value.0;
+      sound_state = c.requires.sound_state;
+      counts_same = c.requires.counts_same;
+      room = f.advances.room;
+      to_copy = (f.moves, f.not_copied);
+      at_old_spot = c.requires.at_old_spot.0;
     }
 
 pub with_mark-v-requires : goal.with_mark-v-requires
 with_mark-v-requires c =
-    copied_asks _ _ _ (facts (goal.at.with_mark-v-requires c).Start) _ c.requires.p_value.1
+    copied_asks _ _ _ (facts (goal.at.with_mark-v-requires c).Start) _ c.requires.at_old_spot.1
 
 copied : (c : After-with_mark-v) → let a = c.args in c.with_mark-v.result ≡ with_copy a.self a.x.0
-copied c = c.with_mark-v.ensures ∙ copied_at _ _ _ c.requires.p_value.1
+copied c = c.with_mark-v.ensures ∙ copied_at _ _ _ c.requires.at_old_spot.1
 
 pub calls_left-left-requires : goal.calls_left-left-requires
 unfolding with_copy with_growth
 calls_left-left-requires c =
     let f = facts (goal.at.calls_left-left-requires c).Start in
     let a = f.advances in
-    rw (copied (goal.at.calls_left-left-requires c).After-with_mark-v, c.requires.counts_value)
+    rw (copied (goal.at.calls_left-left-requires c).After-with_mark-v, c.requires.counts_same)
     (let h = calls_asks (with_copy c.args.self c.args.x.0) (copied_sound _ _ a.is_sound a.is_growing f.moves) in record {
       limits = h.0;
-      fact = h.1;
+      while_growing = h.1;
     })
 
 -- what is reported
 left_told : (c : After-calls_left-left) → let a = c.args in c.calls_left-left.result ≡ calls_left_of (tally_of (with_copy a.self a.x.0))
 unfolding with_copy with_growth
 left_told c =
-    calls_told (with_copy c.args.self c.args.x.0) _ (rw ((c.with_mark-v.ensures ∙ copied_at _ _ _ c.requires.p_value.1), c.requires.counts_value) at c.calls_left-left.ensures)
+    calls_told (with_copy c.args.self c.args.x.0) _ (rw ((c.with_mark-v.ensures ∙ copied_at _ _ _ c.requires.at_old_spot.1), c.requires.counts_same) at c.calls_left-left.ensures)
 
 pub returns : goal.returns
 unfolding advance_outcome observe
@@ -84,7 +84,7 @@ returns c =
     let v = c.args.self in
     let e = tested (goal.at.returns c).After-block_refusal-waits in
     let h = c.if-waits-ne0.false in
-    let d = c.requires.self_value_2 in
+    let d = c.requires.next in
     record {
       value = accepted_reply _ v [] _ _ e h _ (copies_told v _ _ _ d.0 d.1 _ (copied (goal.at.returns c).After-with_mark-v) _ c.after_block-after.ensures _ (left_told (goal.at.returns c).After-calls_left-left) _ c.tell.ensures);
       medium_after = accepted_stores _ v [] _ _ e h _ _ _ (copies_stored v _ _ _ d.0 d.1 _ _ _ c.store_copy.ensures);

@@ -17,15 +17,15 @@ use Rattle.volume.proofs.Volume.advance_record.Goals.{After-record_refusal-k, St
 facts : (c : Start) → AdvanceFacts c.args.self (length c.args.medium.now)
 facts c =
     record {
-      is_sound = c.requires.self_value.0;
-      room = c.requires.self_in_bounds;
-      is_growing = c.requires.self_value.1;
+      is_sound = c.requires.sound_state.0;
+      room = c.requires.room;
+      is_growing = c.requires.sound_state.1;
     }
 
 -- the last tests are those of the table
 tested : (c : After-record_refusal-k)
     → let a = c.args in c.record_refusal-k.result ≡ refusal (advance_table a.self (length a.medium.now))
-tested c = c.record_refusal-k.ensures ∙ record_due _ _ (record { is_sound = c.requires.self_value.0; room = c.requires.self_in_bounds; is_growing = c.requires.self_value.1 }) c.requires.self_value_2
+tested c = c.record_refusal-k.ensures ∙ record_due _ _ (record { is_sound = c.requires.sound_state.0; room = c.requires.room; is_growing = c.requires.sound_state.1 }) c.requires.next
 
 pub returns-then-k-ne0 : goal.returns-then-k-ne0
 unfolding advance_outcome observe
@@ -39,13 +39,13 @@ returns-then-k-ne0 c =
     }
 
 pub store_record-requires : goal.store_record-requires
-store_record-requires c = record_room _ _ _ c.requires.self_in_bounds
+store_record-requires c = record_room _ _ _ c.requires.room
 
 pub calls_left-left-requires : goal.calls_left-left-requires
 calls_left-left-requires c =
     let a = facts (goal.at.calls_left-left-requires c).Start in
     let h = calls_asks c.checkpointed-v.result (rw c.checkpointed-v.ensures (checkpointed_sound _ a.is_sound a.is_growing)) in
-    record { limits = h.0; fact = h.1 }
+    record { limits = h.0; while_growing = h.1 }
 
 pub returns : goal.returns
 unfolding advance_outcome observe
@@ -53,7 +53,7 @@ returns c =
     let v = c.args.self in
     let e = tested (goal.at.returns c).After-record_refusal-k in
     let h = c.if-k-ne0.false in
-    let d = c.requires.self_value_2 in
+    let d = c.requires.next in
     let w = c.checkpointed-v in
     let n = w.ensures in
     let left = calls_told w.result _ c.calls_left-left.ensures in

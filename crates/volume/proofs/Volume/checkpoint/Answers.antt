@@ -38,7 +38,7 @@ pub calls_left-left-requires : goal.calls_left-left-requires
 calls_left-left-requires c =
     let a = accepted (goal.at.calls_left-left-requires c).Else-k-ne0 in
     let h = calls_asks c.checkpointed-next.result (rw c.checkpointed-next.ensures (checkpointed_sound _ a.is_sound a.is_growing)) in
-    record { limits = h.0; fact = h.1 }
+    record { limits = h.0; while_growing = h.1 }
 
 pub returns : goal.returns
 unfolding checkpoint_outcome checkpoint_effect checkpoint_store reporting pending_with observe

@@ -51,11 +51,11 @@ store_copy-requires c =
     let f = accepted (goal.at.store_copy-requires c).Else-found-ne0 in
     let a = f.advances in
     record {
-      self_value = (a.is_sound, a.is_growing);
-      counts_value = refl;
-      self_in_bounds = a.room;
-      x_value = (f.moves, f.not_copied);
-      p_value = from_old (goal.at.store_copy-requires c).Else-found-ne0;
+      sound_state = (a.is_sound, a.is_growing);
+      counts_same = refl;
+      room = a.room;
+      to_copy = (f.moves, f.not_copied);
+      at_old_spot = from_old (goal.at.store_copy-requires c).Else-found-ne0;
     }
 
 pub with_mark-v-requires : goal.with_mark-v-requires
@@ -75,7 +75,7 @@ calls_left-left-requires c =
     rw (copied (goal.at.calls_left-left-requires c).After-with_mark-v)
     (let h = calls_asks (with_copy v.self v.x.0) (copied_sound _ _ a.is_sound a.is_growing f) in record {
       limits = h.0;
-      fact = h.1;
+      while_growing = h.1;
     })
 
 -- what is reported

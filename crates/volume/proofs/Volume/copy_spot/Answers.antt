@@ -27,8 +27,8 @@ advances c = growth_accepted _ _ (sym c.growth_refusal-k.ensures ∙ c.if-k-ne0.
 pub open_blocks_by-requires : goal.open_blocks_by-requires
 open_blocks_by-requires c =
     record {
-      self_value = (advances (goal.at.open_blocks_by-requires c).Else-k-ne0).is_sound;
-      counts_value = c.requires;
+      sound_state = (advances (goal.at.open_blocks_by-requires c).Else-k-ne0).is_sound;
+      counts_same = c.requires;
     }
 
 pub returns-then-open_blocks_by-x : goal.returns-then-open_blocks_by-x

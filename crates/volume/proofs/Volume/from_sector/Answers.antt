@@ -58,7 +58,7 @@ state_sound c = sym c.is_sound.ensures ∙ c.if-not-is_sound.false
 pub calls_left-left-requires : goal.calls_left-left-requires
 calls_left-left-requires c =
     let h = calls_asks _ (state_sound (goal.at.calls_left-left-requires c).Else-not-is_sound) in
-    record { limits = h.0; fact = h.1 }
+    record { limits = h.0; while_growing = h.1 }
 
 pub returns : goal.returns
 unfolding sector_outcome restart_effect reporting pending_with with_pending observe

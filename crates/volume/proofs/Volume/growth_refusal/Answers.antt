@@ -20,7 +20,7 @@ returns-then-not-is_sound_by c = simp (← c.is_sound_by.ensures, c.if-not-is_so
 pub is_short-requires : goal.is_short-requires
 is_short-requires c =
     let e = is_sound (goal.at.is_short-requires c).Else-not-is_sound_by in
-    record { self_value = e; disks_le_most_disks = rw c.disk_count_by.ensures (disks_most _ e) }
+    record { sound_state = e; disks_le_most_disks = rw c.disk_count_by.ensures (disks_most _ e) }
 
 shortness : (c : After-is_short)
     → let a = c.args in too_short (geometry a.self) (disks a.self) a.len ≡ c.is_short.result

@@ -29,8 +29,8 @@ within c = spot_within _ _ (sym c.is_outside.ensures ∙ c.if-is_outside.false)
 pub live_block-requires : goal.live_block-requires
 live_block-requires c =
     record {
-      self_value = is_sound (goal.at.live_block-requires c).Else-not-is_sound_by;
-      counts_value = refl;
+      sound_state = is_sound (goal.at.live_block-requires c).Else-not-is_sound_by;
+      counts_same = refl;
       within = within (goal.at.live_block-requires c).Else-is_outside;
     }
 

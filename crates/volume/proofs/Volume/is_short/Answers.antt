@@ -4,7 +4,7 @@ use Rattle.volume.proofs.Volume.is_short.Goals as goal
 
 pub bytes_needed-requires : goal.bytes_needed-requires
 bytes_needed-requires c =
-    let h = bytes_asked _ c.requires.self_value _ c.geometry-g.ensures _ c.requires.disks_le_most_disks in
+    let h = bytes_asked _ c.requires.sound_state _ c.geometry-g.ensures _ c.requires.disks_le_most_disks in
     record { size_nonzero = h.0; disks_bound = h.1 }
 
 pub returns : goal.returns

@@ -39,7 +39,7 @@ spot_of-old-requires c =
 pub live_spot-p-requires : goal.live_spot-p-requires
 live_spot-p-requires c =
     let a = accepted (goal.at.live_spot-p-requires c).Else-k-ne0 in
-    let h = spot_known _ a.is_sound _ a.block_open _ c.spot_of-old.ensures in record { limits = h.0; fact = h.1 }
+    let h = spot_known _ a.is_sound _ a.block_open _ c.spot_of-old.ensures in record { limits = h.0; while_growing = h.1 }
 
 -- the spot that it is fetched from is the live one
 from_live : (c : After-live_spot-p)

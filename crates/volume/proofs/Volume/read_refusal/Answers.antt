@@ -23,7 +23,7 @@ pub is_short-requires : goal.is_short-requires
 unfolding disks
 is_short-requires c =
     let e = is_sound (goal.at.is_short-requires c).Else-not-is_sound_by in
-    record { self_value = e; disks_le_most_disks = rw c.disk_count_by.ensures (sound_facts _ e).limits.disks_most }
+    record { sound_state = e; disks_le_most_disks = rw c.disk_count_by.ensures (sound_facts _ e).limits.disks_most }
 
 pub returns-then-is_short : goal.returns-then-is_short
 unfolding refusal read_table

@@ -43,7 +43,7 @@ module _ (o : Observations) (r : Reply) (e : r ≡ (sector_outcome o).reply) (ot
 pub is_short-requires : goal.is_short-requires
 is_short-requires c =
     let s = state_sound (observe c.args.medium.now) _ c.from_sector-reply.ensures c.in_default.not-Refused in
-    record { self_value = s; disks_le_most_disks = rw c.disk_count.ensures (disks_most _ s) }
+    record { sound_state = s; disks_le_most_disks = rw c.disk_count.ensures (disks_most _ s) }
 
 -- restart's last test is what `is_short` told
 tested : (c : After-is_short) → refusal (restart_table (observe c.args.medium.now)) ≡ cond c.is_short.result 2 0

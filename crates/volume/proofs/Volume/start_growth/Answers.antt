@@ -40,7 +40,7 @@ store_record-requires c = record_room _ _ _ (grow_accepted _ _ _ _ (clear (goal.
 pub calls_left-left-requires : goal.calls_left-left-requires
 calls_left-left-requires c =
     let h = calls_asks c.grown-v.result (rw c.grown-v.ensures (grown_sound _ _ _ _ (clear (goal.at.calls_left-left-requires c).Else-k-ne0))) in
-    record { limits = h.0; fact = h.1 }
+    record { limits = h.0; while_growing = h.1 }
 
 pub returns : goal.returns
 unfolding grow_outcome_of grow_effect reporting pending_with observe

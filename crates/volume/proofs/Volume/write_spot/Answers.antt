@@ -57,7 +57,7 @@ returns-then-is_waiting c =
 pub live_spot-spot-requires : goal.live_spot-spot-requires
 live_spot-spot-requires c =
     let a = accepted (goal.at.live_spot-spot-requires c).Else-k-ne0 in
-    let h = spot_known _ a.is_sound _ a.block_open _ c.spot_of-old.ensures in record { limits = h.0; fact = h.1 }
+    let h = spot_known _ a.is_sound _ a.block_open _ c.spot_of-old.ensures in record { limits = h.0; while_growing = h.1 }
 
 -- the block does not wait
 not_waiting : (c : Joined-growing-ne0)
