@@ -21,14 +21,17 @@ ERROR = re.compile(r'(?:\S*/)?(?:proofs|specs)/(\S+\.antt):\d+:\d+: error: `([^`
 @dataclasses.dataclass
 class Log:
     """Whether rt came to a verdict; functions that are not proved, those that are, and what fails: facts by function,
-    declarations by file. What rests on them is not admitted either. A misfit is a function or file whose proof does not
-    fit the shape. Of a function that waits for another one's proof not all facts were tried."""
+    goals without an answer too, declarations by file. What rests on them is not admitted either. Of a function that
+    waits for another one's proof not all facts were tried. A misfit is a function of which an answer does not fit the
+    code's shape, or a file of which a declaration does not: that answer shows nothing, and neither do the function's
+    goals without one, or the file."""
     ended: bool = False
     refused: bool = False
     unproved: set = dataclasses.field(default_factory=set)
     proved: set = dataclasses.field(default_factory=set)
     waiting: set = dataclasses.field(default_factory=set)
     facts: dict = dataclasses.field(default_factory=lambda: collections.defaultdict(set))
+    open: dict = dataclasses.field(default_factory=lambda: collections.defaultdict(set))
     resting: dict = dataclasses.field(default_factory=lambda: collections.defaultdict(set))
     misfits: set = dataclasses.field(default_factory=set)
 
@@ -49,8 +52,8 @@ def read_function(line, log, open_facts):
     if 'it calls `' in more:
         log.waiting.add(name)
     for closed in UNCLOSED.findall(more):
-        log.facts[name] |= set(re.findall(r'`([^`]+)`', closed))
-    log.facts[name] |= open_facts
+        open_facts |= set(re.findall(r'`([^`]+)`', closed))
+    log.open[name] |= open_facts
 
 
 def read_error(line, log):
@@ -76,8 +79,10 @@ def read_log(said):
             open_facts = set()
         if ERROR.match(line):
             read_error(line, log)
-    for of in log.misfits & log.facts.keys():
-        del log.facts[of]
+    for of in log.open.keys() - log.misfits:
+        log.facts[of] |= log.open[of]
+    for of in (of for of in log.misfits if of.endswith('.antt')):
+        log.facts[of] = set()
     return log
 
 

@@ -141,7 +141,17 @@ def places_named(listed):
         function = re.fullmatch(r'Rattle-\w+-proofs\.(.*)\.Lts', module)
         if function and 'needs' in of:
             named = {'goal ' + place: name for place, name in of['needs']}
-            for (place, _, (step, name), *_), place_name in zip(of['places'], of['places_by_name']):
-                named |= {'step ' + step: name, 'place ' + place: place_name}
+            for (place, _, (step, name), *_), place_name, arm in zip(of['places'], of['places_by_name'], of['arms']):
+                named |= {'step ' + step: name, 'place ' + place: place_name} | names_of_arm(place, arm)
             found[function.group(1).replace('.', '::')] = named
     return found
+
+
+def names_of_arm(place, arm):
+    """The names of a place that is the arm of a match: the arm's own, and that of the other arms' fact that it is not
+    this one."""
+    if not arm:
+        return {}
+    name, _, fields = arm
+    own = {f'field {place} {at}': field[0] for at, field in enumerate(fields)}
+    return {'arm ' + place: name, 'not ' + place: name.replace('in-', 'not-', 1)} | own
