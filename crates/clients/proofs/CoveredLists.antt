@@ -14,6 +14,7 @@ use Rattle.promise.proofs.CoveredLists.{lists_covered}
 use Rattle.spans.specs.declared.Spans.{Spans}
 use Rattle.clients.specs.Stations.{RackCall, grows, grows_beyond_doubling, copies, checkpoints, advances, restarts, flushes, rack_call, StationCall, by_rack, reads, writes, call_of, call_in, Act, station_outcome, StationEvent, ends, fails, event_of, events_of, calls_of, after_station, after_stations, LawfulStations, stations_after}
 use Rattle.clients.specs.TwoRuns.{SharedEvent, call, power, is_shared, shared, BeginsFlushed, WritesFlushed, Covered}
+use Rattle.clients.proofs.ListsThen.{writes_then, between_flushed}
 use Rattle.clients.specs.CoveredLists.{MadeBy, CallsCovered, CallsOnly, no_call, one_more, CoveredOpen, EarlyListsCovered, OtherUnseen, CutsUnseen}
 
 lawful_append : (calls : (c : StationCall) → Act) (s : System) (es fs : List StationEvent) → LawfulStations calls s es
@@ -28,22 +29,6 @@ early_append [] fs n m = m
 early_append (ends d ∷ es) fs (inl e) m = inl e
 early_append (ends d ∷ es) fs (inr n) m = inr (early_append es fs n m)
 early_append (fails d left ∷ es) fs n m = absurd n
-
-begins_append : (es fs : List StationEvent) → BeginsFlushed es → BeginsFlushed (es ++ fs)
-unfolding BeginsFlushed
-begins_append [] fs b = absurd b
-begins_append (ends (by_rack c) ∷ es) fs b = b
-begins_append (ends (reads k x piece) ∷ es) fs b = b
-begins_append (ends (writes k x piece) ∷ es) fs b = b
-begins_append (fails c left ∷ es) fs b = b
-
-writes_then : (es fs : List StationEvent) → WritesFlushed es → WritesFlushed fs → WritesFlushed (es ++ fs)
-unfolding WritesFlushed
-writes_then [] fs w v = v
-writes_then (ends (by_rack c) ∷ es) fs w v = writes_then es fs w v
-writes_then (ends (reads k x piece) ∷ es) fs w v = writes_then es fs w v
-writes_then (ends (writes k x piece) ∷ es) fs w v = (begins_append es fs w.0, writes_then es fs w.1 v)
-writes_then (fails c left ∷ es) fs w v = writes_then es fs w v
 
 -- a list that ends in a cut has a flushed before it
 early_down : (calls : (c : StationCall) → Act) (s : System) (m : List ℕ) (es fs : List StationEvent) → IsUp s → NoEarlyCut (events_of es)
@@ -174,13 +159,13 @@ module _ (calls : (t : Spans) (c : StationCall) → Act) (t : Spans) (a : Start)
   a_cut_between : (es : List StationEvent) → Covered calls t a es → IsUp (reached es) → (left : List AfterCut)
       → NoEarlyCut (events_of (es ++ (fails none left ∷ []))) → EachMayLeave (drives_of (reached es)).pending left → Covered calls t a (es ++ (fails none left ∷ []))
   unfolding calls_of stores_at WritesFlushed
-  a_cut_between es k u left n h = cut_next es k u none left n h tt
+  a_cut_between es k u left n h = cut_next es k u none left n h (between_flushed left)
 
   a_second_cut : (es : List StationEvent) (m : List ℕ) → Covered calls t a es → reached es ≡ down m → Covered calls t a (es ++ (fails none [] ∷ []))
   unfolding LawfulStations Lawful after_all event_of WritesFlushed
   a_second_cut es m k e =
       longer es (fails none [] ∷ []) k (((lists_covered (calls_of (calls t) (fails none []))).a_second_cut (reached es) [] m tt e).0, tt)
-      (early_down (calls t) (begin a) m es (fails none [] ∷ []) (unfold begin IsUp in tt) k.no_early_cut (unfold stations_after in e)) tt
+      (early_down (calls t) (begin a) m es (fails none [] ∷ []) (unfold begin IsUp in tt) k.no_early_cut (unfold stations_after in e)) (between_flushed [])
 
   pub covered_open : CoveredOpen calls t a
   unfolding LawfulStations NoEarlyCut events_of WritesFlushed

@@ -11,8 +11,10 @@ pub mod Views
 pub mod ListsBefore
 pub mod Standing
 pub mod Theorem
+pub mod Together
 pub mod Parts
 pub mod Laws
+pub mod ListsThen
 pub mod CoveredLists
 pub mod ClientSaves
 pub mod ClientsCode

@@ -2,7 +2,8 @@
 use Rattle.spans.specs.declared.Spans.{Spans}
 use Rattle.clients.specs.Stations.{StationCall, Act}
 use Rattle.clients.specs.TwoRuns.{SeparateOf}
-use Rattle.clients.specs.Parts.{AnsweredAlike, SetAlike, BytesAlike, OpenAlike, OwnAccepted, EachRead, SeparateParts, PartsOfSeparate}
+use Rattle.clients.specs.Parts.{AnsweredAlike, SetAlike, BytesAlike, OpenAlike, OwnAccepted, EachRead, PartsOfSeparate}
+use Rattle.clients.proofs.Together.{together}
 
 module _ (calls : (t : Spans) (c : StationCall) → Act) where
   same_answer : SeparateOf calls → EachRead calls (AnsweredAlike calls)
@@ -20,19 +21,9 @@ module _ (calls : (t : Spans) (c : StationCall) → Act) where
   is_accepted_law : SeparateOf calls → EachRead calls (OwnAccepted calls)
   is_accepted_law all t client a ok es fs ce cf q before rest before1 rest1 x piece e f s = (all t client a ok es fs ce cf q before rest before1 rest1 x piece e f s).is_accepted_law
 
-  together : SeparateParts calls → SeparateOf calls
-  together p t client a ok es fs ce cf q before rest before1 rest1 x piece e f s =
-      record {
-        same_answer = p.same_answer t client a ok es fs ce cf q before rest before1 rest1 x piece e f s;
-        same_plain = p.same_plain t client a ok es fs ce cf q before rest before1 rest1 x piece e f s;
-        same_bytes_law = p.same_bytes_law t client a ok es fs ce cf q before rest before1 rest1 x piece e f s;
-        same_open = p.same_open t client a ok es fs ce cf q before rest before1 rest1 x piece e f s;
-        is_accepted_law = p.is_accepted_law t client a ok es fs ce cf q before rest before1 rest1 x piece e f s;
-      }
-
   pub parts_of_separate : PartsOfSeparate calls
   parts_of_separate =
       record {
         parts = λ all. record { same_answer = same_answer all; same_plain = same_plain all; same_bytes_law = same_bytes_law all; same_open = same_open all; is_accepted_law = is_accepted_law all };
-        together = together;
+        together = together calls;
       }

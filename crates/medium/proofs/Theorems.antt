@@ -1,6 +1,6 @@
 -- The laws of stores, as `specs/Laws.antt` states them.
 use Prim.Native.Nat.{ℕ, ◌≤◌}
-use mathlib.Core.Path.{◌≡◌, refl, subst, ◌∙◌}
+use mathlib.Core.Path.{◌≡◌, refl, subst}
 use mathlib.Core.List.{List, [], ◌∷◌}
 use mathlib.Core.Logic.{inl, inr}
 use native.Mathlib.Omega.{arith}
@@ -12,6 +12,7 @@ use Rattle.medium.specs.declared.Geometry.{Geometry}
 use Rattle.medium.specs.Medium.{record_bytes, place, observe, Store, no_store, record_store, block_store, apply, StoreFits, AfterCut, torn_block, old_record, new_record, MayLeave, cut_store, apply_cut, Placed, EachMayLeave, apply_cuts}
 use Rattle.medium.specs.Laws.{Holds, OtherThanRecord, OtherThanSpot, Stored, Leaves, MediumLaws}
 use Rattle.medium.proofs.Places.{past_record, disjoint, inside}
+use Rattle.medium.proofs.Cuts.{cut_fits, cut_other_than_record, cut_other_than_spot}
 
 -- ---- a store that lies in the medium
 
@@ -45,37 +46,6 @@ unfolding apply StoreFits
 beyond_kept g n no_store m f = refl
 beyond_kept g n (record_store sector) m f = drop_kept m sector 0 n (omega (arith, f.0, f.1))
 beyond_kept g n (block_store p bytes) m f = drop_kept m bytes (place g p) n (omega (arith, f.1, f.0.fits))
-
--- ---- a store that was cut
-
--- what a cut leaves lies where the store does
-pub cut_fits : (g : Geometry) (n : ℕ) (s : Store) (l : AfterCut) → StoreFits g n s → MayLeave s l → StoreFits g n (cut_store s l)
-unfolding StoreFits MayLeave cut_store
-cut_fits g n no_store l f c = absurd c
-cut_fits g n (record_store sector) (torn_block bytes) f c = absurd c
-cut_fits g n (record_store sector) old_record f c = tt
-cut_fits g n (record_store sector) new_record f c = f
-cut_fits g n (block_store p stored) (torn_block bytes) f c = (f.0, c ∙ f.1)
-cut_fits g n (block_store p stored) old_record f c = absurd c
-cut_fits g n (block_store p stored) new_record f c = absurd c
-
-cut_other_than_record : (s : Store) (l : AfterCut) → MayLeave s l → OtherThanRecord s → OtherThanRecord (cut_store s l)
-unfolding MayLeave cut_store OtherThanRecord
-cut_other_than_record no_store l c n = absurd c
-cut_other_than_record (record_store sector) l c n = absurd n
-cut_other_than_record (block_store p stored) (torn_block bytes) c n = tt
-cut_other_than_record (block_store p stored) old_record c n = absurd c
-cut_other_than_record (block_store p stored) new_record c n = absurd c
-
-cut_other_than_spot : (s : Store) (l : AfterCut) (q : Spot) → MayLeave s l → OtherThanSpot s q → OtherThanSpot (cut_store s l) q
-unfolding MayLeave cut_store OtherThanSpot
-cut_other_than_spot no_store l q c n = absurd c
-cut_other_than_spot (record_store sector) (torn_block bytes) q c n = absurd c
-cut_other_than_spot (record_store sector) old_record q c n = tt
-cut_other_than_spot (record_store sector) new_record q c n = tt
-cut_other_than_spot (block_store p stored) (torn_block bytes) q c n = n
-cut_other_than_spot (block_store p stored) old_record q c n = absurd c
-cut_other_than_spot (block_store p stored) new_record q c n = absurd c
 
 -- ---- what a cut may leave, and that it stands then
 

@@ -12,6 +12,7 @@ use Rattle.promise.specs.Calls.{Call, advance, write, read, restart, flushed}
 use Rattle.promise.specs.Lists.{Event, runs, cut, System, up, down, drives_of, IsUp, NoEarlyCut, stores_at, is_accepted, after, after_all, Allowed, Lawful, Further, AllFurther}
 use Rattle.promise.specs.WithoutCache.{DirectEvent, ends, fails, flushed_after, from_format, DirectFurther}
 use Rattle.promise.proofs.WithoutCache.{flushed_append}
+use Rattle.promise.proofs.DirectLists.{direct_then}
 use Rattle.promise.specs.CoveredLists.{CallsOnly, no_call, one_more, EarlyListsCovered, ListsCovered, FurtherCovered, DirectListsCovered}
 
 -- ---- no cut before the first flushed
@@ -123,19 +124,6 @@ direct_call es c = flushed_append es (ends c ∷ [])
 direct_cut : (es : List DirectEvent) (c : Call) (left : AfterCut) → flushed_after (es ++ (fails c left ∷ [])) ≡ flushed_after es ++ (cut (some c) (left ∷ []) ∷ [])
 unfolding flushed_after
 direct_cut es c left = flushed_append es (fails c left ∷ [])
-
-direct_then : (es : List DirectEvent) (e : DirectEvent) → DirectFurther (e ∷ []) → DirectFurther es → DirectFurther (es ++ (e ∷ []))
-direct_then [] e more DirectFurther.no_call = more
-direct_then (ends advance ∷ es) e more (DirectFurther.an_advance f) = DirectFurther.an_advance (direct_then es e more f)
-direct_then (ends (write x piece) ∷ es) e more (DirectFurther.a_write f) = DirectFurther.a_write (direct_then es e more f)
-direct_then (ends (read x piece) ∷ es) e more (DirectFurther.a_read f) = DirectFurther.a_read (direct_then es e more f)
-direct_then (ends (Rattle.promise.specs.Calls.grow count) ∷ es) e more f = elim f [ ]
-direct_then (ends (Rattle.promise.specs.Calls.grow_beyond_doubling count) ∷ es) e more f = elim f [ ]
-direct_then (ends (Rattle.promise.specs.Calls.copy x) ∷ es) e more f = elim f [ ]
-direct_then (ends Rattle.promise.specs.Calls.checkpoint ∷ es) e more f = elim f [ ]
-direct_then (ends restart ∷ es) e more f = elim f [ ]
-direct_then (ends flushed ∷ es) e more f = elim f [ ]
-direct_then (fails c left ∷ es) e more f = elim f [ ]
 
 direct_write : (es : List DirectEvent) → DirectFurther es → (x : ℕ) (piece : List ℕ) → DirectFurther (es ++ (ends (write x piece) ∷ []))
 direct_write es f x piece = direct_then es (ends (write x piece)) (DirectFurther.a_write DirectFurther.no_call) f

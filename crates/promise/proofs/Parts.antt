@@ -6,6 +6,7 @@ use Rattle.promise.specs.Calls.{Call}
 use Rattle.promise.specs.Promise.{PromiseOf}
 use Rattle.promise.specs.WithoutCache.{from_format, PromiseWithoutCacheOf}
 use Rattle.promise.specs.Parts.{StillRuns, NoneTold, Finished, LastTold, ReadAccepted, BytesRead, BytesStand, CallsLeftTold, AdvanceAccepted, EveryRead, EveryGrowth, EveryFurther, Parts, EveryDirectRead, EveryDirectGrowth, EveryDirectFurther, PartsWithoutCache, PartsOfPromise}
+use Rattle.promise.proofs.Together.{together, together_without_cache}
 
 module _ (calls : (c : Call) (v : Volume) (o : Observations) → Outcome) where
   -- ---- with a write cache
@@ -51,26 +52,6 @@ module _ (calls : (c : Call) (v : Volume) (o : Observations) → Outcome) where
         advances = advances kept;
       }
 
-  together : Parts calls → PromiseOf calls
-  together p a ok es l early =
-      record {
-        reads = λ before rest x piece e below whole.
-            record {
-              is_accepted_law = p.is_accepted_law a ok es l early before rest x piece e below whole;
-              bytes_read = p.bytes_read a ok es l early before rest x piece e below whole;
-              bytes_stand = p.bytes_stand a ok es l early before rest x piece e below whole;
-            };
-        calls_left_law = p.calls_left_law a ok es l early;
-        finishes = λ is_up on further f.
-            record {
-              still_runs = p.still_runs a ok es l early is_up on further f;
-              none_told = p.none_told a ok es l early is_up on further f;
-              finished = p.finished a ok es l early is_up on further f;
-              last_told = p.last_told a ok es l early is_up on further f;
-            };
-        advances = p.advances a ok es l early;
-      }
-
   -- ---- and with none
 
   direct_reads_accepted : PromiseWithoutCacheOf calls → EveryDirectRead calls (ReadAccepted calls)
@@ -110,25 +91,6 @@ module _ (calls : (c : Call) (v : Volume) (o : Observations) → Outcome) where
         last_told = direct_told_then kept;
       }
 
-  together_without_cache : PartsWithoutCache calls → PromiseWithoutCacheOf calls
-  together_without_cache p a ok es l =
-      record {
-        reads = λ first rest x piece e below whole.
-            record {
-              is_accepted_law = p.is_accepted_law a ok es l first rest x piece e below whole;
-              bytes_read = p.bytes_read a ok es l first rest x piece e below whole;
-              bytes_stand = p.bytes_stand a ok es l first rest x piece e below whole;
-            };
-        calls_left_law = p.calls_left_law a ok es l;
-        finishes = λ is_up runs further f.
-            record {
-              still_runs = p.still_runs a ok es l is_up runs further f;
-              none_told = p.none_told a ok es l is_up runs further f;
-              finished = p.finished a ok es l is_up runs further f;
-              last_told = p.last_told a ok es l is_up runs further f;
-            };
-      }
-
   pub parts_of_promise : PartsOfPromise calls
   parts_of_promise =
-      record { parts = parts; together = together; parts_without_cache = parts_without_cache; together_without_cache = together_without_cache }
+      record { parts = parts; together = together calls; parts_without_cache = parts_without_cache; together_without_cache = together_without_cache calls }

@@ -47,8 +47,8 @@ unfolding with_blocks
 blocks_stay t copied recorded = record { same_mode = refl; same_counts = refl; same_rows = refl }
 
 copy_stays : (c : Call) (x : ℕ) (t : Tally) → Kind c t (copying x t)
-unfolding leaving copied_tally
-copy_stays c x t = stays (copied_tally x t) none (blocks_stay t _ _)
+unfolding leaving saving copied_tally
+copy_stays c x t = stays (copied_tally x t) _ (blocks_stay t _ _)
 
 pub kind_of : (c : Call) (t : Tally) → Kind c t (step_of c t)
 unfolding step_of leaving saving restarted_tally
