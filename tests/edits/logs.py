@@ -5,7 +5,7 @@ import dataclasses
 import re
 
 from claims import declarations, is_lemma, records_of
-from edits import claim_of, with_lines, wrong_lines
+from edits import CONSTANT, claim_of, users_of, with_lines, wrong_lines
 from tries import with_names
 
 NO_FACT = ('not admitted', 'cannot be checked', 'can be named from here')
@@ -120,28 +120,43 @@ def shares(line, others):
 
 
 def does_not_follow(pair, edit, log):
-    """Why this pair is not code that follows a wrong definition, nor an adapted proof; or ''."""
-    proof = pair.file.startswith('proofs/')
-    why = pair.problem or (is_not_adapted(pair, edit, log) if proof else is_not_proved(pair, log))
-    return f'line {pair.line}: {why}' if why else ''
+    """Why this pair is not code that follows a wrong definition, nor an adapted proof or a law; or ''."""
+    proof = is_not_adapted if pair.proved else is_no_law
+    why = proof(pair, edit, log) if pair.file.startswith('proofs/') else is_not_proved(pair, edit, log)
+    return f'line {pair.line}: {pair.problem or why}' if pair.problem or why else ''
 
 
-def is_not_proved(pair, log):
-    """Why this pair is not code that follows a wrong definition, or ''."""
+def is_not_proved(pair, edit, log):
+    """Why this pair is not code that follows a wrong definition, or ''. Of a constant the functions that use it follow."""
     unproved = [name for name in pair.proved if name not in log.proved]
-    if pair.function not in pair.proved:
+    constants = [] if pair.function else CONSTANT.findall(pair.old)
+    follow = {pair.function} if pair.function else set().union(*(users_of(edit, name) for name in constants))
+    if not follow or not follow <= set(pair.proved):
         return 'its `proved:` line names another function than its own'
     return f'{unproved[0]} is not proved, so not a law alone refuses the definition' if unproved else ''
+
+
+def names_another(names, pair, edit):
+    """The first of these names that is no declaration of the pair's file, or ''."""
+    file, text = pair.file.removeprefix('proofs/'), edit.after[pair.file]
+    own = {f'{file}:{name}' for name in [*declarations(text), *records_of(text)]}
+    return next((name for name in names if name not in own), '')
+
+
+def is_no_law(pair, edit, log):
+    """Why this pair is not a proof put into the laws that it is of, or ''. That proof is what fails."""
+    other = names_another(pair.names, pair, edit)
+    if other:
+        return f'its `fails:` line names {other}, which is no declaration of its file'
+    return next((why for why in (does_not_fail(claim_of(name), log) for name in pair.names) if why), '')
 
 
 def is_not_adapted(pair, edit, log):
     """Why this pair is not an adapted proof, or ''."""
     file = pair.file.removeprefix('proofs/')
-    text = edit.after[pair.file]
-    own = {f'{file}:{name}' for name in [*declarations(text), *records_of(text)]}
-    other = [name for name in pair.proved if name not in own]
+    other = names_another(pair.proved, pair, edit)
     if other:
-        return f'its `proved:` line names {other[0]}, which is no declaration of {file}'
+        return f'its `proved:` line names {other}, which is no declaration of {file}'
     of, names = owner_of(file), {claim_of(name)[1] for name in pair.proved}
     failing = log.facts.get(of, set()) | log.resting.get(of, set())
     fails = of in log.misfits or (failing if '/' in file else failing & names)
@@ -207,7 +222,7 @@ def problem_of_log(edit, log):
     """What is wrong with what rt says of a whole edit, or ''."""
     if not log:
         return 'rt came to no verdict'
-    follows = [does_not_follow(pair, edit, log) for pair in edit.pairs if pair.proved] + [fails_too(edit, log)]
+    follows = [does_not_follow(pair, edit, log) for pair in edit.pairs if not pair.is_wrong] + [fails_too(edit, log)]
     return next((why for why in follows if why), '' if log.refused else 'the prover did not refuse it')
 
 
