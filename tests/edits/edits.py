@@ -26,11 +26,6 @@ class Pair:
     replaces: bool = False
     problem: str = ''
 
-    @property
-    def is_wrong(self):
-        """Is it wrong code or a wrong definition, and not what follows one or is adapted to it?"""
-        return not self.proved and not (self.file.startswith('proofs/') and self.names)
-
 
 @dataclasses.dataclass
 class Edit:
@@ -79,9 +74,9 @@ def read_edit(path):
         rest = rest.removeprefix(' ')
         if word == 'file':
             file = rest
-        elif word in ('old', 'adapt'):
+        elif word == 'old':
             old = rest
-        elif word in ('new', 'into'):
+        elif word == 'new':
             pairs.append(Pair(at, file, old, rest, [], [], []))
             old = ''
         elif word in ('fails', 'proved') and pairs and not old:
@@ -98,12 +93,12 @@ def problem_of_pairs(pairs):
     """What is wrong with the pairs of an edit, or ''."""
     if not pairs:
         return 'it has no pair of old and new text'
-    wrong = {pair.file.partition('/')[0] for pair in pairs if pair.is_wrong}
+    wrong = {pair.file.partition('/')[0] for pair in pairs if not pair.proved}
     if 'proofs' in wrong:
         return 'it changes proofs: an adapted proof stands beside a wrong definition and has a `proved:` line'
     if len(wrong) > 1:
         return 'it changes code and definitions'
-    if not all(pair.is_wrong for pair in pairs) and wrong != {'specs'}:
+    if any(pair.proved for pair in pairs) and wrong != {'specs'}:
         return 'a `proved:` line stands behind a pair that has no wrong definition beside it'
     if any(pair.proved and pair.file.startswith('specs/') for pair in pairs):
         return 'a `proved:` line stands behind a definition'
@@ -227,7 +222,7 @@ def wrong_lines(edit):
     """Every pair in one wrong line: a pair for itself, or all pairs of a function in which lines change places."""
     exchanged = {(pair.file, pair.function) for pair in edit.pairs if pair.replaces}
     groups = collections.defaultdict(list)
-    for pair in (pair for pair in edit.pairs if pair.is_wrong):
+    for pair in (pair for pair in edit.pairs if not pair.proved):
         place = (pair.file, pair.function)
         groups[place if place in exchanged else pair.line].append(pair)
     return [wrong_line(edit, pairs) for pairs in groups.values()]

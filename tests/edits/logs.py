@@ -120,10 +120,10 @@ def shares(line, others):
 
 
 def does_not_follow(pair, edit, log):
-    """Why this pair is not code that follows a wrong definition, nor an adapted proof or a law; or ''."""
-    proof = is_not_adapted if pair.proved else is_no_law
-    why = proof(pair, edit, log) if pair.file.startswith('proofs/') else is_not_proved(pair, edit, log)
-    return f'line {pair.line}: {pair.problem or why}' if pair.problem or why else ''
+    """Why this pair is not code that follows a wrong definition, nor an adapted proof; or ''."""
+    proof = pair.file.startswith('proofs/')
+    why = pair.problem or (is_not_adapted(pair, edit, log) if proof else is_not_proved(pair, edit, log))
+    return f'line {pair.line}: {why}' if why else ''
 
 
 def is_not_proved(pair, edit, log):
@@ -136,27 +136,14 @@ def is_not_proved(pair, edit, log):
     return f'{unproved[0]} is not proved, so not a law alone refuses the definition' if unproved else ''
 
 
-def names_another(names, pair, edit):
-    """The first of these names that is no declaration of the pair's file, or ''."""
-    file, text = pair.file.removeprefix('proofs/'), edit.after[pair.file]
-    own = {f'{file}:{name}' for name in [*declarations(text), *records_of(text)]}
-    return next((name for name in names if name not in own), '')
-
-
-def is_no_law(pair, edit, log):
-    """Why this pair is not a proof put into the laws that it is of, or ''. That proof is what fails."""
-    other = names_another(pair.names, pair, edit)
-    if other:
-        return f'its `fails:` line names {other}, which is no declaration of its file'
-    return next((why for why in (does_not_fail(claim_of(name), log) for name in pair.names) if why), '')
-
-
 def is_not_adapted(pair, edit, log):
     """Why this pair is not an adapted proof, or ''."""
     file = pair.file.removeprefix('proofs/')
-    other = names_another(pair.proved, pair, edit)
+    text = edit.after[pair.file]
+    own = {f'{file}:{name}' for name in [*declarations(text), *records_of(text)]}
+    other = [name for name in pair.proved if name not in own]
     if other:
-        return f'its `proved:` line names {other}, which is no declaration of {file}'
+        return f'its `proved:` line names {other[0]}, which is no declaration of {file}'
     of, names = owner_of(file), {claim_of(name)[1] for name in pair.proved}
     failing = log.facts.get(of, set()) | log.resting.get(of, set())
     fails = of in log.misfits or (failing if '/' in file else failing & names)
@@ -222,7 +209,7 @@ def problem_of_log(edit, log):
     """What is wrong with what rt says of a whole edit, or ''."""
     if not log:
         return 'rt came to no verdict'
-    follows = [does_not_follow(pair, edit, log) for pair in edit.pairs if not pair.is_wrong] + [fails_too(edit, log)]
+    follows = [does_not_follow(pair, edit, log) for pair in edit.pairs if pair.proved] + [fails_too(edit, log)]
     return next((why for why in follows if why), '' if log.refused else 'the prover did not refuse it')
 
 
