@@ -1,13 +1,16 @@
 -- Laws of tables of refusals.
 use Prim.Native.Nat.{ℕ, ◌<◌}
 use mathlib.Core.Path.{◌≡◌, refl, sym, ap, ◌∙◌}
-use mathlib.Core.Bool.{Bool, true, false, cond, not, ◌&&◌}
+use mathlib.Core.Bool.{Bool, true, false, cond, not, ◌&&◌, ◌||◌}
 use mathlib.Core.List.{List, [], ◌∷◌, ◌++◌}
 use mathlib.Core.Logic.{◌≢◌}
 use native.Mathlib.Omega.{arith}
 use lib.Dec.{eqb, ltb}
 use borrow.Author.Tests.{eqb-true, eqb-false, ne_eqb, ltb-true, not-true, not-false}
-use Rattle.base.specs.Refusals.{refusal, row_after}
+use Rattle.std.specs.Prelude.{Ok, Err}
+use Rattle.base.specs.declared.Refusal.{Refusal}
+use Rattle.base.specs.declared.Refusal.TheVariants.{NotSound, MediumTooShort, BlockNotOpen, PieceSize, NotGrowing, Growing, CopyNotRecorded, OutsideLimits, NoMoreGrowths, NotMoving, AlreadyCopied, NothingToRecord, NoRecord, NoSuchSpot, NoBlockThere, PageTooShort, NoSuchScene, FlushBlocks, FlushRecord, BeyondDoubling, OutsideSpan}
+use Rattle.base.specs.Refusals.{refusal, row_after, refusal_number, refusals, refusal_with, checked}
 use Rattle.base.proofs.Booleans.{and_left, and_right, by_test}
 
 -- where there is no refusal, the first test fails and the tests after it refuse nothing
@@ -83,3 +86,38 @@ row_passes k n (check ∷ table) = go (eqb check.0 k) (row_passes k n table)
         → refusal (cond b (check ∷ (n, false) ∷ table) (check ∷ row_after k (n, false) table)) ≡ cond check.1 check.0 (refusal table)
     go true e = unfold refusal in refl
     go false e = unfold refusal in ap (λ (j : ℕ). cond check.1 check.0 j) e
+
+-- ---- numbers and refusals
+
+-- the refusal of a refusal's number is that refusal
+pub refusal_back : (r : Refusal) → refusal_with (refusal_number r) ≡ r
+unfolding refusal_with refusals refusal_number
+refusal_back r = elim r as (λ r. refusal_with (refusal_number r) ≡ r) [ NotSound ↦ refl | MediumTooShort ↦ refl | BlockNotOpen ↦ refl | PieceSize ↦ refl | NotGrowing ↦ refl | Growing ↦ refl | CopyNotRecorded ↦ refl | OutsideLimits ↦ refl | NoMoreGrowths ↦ refl | NotMoving ↦ refl | AlreadyCopied ↦ refl | NothingToRecord ↦ refl | NoRecord ↦ refl | NoSuchSpot ↦ refl | NoBlockThere ↦ refl | PageTooShort ↦ refl | NoSuchScene ↦ refl | FlushBlocks ↦ refl | FlushRecord ↦ refl | BeyondDoubling ↦ refl | OutsideSpan ↦ refl ]
+
+-- and its number is not 0
+pub number_told : (r : Refusal) → refusal_number r ≢ 0
+unfolding refusal_number
+number_told r = elim r as (λ r. refusal_number r ≢ 0) [ NotSound ↦ (λ e. omega arith) | MediumTooShort ↦ (λ e. omega arith) | BlockNotOpen ↦ (λ e. omega arith) | PieceSize ↦ (λ e. omega arith) | NotGrowing ↦ (λ e. omega arith) | Growing ↦ (λ e. omega arith) | CopyNotRecorded ↦ (λ e. omega arith) | OutsideLimits ↦ (λ e. omega arith) | NoMoreGrowths ↦ (λ e. omega arith) | NotMoving ↦ (λ e. omega arith) | AlreadyCopied ↦ (λ e. omega arith) | NothingToRecord ↦ (λ e. omega arith) | NoRecord ↦ (λ e. omega arith) | NoSuchSpot ↦ (λ e. omega arith) | NoBlockThere ↦ (λ e. omega arith) | PageTooShort ↦ (λ e. omega arith) | NoSuchScene ↦ (λ e. omega arith) | FlushBlocks ↦ (λ e. omega arith) | FlushRecord ↦ (λ e. omega arith) | BeyondDoubling ↦ (λ e. omega arith) | OutsideSpan ↦ (λ e. omega arith) ]
+
+-- a test that passed: its table refuses nothing
+pub checked_passed : (k : ℕ) (u : Unit {0}) → checked k ≡ Ok u → k ≡ 0
+unfolding checked
+checked_passed k u e = by_test (eqb k 0) (λ z. eqb-true k 0 z) (λ z. absurd (let h : Err (refusal_with k) ≡ Ok u = rw z at e in cc))
+
+-- a test that refused: its table refuses, with the number of this refusal
+pub checked_refused : (k : ℕ) (r : Refusal) → checked k ≡ Err r → (k ≢ 0) × (refusal_with k ≡ r)
+unfolding checked
+checked_refused k r e =
+    by_test (eqb k 0) (λ z. absurd (let h : Ok tt ≡ Err r = rw z at e in cc))
+    (λ z. let h : Err (refusal_with k) ≡ Err r = rw z at e in (eqb-false k 0 z, cc))
+
+-- is a number 0 or a refusal's
+abbrev pub has_refusal : (k : ℕ) → Bool
+has_refusal k = eqb k 0 || eqb (refusal_number (refusal_with k)) k
+
+-- the number of what a table with only such numbers refuses
+pub number_back : (table : List (ℕ × Bool)) → all_numbers has_refusal table ≡ true → refusal table ≢ 0
+    → refusal_number (refusal_with (refusal table)) ≡ refusal table
+number_back table n h =
+    let p = refusal_passes has_refusal table refl n in
+    eqb-true (refusal_number (refusal_with (refusal table))) (refusal table) (rw (ne_eqb (refusal table) 0 h) at p)
