@@ -8,16 +8,20 @@ from edits import functions_of
 
 GHOST = re.compile(r'^ghost use [^;]*;\n', re.M)
 CLAUSE = re.compile(r'^[ \t]*(?:requires|ensures)\b[^{\n]*(?=\{)', re.M)
-ATTRIBUTE = re.compile(r'^[ \t]*#!?\[(?:tactic|derive|cycle|unsafe\(no_mangle)\b[^\]]*\]\n+', re.M)
+ATTRIBUTE = re.compile(r'^[ \t]*#!?\[(?:tactic|cycle|unsafe\(no_mangle)\b[^\]]*\]\n+', re.M)
+GHOST_MEMBER = re.compile(r'^[ \t]*(?:pub )?ghost \w+(?:: | = )(?=\{)', re.M)
+MODEL = re.compile(r'^impl(?:<[^>]*>)? Model for [^{]*(?=\{)', re.M)
 EXPORT = re.compile(r'\bextern "C" (?=fn\b)')
 STD = re.compile(r'\bstd::(?=(?:io|num)\b)')
 HANDLE = re.compile(r'\bHostRuntime\b')
 PRIVATE = re.compile(r'^([ \t]*)(?:pub\(crate\) )?(?=(?:fn|struct|enum|mod|const) )', re.M)
-TYPE = re.compile(r'^(?=pub (?:struct|enum) )', re.M)
-STRUCT = re.compile(r'^pub struct \w+ \{\n.*?^\}', re.M | re.S)
+TYPE = re.compile(r'^(?:#\[derive\(([^)]*)\)\]\n)?((?:#\[repr[^\n]*\n)?pub (?:struct|enum) )', re.M)
+STRUCT = re.compile(r'^pub struct \w+(?:<[^>]*>)? \{\n.*?^\}', re.M | re.S)
 FIELD = re.compile(r'^( +)(?=\w+: )', re.M)
 CONSTANT = re.compile(r'^[ \t]*(?:pub )?const (\w+): ([^=]*) = (.*?);$', re.M | re.S)
 DERIVED = '#[derive(Debug, Clone, Copy, PartialEq)]\n'
+# A type that is not copied may hold what Rust compares and prints, and no more is needed of it.
+HELD = '#[derive(Debug)]\n'
 
 
 def end_of_braces(text, start):
@@ -38,11 +42,27 @@ def without_contracts(text):
     return text
 
 
+def without_blocks(text, begin):
+    """The text without what begins so and goes to the end of its braces, with the comma or semicolon behind it."""
+    found = begin.search(text)
+    while found:
+        rest = text[end_of_braces(text, found.end()):].lstrip(',;')
+        text = text[:found.start()] + rest.lstrip('\n')
+        found = begin.search(text)
+    return text
+
+
+def derived(found):
+    """The head of a type with what it derives in Rust."""
+    copied = found.group(1) is None or 'Copy' in found.group(1)
+    return (DERIVED if copied else HELD) + found.group(2)
+
+
 def as_rust(text):
     """A text of Rattle, as Rust."""
-    text = EXPORT.sub('', ATTRIBUTE.sub('', GHOST.sub('', without_contracts(text))))
-    text = PRIVATE.sub(lambda m: m.group(1) + 'pub ', text)
-    text = STRUCT.sub(lambda m: FIELD.sub(r'\1pub ', m.group()), TYPE.sub(DERIVED, text))
+    text = without_blocks(without_blocks(GHOST.sub('', without_contracts(text)), MODEL), GHOST_MEMBER)
+    text = PRIVATE.sub(lambda m: m.group(1) + 'pub ', EXPORT.sub('', ATTRIBUTE.sub('', text)))
+    text = STRUCT.sub(lambda m: FIELD.sub(r'\1pub ', m.group()), TYPE.sub(derived, text))
     return HANDLE.sub('kit::HostRuntime', STD.sub('kit::', text).replace('Vec::new(rt.alloc())', 'Vec::new()'))
 
 
