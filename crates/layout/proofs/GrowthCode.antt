@@ -26,32 +26,33 @@ pub old_blocks_most : (m n s : ℕ) → Grows m n → s ≤ most_rows → m * s 
 old_blocks_most m n s g h = let l : m ≤ most_disks = omega (arith, g.most) in mul-le-mul l h
 
 -- d0 ≤ b1 ≤ d0+n-1 as one test, of the difference that wraps
-pub one_test : (n d0 b1 past : ℕ) → 0 < n → n ≤ most_disks → d0 < most_disks → past < 2 ^ 64 → (past + d0) % 2 ^ 64 ≡ b1
-    → ltb past n ≡ moves n d0 b1
+pub one_test : (n d0 b1 : ℕ) → 0 < n → n ≤ most_disks → d0 < most_disks → b1 < most_disks → ltb ((b1 + (2 ^ 64 - d0)) % 2 ^ 64) n ≡ moves n d0 b1
 unfolding moves
-one_test n d0 b1 past hn hm hd hp e =
+one_test n d0 b1 hn hm hd hb =
+    let past = (b1 + (2 ^ 64 - d0)) % 2 ^ 64 in
     by_test (leb d0 b1)
     (λ t. let h = leb-true d0 b1 t in
-    let k : past + d0 ≡ b1 = omega (arith, e, h) in
+    let k : past + d0 ≡ b1 = omega (arith, h) in
     rw t
     (by_test (ltb past n) (λ u. let l = ltb-true past n u in u ∙ sym (le-leb b1 (d0 + n - 1) (omega (arith, l, k))))
     (λ u. let l = ltb-false past n u in u ∙ sym (lt-leb b1 (d0 + n - 1) (omega (arith, l, k))))))
-    (λ f. let h = leb-false d0 b1 f in rw f (le-ltb past n (omega (arith, e, h))))
+    (λ f. let h = leb-false d0 b1 f in rw f (le-ltb past n (omega (arith, h))))
 
--- The added block that a disk has, by one remainder of up - b1, where up = d + (n-1) and b1 = b mod (m+n): k more where that is negative.
-module _ (m n d b : ℕ) (hn : 0 < n) (hd : d < m + n) where
-  index_up : added_index m n d b ≡ (d + (n - 1) + (m + n - b % (m + n))) % (m + n)
+-- The added block that a disk has, by one remainder of up - b1, where up = d + (n-1), b1 = b mod k and k = m+n: k more where that is negative.
+module _ (m n d b k : ℕ) (e : k ≡ m + n) (hn : 0 < n) (hd : d < m + n) where
+  index_up : added_index m n d b ≡ (d + (n - 1) + (k - b % k)) % k
   unfolding added_index minus_mod
-  index_up = minus_minus (m + n) d b (n - 1) (omega (arith, hn))
+  index_up = rw e (minus_minus (m + n) d b (n - 1) (omega (arith, hn)))
 
-  pub index_short : d + (n - 1) < b % (m + n) → d + (n - 1) + (m + n) - b % (m + n) ≡ added_index m n d b
+  row_below : b % k < k
+  row_below = mod-lt b (omega (arith, hn, e))
+
+  pub index_short : d + (n - 1) < b % k → d + (n - 1) + k - b % k ≡ added_index m n d b
   index_short h =
-      let l : b % (m + n) < m + n = mod-lt b (omega (arith, hn)) in
-      let e : d + (n - 1) + (m + n) - b % (m + n) ≡ d + (n - 1) + (m + n - b % (m + n)) = omega (arith, l) in
-      e ∙ sym (mod-eq_of_lt (omega (arith, h, l))) ∙ sym index_up
+      let f : d + (n - 1) + k - b % k ≡ d + (n - 1) + (k - b % k) = omega (arith, row_below) in
+      f ∙ sym (mod-eq_of_lt (omega (arith, h, row_below))) ∙ sym index_up
 
-  pub index_long : b % (m + n) ≤ d + (n - 1) → (d + (n - 1) - b % (m + n)) % (m + n) ≡ added_index m n d b
+  pub index_long : b % k ≤ d + (n - 1) → (d + (n - 1) - b % k) % k ≡ added_index m n d b
   index_long h =
-      let l : b % (m + n) < m + n = mod-lt b (omega (arith, hn)) in
-      let e : d + (n - 1) + (m + n - b % (m + n)) ≡ d + (n - 1) - b % (m + n) + (m + n) = omega (arith, h, l) in
-      sym (rw (index_up, e) (add-mod_right (d + (n - 1) - b % (m + n)) (m + n)))
+      let f : d + (n - 1) + (k - b % k) ≡ d + (n - 1) - b % k + k = omega (arith, h, row_below) in
+      sym (rw (index_up, f) (add-mod_right (d + (n - 1) - b % k) k))

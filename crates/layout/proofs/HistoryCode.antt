@@ -1,15 +1,14 @@
 -- What the loops over the growths need at each turn: the array of counts read as a history.
-use Rattle.std.proofs.Common.{◌≡◌, ℕ, zero, suc, ◌+◌, ◌-◌, ◌*◌, ◌/◌, ◌%◌, ◌<◌, ◌≤◌, true, false, cond, ◌⊎◌, List, ◌∷◌, length, get_or, sym, refl, ap, ◌∙◌, subst, inl, inr, le_refl, mul-le-mul, add-one, arith, le-ltb, lt-ltb, le-leb}
+use Rattle.std.proofs.Common.{◌≡◌, ℕ, zero, suc, ◌+◌, ◌-◌, ◌*◌, ◌/◌, ◌%◌, ◌<◌, ◌≤◌, true, false, cond, List, ◌∷◌, length, get_or, sym, refl, ap, ◌∙◌, subst, inl, inr, le_refl, mul-le-mul, add-one, arith, le-ltb, lt-ltb, le-leb}
 use native.Mathlib.Decide.{ℕ_discrete}
 use borrow.Author.Tests.{lt-leb}
 use Rattle.layout.specs.declared.Change.{Change}
 use Rattle.layout.specs.declared.Change.TheVariants.{Added}
-use Rattle.layout.specs.declared.GrowthDisks.{GrowthDisks}
 use Rattle.layout.specs.declared.Reason.{Reason}
 use Rattle.layout.specs.declared.Reason.TheVariants.{AddedBy}
 use Rattle.layout.specs.declared.Spot.{Spot}
 use Rattle.layout.specs.Growth.{moves_from, old_block_spot, added_spot, spot_after, old_change, change_of, added_index, spot_before, block_after}
-use Rattle.layout.specs.History.{Within, history, disk_count, earlier, old_count, added_count, newest_growth, rising, spot_of, block_at}
+use Rattle.layout.specs.History.{Within, There, NotBefore, history, disk_count, earlier, old_count, added_count, rising, spot_of, block_at}
 use Rattle.layout.specs.Limits.{Limits, Grows, most_disks, most_growths, most_rows}
 use Rattle.layout.specs.Reasons.{reason_after, placed_reason, reason_of, move_count_of, moves_after}
 use Rattle.layout.specs.Windows.{old_spot, moving}
@@ -18,7 +17,6 @@ use Rattle.layout.proofs.Histories.{rising_up, rising_earlier, rising_some}
 use Rattle.layout.proofs.OneRow.{old_back}
 use Rattle.layout.proofs.OneGrowth.{spot_after_old, spot_after_added, block_after_added, block_after_old}
 use Rattle.layout.proofs.Bijection.{bijection}
-use Rattle.layout.proofs.GrowthCode.{old_blocks_most}
 use Rattle.layout.proofs.MovesTrue.{new_unmoved, moves_one_more, moves_at_format, absent_moves, moves_most}
 
 pub history_length : (t : ℕ) (l : List ℕ) → length (history t l) ≡ suc t
@@ -139,13 +137,6 @@ not_rising_later k (suc t) l h r =
 
 -- ---- the growth that placed a block
 
--- Block x is there after k growths; it was not there before growth k, which is format for 0.
-abbrev pub There : (s k : ℕ) (l : List ℕ) (x : ℕ) → Type 0
-There s k l x = x < disk_count (history k l) * s
-
-abbrev pub NotBefore : (s k : ℕ) (l : List ℕ) (x : ℕ) → Type 0
-NotBefore s k l x = (k ≡ 0) ⊎ (disk_count (history (k - 1) l) * s ≤ x)
-
 -- with the counts that the code reads
 pub there_counted : (s k : ℕ) (l : List ℕ) (x : ℕ) → x < get_or l k 0 * s → There s k l x
 there_counted s k l x h = rw (history_disks k l) h
@@ -182,14 +173,6 @@ module _ (s t k : ℕ) (l : List ℕ) (a : Limits s (history t l)) where
       mul-le-mul d a.rows_most
 
   module _ (x : ℕ) where
-    -- a block that is not there after k growths came by a later one
-    pub placed_later : There s t l x → k ≤ t → get_or l k 0 * s ≤ x → k < t
-    placed_later w h g =
-        elim (ℕ_discrete k t) [
-          | yes e ↦ let v : x < get_or l k 0 * s = rw e (counted_there s t l x w) in absurd (omega arith)
-          | no e ↦ omega (arith, e)
-        ]
-
     pub turn_there : k < t → There s k l x → There s (k + 1) l x
     turn_there h w =
         let up : get_or l k 0 ≤ get_or l (k + 1) 0 = omega (arith, turn_up h) in
@@ -302,62 +285,45 @@ unfolding history block_at
 block_suc s zero l p = refl
 block_suc s (suc j) l p = refl
 
--- the growth of a turn, with spot p and its row b
-pub record BackTurn (s j k : ℕ) (l : List ℕ) (p : Spot) (b : ℕ) : Type 0 where
-  pub up : get_or l j 0 < get_or l k 0
-  pub grows : Grows (get_or l j 0) (get_or l k 0 - get_or l j 0)
-  pub disk : p.disk < get_or l j 0 + (get_or l k 0 - get_or l j 0)
-  pub old_most : get_or l j 0 * s ≤ 16_000_000
-  pub added_most : b * (get_or l k 0 - get_or l j 0) ≤ 16_000_000
-
-module _ (s t j k : ℕ) (l : List ℕ) (a : Limits s (history t l)) (e : k ≡ suc j) (h : k ≤ t) where
+-- The growth that a turn takes back, from m disks by n, which are read from the counts, and spot p of row b after it.
+module _ (s t j k : ℕ) (l : List ℕ) (a : Limits s (history t l)) (e : k ≡ suc j) (h : k ≤ t) (m n : ℕ) (old : m ≡ get_or l j 0)
+    (added : n ≡ get_or l (j + 1) 0 - get_or l j 0) (p : Spot) (b : ℕ) (w : Within s (history k l) p) (row : p.row.0 ≡ b) where
   here : Limits s (history (suc j) l)
-  here = limits_at s t (suc j) l a (omega arith)
+  here = limits_at s t (suc j) l a (omega (arith, e, h))
 
-  pub back_up : get_or l j 0 < get_or l k 0
-  back_up = count_up j k l e (limits_at s t k l a h).rise
+  turn_back : Grows m n
+  turn_back = rw (old, added, add-one j) (grows s j l here)
 
-  pub back_grows : Grows (get_or l j 0) (get_or l k 0 - get_or l j 0)
-  back_grows = rw e (grows s j l here)
+  back_sum : m + n ≡ get_or l k 0
+  back_sum =
+      let f : j + 1 ≡ k = omega (arith, e) in
+      omega (arith, count_up j k l e (limits_at s t k l a h).rise, old, rw f at added)
 
-  -- what the code of a turn needs so that nothing wraps
-  pub back_turn : (p : Spot) (b : ℕ) → Within s (history k l) p → p.row.0 ≡ b → BackTurn s j k l p b
-  back_turn p b w f =
-      let g = back_grows in
-      let hb : b ≤ most_rows = omega (arith, w.row, a.rows_most) in
-      let hn : get_or l k 0 - get_or l j 0 ≤ most_disks = omega (arith, g.most) in
-      record {
-        up = back_up;
-        grows = g;
-        disk = omega (arith, w.disk, history_disks k l, back_up);
-        old_most = old_blocks_most _ _ s g a.rows_most;
-        added_most = mul-le-mul hb hn;
-      }
+  pub back_disk : p.disk < m + n
+  back_disk = omega (arith, w.disk, history_disks k l, back_sum)
 
-  block_now : (p : Spot) → block_at s (history k l) p
-      ≡ block_after (get_or l j 0) (get_or l k 0 - get_or l j 0) s p (block_at s (history j l) (spot_before (get_or l j 0) (get_or l k 0 - get_or l j 0) p))
-  block_now p = rw e (block_suc s j l p)
+  block_now : block_at s (history k l) p ≡ block_after m n s p (block_at s (history j l) (spot_before m n p))
+  block_now = rw (old, added, e, add-one j) (block_suc s j l p)
 
-  -- an added block of this growth
-  pub back_added : (p : Spot) (i b : ℕ) → p.row.0 ≡ b → i ≡ added_index (get_or l j 0) (get_or l k 0 - get_or l j 0) p.disk b → i < get_or l k 0 - get_or l j 0
-      → get_or l j 0 * s + b * (get_or l k 0 - get_or l j 0) + i ≡ block_at s (history k l) p
-  back_added p i b g f u =
-      rw (f, ← g) (sym (block_now p ∙ block_after_added (get_or l j 0) (get_or l k 0 - get_or l j 0) s p _ (rw (g, ← f) u)))
+  module _ (i : ℕ) (f : i ≡ added_index m n p.disk b) where
+    -- an added block of this growth
+    pub back_added : i < n → m * s + b * n + i ≡ block_at s (history k l) p
+    back_added u = rw (f, ← row) (sym (block_now ∙ block_after_added m n s p _ (rw (row, ← f) u)))
 
-  -- an older one: the way back goes on from its spot before this growth
-  pub back_older : (p q : Spot) (i b : ℕ) → p.row.0 ≡ b → i ≡ added_index (get_or l j 0) (get_or l k 0 - get_or l j 0) p.disk b → get_or l k 0 - get_or l j 0 ≤ i
-      → Within s (history k l) p → q ≡ spot_before (get_or l j 0) (get_or l k 0 - get_or l j 0) p
-      → Within s (history j l) q × (q.row.0 ≡ b) × (block_at s (history j l) q ≡ block_at s (history k l) p)
-  unfolding spot_before
-  back_older p q i b g f u w v =
-      let n : get_or l k 0 - get_or l j 0 ≤ added_index (get_or l j 0) (get_or l k 0 - get_or l j 0) p.disk p.row.0 = (rw (g, ← f) u) in
-      let d : p.disk < get_or l j 0 + (get_or l k 0 - get_or l j 0) = omega (arith, w.disk, history_disks k l, back_up) in
-      let o = old_back (get_or l j 0) (get_or l k 0 - get_or l j 0) p.row.0 back_grows.old back_grows.added p.disk d n in
-      rw v (
-        record { disk = rw (history_disks j l) o.0; row = w.row },
-        g,
-        sym (block_now p ∙ block_after_old (get_or l j 0) (get_or l k 0 - get_or l j 0) s p _ n),
-      )
+    -- an older one: the way back goes on from its spot before this growth
+    pub back_none : n ≤ i → n ≤ added_index m n p.disk p.row.0
+    back_none u = rw (row, ← f) u
+
+    pub back_older : (q : Spot) → n ≤ i → q ≡ spot_before m n p
+        → Within s (history j l) q × (q.row.0 ≡ b) × (block_at s (history j l) q ≡ block_at s (history k l) p)
+    unfolding spot_before
+    back_older q u v =
+        let o = old_back m n p.row.0 turn_back.old turn_back.added p.disk back_disk (back_none u) in
+        rw v (
+          record { disk = rw (history_disks j l, ← old) o.0; row = w.row },
+          row,
+          sym (block_now ∙ block_after_old m n s p _ (back_none u)),
+        )
 
 -- at format
 pub first_most : (s t : ℕ) (l : List ℕ) (b : ℕ) → Limits s (history t l) → b < s → b * get_or l 0 0 ≤ 16_000_000
@@ -376,10 +342,13 @@ block_first s (suc k) l p b h e = omega arith
 
 -- ---- the newest growth, to k = j + 1 growths
 
-pub newest_is : (j k : ℕ) (l : List ℕ) → k ≡ suc j
-    → ◌≡◌ {A = GrowthDisks} (record { old = get_or l j 0; added = get_or l k 0 - get_or l j 0 }) (newest_growth (history k l))
-unfolding newest_growth old_count added_count earlier disk_count
-newest_is j k l e = rw (e, history_two j l)
+pub newest_old_is : (j k : ℕ) (l : List ℕ) → k ≡ suc j → get_or l j 0 ≡ old_count (history k l)
+unfolding old_count earlier disk_count
+newest_old_is j k l e = rw (e, history_two j l)
+
+pub newest_added_is : (j k : ℕ) (l : List ℕ) → k ≡ suc j → get_or l k 0 - get_or l j 0 ≡ added_count (history k l)
+unfolding old_count added_count earlier disk_count
+newest_added_is j k l e = rw (e, history_two j l)
 
 -- there is one where there was a growth
 pub newest_old : (s t : ℕ) (l : List ℕ) → 0 < t → Limits s (history t l) → 0 < old_count (history t l)

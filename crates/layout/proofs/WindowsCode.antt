@@ -1,6 +1,5 @@
 -- The limits of the windows and marks, so that no sum in the code wraps.
 use Rattle.std.proofs.Common.{◌≡◌, ℕ, suc, ◌+◌, ◌-◌, ◌*◌, ◌/◌, ◌%◌, ◌<◌, ◌≤◌, min, true, ltb, leb, refl, suc-mul, div-lt_iff_lt-mul, mul-le-mul, div-le_self, le-mul_of_pos_right, arith, leb-true}
-use native.Mathlib.Nat.{mod-le}
 use Rattle.base.specs.Below.{every}
 use Rattle.layout.specs.Limits.{Grows, most_disks, most_rows}
 use Rattle.layout.specs.Windows.{windows, cut_moves, later_moves}
@@ -44,7 +43,3 @@ module _ (m n : ℕ) (g : Grows m n) where
   later_most s w h =
       cond_cases (λ v. v ≤ 64_000_256) (ltb w (s / (m + n))) (λ e. omega (arith, whole_most s (suc w) h, cut_most (s % (m + n))))
       (λ e. omega arith)
-
-  -- the row of mark j of window w
-  pub mark_row_most : (w j : ℕ) → (w ≤ most_rows) × (j < 64) → w * (m + n) + (j / n + j % n) ≤ 16_000_126
-  mark_row_most w j h = omega (arith, mul-le-mul h.0 g.most, div-le_self j n, mod-le j n)

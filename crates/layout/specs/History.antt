@@ -1,8 +1,7 @@
 -- Document 01, "Words and limits" and "Layout after t growths": the whole history of growths.
 -- A history is the list of disk counts N[t] .. N[0], newest first, and never empty; s is the number of rows on each disk.
 -- Blocks are numbers here; rows are a type of their own.
-use Rattle.std.specs.Prelude.{ℕ, zero, suc, ◌+◌, ◌-◌, ◌*◌, ◌/◌, ◌%◌, ◌<◌, Bool, false, ◌&&◌, List, [], ◌∷◌, nat_le, nat_lt, slice_index}
-use Rattle.layout.specs.declared.GrowthDisks.{GrowthDisks}
+use Rattle.std.specs.Prelude.{◌≡◌, ◌≤◌, ◌⊎◌, ℕ, zero, suc, ◌+◌, ◌-◌, ◌*◌, ◌/◌, ◌%◌, ◌<◌, Bool, false, ◌&&◌, List, [], ◌∷◌, nat_le, nat_lt, slice_index}
 use Rattle.layout.specs.declared.Spot.{Spot}
 use Rattle.layout.specs.Growth.{spot_after, spot_before, block_after}
 
@@ -28,9 +27,6 @@ old_count h = disk_count (earlier h)
 unfoldable pub added_count : (h : List ℕ) → ℕ
 added_count h = disk_count h - old_count h
 
-unfoldable pub newest_growth : (h : List ℕ) → GrowthDisks
-newest_growth h = record { old = old_count h; added = added_count h }
-
 -- "disk counts, strictly rising", at least 1
 unfoldable pub rising : (h : List ℕ) → Bool
 rising [] = false
@@ -53,3 +49,10 @@ unfoldable pub block_at : (s : ℕ) (h : List ℕ) (p : Spot) → ℕ
 block_at s [] p = 0
 block_at s (c ∷ []) p = p.row.0 * c + p.disk
 block_at s (c ∷ m ∷ h) p = block_after m (c - m) s p (block_at s (m ∷ h) (spot_before m (c - m) p))
+
+-- Block x of s rows is there after the first k growths of an array of counts; it was not there before growth k, format for 0.
+abbrev pub There : (s k : ℕ) (counts : List ℕ) (x : ℕ) → Type 0
+There s k counts x = x < disk_count (history k counts) * s
+
+abbrev pub NotBefore : (s k : ℕ) (counts : List ℕ) (x : ℕ) → Type 0
+NotBefore s k counts x = (k ≡ 0) ⊎ (disk_count (history (k - 1) counts) * s ≤ x)

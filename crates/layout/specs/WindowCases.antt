@@ -2,7 +2,7 @@
 -- hand. A window has 6 rows. With 8 rows the second window has rows 6 and 7, where blocks 12, (0,6), 14, (0,7), and 15, (1,7), move.
 -- `proofs/WindowCases.antt` has the proofs.
 use Rattle.std.specs.Prelude.{◌≡◌, ℕ, Bool, true, false, ◌||◌, List, [], ◌∷◌, map, ◌==◌}
-use Rattle.std.proofs.Math.Option.{Option, none, some}
+use Rattle.std.proofs.Math.Option.{none, some}
 use Rattle.layout.specs.Windows.{windows, row_exists, window_of, moving_in, mark_of, block_of_mark, next_of_window, all_copied, moves_of_window, calls_left}
 
 abbrev pub two_to_six : List ℕ

@@ -8,33 +8,26 @@
 mod growth;
 mod history;
 
-pub use growth::{added_index, change_of, moves_from, part_of, spot_after, spot_before};
-pub use history::{address_of, block_at, newest_growth, spot_of};
+pub use growth::GrowthDisks;
+pub use history::History;
 
 // Document 01's block: an address in the volume.
-#[derive(Clone, Copy)]
+#[derive(Clone, Copy, PartialEq, Eq, Debug)]
 pub struct Block(pub usize);
 
 // Document 01's row: a position on one disk.
-#[derive(Clone, Copy)]
+#[derive(Clone, Copy, PartialEq, Eq, Debug)]
 pub struct Row(pub usize);
 
 // Document 01's spot (d, b).
-#[derive(Clone, Copy)]
+#[derive(Clone, Copy, PartialEq, Eq, Debug)]
 pub struct Spot {
     pub disk: usize,
     pub row: Row,
 }
 
-// Document 01's m and n of a growth: the old disks, and the disks added.
-#[derive(Clone, Copy)]
-pub struct GrowthDisks {
-    pub old: usize,
-    pub added: usize,
-}
-
 // Document 01's head, body and tail: by which rule a moving block gets its new disk.
-#[derive(Clone, Copy)]
+#[derive(Clone, Copy, PartialEq, Eq, Debug)]
 pub enum Part {
     Head,
     Body,
@@ -42,7 +35,7 @@ pub enum Part {
 }
 
 // What one growth does with a block.
-#[derive(Clone, Copy)]
+#[derive(Clone, Copy, PartialEq, Eq, Debug)]
 pub enum Change {
     Moved(Part),
     Added,
@@ -51,7 +44,7 @@ pub enum Change {
 
 // Document 01's "why it is there", of a block at its spot: set out at format, added by a growth, or moved
 // there by one. Growths are told by number, from 1.
-#[derive(Clone, Copy)]
+#[derive(Clone, Copy, PartialEq, Eq, Debug)]
 pub enum Reason {
     SetOut,
     AddedBy(usize),
@@ -59,7 +52,7 @@ pub enum Reason {
 }
 
 // What address tells of a block: its spot, why it is there, and by how many growths it was moved.
-#[derive(Clone, Copy)]
+#[derive(Clone, Copy, PartialEq, Eq, Debug)]
 pub struct Address {
     pub spot: Spot,
     pub reason: Reason,

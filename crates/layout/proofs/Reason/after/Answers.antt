@@ -1,0 +1,15 @@
+-- `Reason::after` meets its contract.
+use Rattle.layout.specs.Reasons.{reason_after}
+use Rattle.layout.proofs.Reason.after.Goals as goal
+
+pub returns-in-Moved : goal.returns-in-Moved
+unfolding reason_after
+returns-in-Moved c = rw c.in-Moved.is
+
+pub returns-in-Added : goal.returns-in-Added
+unfolding reason_after
+returns-in-Added c = rw c.in-Added.is
+
+pub returns-in-Stays : goal.returns-in-Stays
+unfolding reason_after
+returns-in-Stays c = rw c.in-Stays.is

@@ -1,8 +1,0 @@
--- `added_spot` meets its contract.
-use Rattle.std.proofs.Common.{mod-lt, arith, rules}
-use Rattle.layout.specs.Growth.{added_spot}
-use Rattle.layout.proofs.growth.added_spot.Goals as goal
-
-pub returns : goal.returns
-unfolding added_spot
-returns c = rw c.added_disk-disk.ensures
