@@ -1,8 +1,8 @@
 // Where every block of the growing striped volume lives: document 01, "Layout after t growths". Knows
 // numbers only. The code for windows and marks, which are defined here too, stands in `window`.
 //
-// The functions here serve the crates above and are not offered to others: their `requires` are the
-// limits of a sound volume.
+// The functions here serve the crates above and are not offered to others: their types and `requires` are the limits of
+// a sound volume.
 #![tactic(auto)]
 
 mod growth;

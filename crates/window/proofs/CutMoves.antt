@@ -21,8 +21,8 @@ pub product_most : (k : ℕ) → k ≤ most_disks → k * (k + 1) ≤ 272
 product_most k h = let i : k + 1 ≤ 17 = omega arith in mul-le-mul h i
 
 -- a number whose double is k·(k+1) is the triangle of k
-pub is_triangle : (k j x : ℕ) → k ≡ j → x + x ≡ k * (k + 1) → x ≡ triangle j
-is_triangle k j x e h = omega (arith, triangle_twice k, ap triangle e)
+is_triangle : (k x : ℕ) → x + x ≡ k * (k + 1) → x ≡ triangle k
+is_triangle k x h = omega (arith, triangle_twice k, h)
 
 -- a triangle by the one before; at 0 both are that of 0
 by_one_before : (k j : ℕ) → j ≡ k - 1 → triangle k ≡ triangle j + k
@@ -38,9 +38,19 @@ first_disks n r (suc e) =
     omega (arith, first_disks n r e, by_one_before (r - e) (r - suc e) (omega arith), by_one_before (r - n - e) (r - n - suc e) (omega arith))
 
 -- all old disks: past the last of them and past n no row is left
-pub cut_triangles : (m n r : ℕ) → r < m + n → cut_moves m n r + triangle (r - m) + triangle (r - n) ≡ triangle r
+cut_triangles : (m n r : ℕ) → r < m + n → cut_moves m n r + triangle (r - m) + triangle (r - n) ≡ triangle r
 unfolding cut_moves
 cut_triangles m n r h =
     let rest : triangle (r - min m r) ≡ triangle (r - m) = ap triangle (omega arith) in
     let none : triangle (r - n - min m r) ≡ triangle 0 = ap triangle (omega arith) in
     omega (arith, first_disks n r (min m r), rest, none, triangle_twice 0)
+
+-- with the triangles as the code has them, by their doubles
+pub cut_found : (m n r all past_old past_added : ℕ) → r < m + n → all + all ≡ r * (r + 1) → past_old + past_old ≡ (r - m) * (r - m + 1)
+    → past_added + past_added ≡ (r - n) * (r - n + 1) → (past_added ≤ all - past_old) × (all - past_old - past_added ≡ cut_moves m n r)
+cut_found m n r all past_old past_added h f g i =
+    let e = cut_triangles m n r h in
+    let a = is_triangle r all f in
+    let b = is_triangle (r - m) past_old g in
+    let c = is_triangle (r - n) past_added i in
+    (omega (arith, e, a, b, c), omega (arith, e, a, b, c))

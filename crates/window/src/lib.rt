@@ -1,65 +1,86 @@
-// The windows of the growth from m disks by n, the marks of their moving blocks, and how many blocks move: code for
-// what `layout` defines in `specs/Windows.antt`.
+// The windows of a growth, the marks of their moving blocks, and how many blocks move: code for what `layout` defines
+// in `specs/Windows.antt`.
 //
-// The functions here serve the crates above and are not offered to others: their `requires` are the
-// limits of a sound volume.
+// The functions here serve the crates above and are not offered to others: their types and `requires` are the limits of
+// a sound volume.
 #![tactic(auto)]
 
 ghost use Rattle.std.specs.Prelude.{◌≡◌, true, ◌+◌, ◌-◌, ◌*◌, ◌<◌, ◌≤◌};
-ghost use Rattle.layout.specs.Limits.{Limits, Grows, most_disks, most_rows};
+ghost use Rattle.layout.specs.Limits.{most_disks, most_rows};
 ghost use Rattle.layout.specs.Growth.{moves_from};
 ghost use Rattle.layout.specs.History.{history, old_count, added_count};
 ghost use Rattle.layout.specs.Windows.{windows, mark_of_spot, spot_of_mark, row_exists, cut_moves, later_moves, moves_of_window};
 
-use layout::{Row, Spot, newest_growth};
+use layout::{GrowthDisks, History, Row, Spot};
 
-// R, the number of windows.
-pub fn window_count(m: usize, n: usize, s: usize) -> usize
-    requires grows { Grows m n }
-    requires s_le_most_rows { s ≤ most_rows }
-    ensures { result ≡ windows m n s }
+// A window of a growth, of a volume with so many rows on each disk. Windows are numbered from 0.
+#[derive(Clone, Copy, PartialEq, Eq, Debug)]
+pub struct Window {
+    pub growth: GrowthDisks,
+    pub rows: usize,
+    pub number: usize,
+    pub ghost rows_most: { rows ≤ most_rows },
+    pub ghost number_most: { number ≤ most_rows },
+}
+
+impl Window {
+    // The old spot of mark j.
+    pub fn spot_of_mark(self, j: usize) -> Spot
+        requires { j < 64 }
+        ensures { result ≡ spot_of_mark self.growth.old self.growth.added self.number j }
+    {
+        let n = self.growth.added;
+        let d0 = j / n;
+        let b = self.number * self.growth.disks() + (d0 + j % n);
+        Spot {
+            disk: d0,
+            row: Row(b),
+        }
+    }
+
+    // Does the row of mark j exist.
+    pub fn row_exists(self, j: usize) -> bool
+        requires { j < 64 }
+        ensures { result ≡ row_exists self.growth.old self.growth.added self.rows self.number j }
+    {
+        let n = self.growth.added;
+        let start = self.number * self.growth.disks();
+        // A mark is at most 63 rows into its window. So far from the end no division is needed.
+        if start + 64 <= self.rows {
+            return true;
+        }
+        start + (j / n + j % n) < self.rows
+    }
+
+    // The moving blocks of the windows after this one.
+    pub fn later_moves(self) -> usize
+        ensures { result ≡ later_moves self.growth.old self.growth.added self.rows self.number }
+    {
+        let GrowthDisks { old, added } = self.growth;
+        let k = self.growth.disks();
+        let whole = self.rows / k;
+        if whole <= self.number {
+            return 0;
+        }
+        (whole - (self.number + 1)) * (old * added) + cut_moves(self.growth, self.rows % k)
+    }
+}
+
+// R, the number of windows, with s rows.
+pub fn window_count(growth: GrowthDisks, s: usize) -> usize
+    ensures { result ≡ windows growth.old growth.added s }
 {
-    (s + (m + n - 1)) / (m + n)
+    s.div_ceil(growth.disks())
 }
 
 // The mark of the moving block at the old spot p.
-pub fn mark_of_spot(m: usize, n: usize, p: Spot) -> usize
-    requires grows { Grows m n }
-    requires disk_lt_m { (p.disk < m) × (moves_from m n p ≡ true) }
-    ensures { result ≡ mark_of_spot m n p }
+pub fn mark_of_spot(growth: GrowthDisks, p: Spot) -> usize
+    requires { (p.disk < growth.old) × (moves_from growth.old growth.added p ≡ true) }
+    ensures { result ≡ mark_of_spot growth.old growth.added p }
 {
     let d0 = p.disk;
-    let row = p.row;
-    let b1 = row.0 % (m + n);
-    d0 * n + (b1 - d0)
-}
-
-// The old spot of mark j of window w.
-pub fn spot_of_mark(m: usize, n: usize, w: usize, j: usize) -> Spot
-    requires grows { Grows m n }
-    requires w_le_most_rows { (w ≤ most_rows) × (j < 64) }
-    ensures { result ≡ spot_of_mark m n w j }
-{
-    let d0 = j / n;
-    let b = w * (m + n) + (d0 + j % n);
-    Spot {
-        disk: d0,
-        row: Row(b),
-    }
-}
-
-// Does the row of mark j of window w exist.
-pub fn row_exists(m: usize, n: usize, s: usize, w: usize, j: usize) -> bool
-    requires grows { Grows m n }
-    requires w_le_most_rows { (w ≤ most_rows) × (j < 64) }
-    ensures { result ≡ row_exists m n s w j }
-{
-    let start = w * (m + n);
-    // A mark is at most 63 rows into its window. So far from the end no division is needed.
-    if start + 64 <= s {
-        return true;
-    }
-    start + (j / n + j % n) < s
+    let b1 = growth.row_in_window(p.row);
+    d0 * growth.added + (b1 - d0)
 }
 
 // 1 + 2 + .. + k.
@@ -70,52 +91,35 @@ fn triangle(k: usize) -> usize
     k * (k + 1) / 2
 }
 
-// a - b, or 0 where b is more.
-pub fn excess(a: usize, b: usize) -> usize
-    ensures { result ≡ a - b }
+// The triangle of the rows past k of r rows, 0 where there are none.
+fn triangle_past(r: usize, k: usize) -> usize
+    requires { r ≤ most_disks }
+    ensures { result + result ≡ (r - k) * (r - k + 1) }
 {
-    if a < b {
-        return 0;
-    }
-    a - b
+    triangle(r.saturating_sub(k))
 }
 
 // The moving blocks of a window that is cut off to r rows. Disk d has r - d rows from row d on, triangle(r) in all for
 // the disks below r. Those of disks that are not old, and those past the n rows in which a disk's blocks move, are
 // taken off.
-fn cut_moves(m: usize, n: usize, r: usize) -> usize
-    requires grows { Grows m n }
-    requires r_bound { r < m + n }
-    ensures { result ≡ cut_moves m n r }
+fn cut_moves(growth: GrowthDisks, r: usize) -> usize
+    requires { r < growth.old + growth.added }
+    ensures { result ≡ cut_moves growth.old growth.added r }
 {
-    triangle(r) - triangle(excess(r, m)) - triangle(excess(r, n))
+    triangle(r) - triangle_past(r, growth.old) - triangle_past(r, growth.added)
 }
 
 // The moving blocks of window w of the newest growth.
-pub fn moves_of_window(counts: &[usize; 8], t: usize, s: usize, w: usize) -> usize
-    requires limits { Limits s (history t counts.now) }
-    requires t_nonzero { (0 < t) × (w < windows (old_count (history t counts.now)) (added_count (history t counts.now)) s) }
-    ensures { result ≡ moves_of_window s (history t counts.now) w }
+pub fn moves_of_window(h: History, w: usize) -> usize
+    requires grown { 0 < h.growths }
+    requires window { let all = history h.growths h.counts.now in w < windows (old_count all) (added_count all) h.rows }
+    ensures { result ≡ moves_of_window h.entry.rows (history h.entry.growths h.entry.counts.now) w }
 {
-    let g = newest_growth(counts, t);
-    let m = g.old;
-    let n = g.added;
-    let rest = s - w * (m + n);
-    if m + n <= rest {
-        return m * n;
+    let growth = h.newest_growth();
+    let k = growth.disks();
+    let rest = h.rows - w * k;
+    if k <= rest {
+        return growth.old * growth.added;
     }
-    cut_moves(m, n, rest)
-}
-
-// The moving blocks of the windows after w.
-pub fn later_moves(m: usize, n: usize, s: usize, w: usize) -> usize
-    requires grows { Grows m n }
-    requires s_le_most_rows { s ≤ most_rows }
-    ensures { result ≡ later_moves m n s w }
-{
-    let whole = s / (m + n);
-    if whole <= w {
-        return 0;
-    }
-    (whole - (w + 1)) * (m * n) + cut_moves(m, n, s % (m + n))
+    cut_moves(growth, rest)
 }

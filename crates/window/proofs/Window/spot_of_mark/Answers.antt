@@ -1,8 +1,7 @@
 -- `spot_of_mark` meets its contract.
-use borrow.Author.Rules.{rules}
 use Rattle.layout.specs.Windows.{spot_of_mark}
-use Rattle.window.proofs.spot_of_mark.Goals as goal
+use Rattle.window.proofs.Window.spot_of_mark.Goals as goal
 
 pub returns : goal.returns
 unfolding spot_of_mark
-returns c = search rules
+returns c = rw c.disks.ensures
