@@ -225,9 +225,7 @@ impl GrowthDisks {
         if p.disk < self.old {
             return p;
         }
-        Spot {
-            disk: self.old_disk(p.disk, self.row_in_window(p.row)),
-            row: p.row,
-        }
+        let disk = self.old_disk(p.disk, self.row_in_window(p.row));
+        Spot { disk, row: p.row }
     }
 }

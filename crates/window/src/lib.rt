@@ -70,7 +70,8 @@ impl Window {
 pub fn window_count(growth: GrowthDisks, s: usize) -> usize
     ensures { result ≡ windows growth.old growth.added s }
 {
-    s.div_ceil(growth.disks())
+    let k = growth.disks();
+    s.div_ceil(k)
 }
 
 // The mark of the moving block at the old spot p.

@@ -13,4 +13,4 @@ rounded_up s k h =
 
 pub returns : goal.returns
 unfolding windows
-returns c = rw (c.div_ceil.ensures, c.disks.ensures) (rounded_up _ _ (omega arith))
+returns c = rw (c.div_ceil.ensures, c.disks-k.ensures) (rounded_up _ _ (omega arith))

@@ -1,4 +1,4 @@
--- `address_of` meets its contract. The loop's invariant: spot, reason and moves are those of the block after k growths, and it is there then.
+-- `address_of` meets its contract. The loop's invariant: at, reason and moves are those of the block after k growths, and it is there then.
 use Rattle.std.proofs.Common.{◌≡◌, ◌+◌, ◌<◌, ◌∙◌, arith}
 use Rattle.layout.specs.History.{history}
 use Rattle.layout.specs.Reasons.{reason_of, move_count_of, address_of}
@@ -11,13 +11,13 @@ loop-k-init c =
     let by = c.placed_by-placed.ensures in
     let l = c.args.self.counts.now in (
       by.there,
-      c.placed_at-spot.ensures,
+      c.placed_at-at.ensures,
       c.placed_by-reason.ensures ∙ reason_placed _ _ l _ by.not_before,
       moves_placed _ _ l _ (limits_at _ _ _ l c.args.self.within_limits by.no_later).rise by.not_before,
     )
 
 -- the block is on a disk that is there before the growth
-old_disk : (c : After-growth_after-growth) → c.loop-k.spot.disk < c.growth_after-growth.result.old
+old_disk : (c : After-growth_after-growth) → c.loop-k.at.disk < c.growth_after-growth.result.old
 old_disk c =
     let inv = c.loop-k.invariant in
     rw c.growth_after-growth.ensures.old (turn_disk _ _ _ c.args.self.counts.now c.args.self.within_limits _ _ (omega arith) inv.0 inv.1)
@@ -25,8 +25,8 @@ old_disk c =
 pub old_change-change-requires : goal.old_change-change-requires
 old_change-change-requires c = old_disk (goal.at.old_change-change-requires c).After-growth_after-growth
 
-pub old_block_spot-spot-requires : goal.old_block_spot-spot-requires
-old_block_spot-spot-requires c = old_disk (goal.at.old_block_spot-spot-requires c).After-growth_after-growth
+pub old_block_spot-at-requires : goal.old_block_spot-at-requires
+old_block_spot-at-requires c = old_disk (goal.at.old_block_spot-at-requires c).After-growth_after-growth
 
 pub moves_after-moves-requires : goal.moves_after-moves-requires
 moves_after-moves-requires c =
@@ -51,7 +51,7 @@ loop-k-preserved c =
     let inv = c.loop-k.invariant in
     let g = c.growth_after-growth.ensures in (
       turn_there _ _ _ c.args.self.counts.now c.args.self.within_limits _ c.loop-k-test.true inv.0,
-      spot_next _ _ c.args.self.counts.now _ _ _ inv.0 inv.1 (rw (g.old, g.added) at c.old_block_spot-spot.ensures),
+      spot_next _ _ c.args.self.counts.now _ _ _ inv.0 inv.1 (rw (g.old, g.added) at c.old_block_spot-at.ensures),
       reason_turn (goal.at.loop-k-preserved c).After-after-reason,
       moves_turn (goal.at.loop-k-preserved c).After-moves_after-moves,
     )

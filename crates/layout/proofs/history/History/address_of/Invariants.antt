@@ -6,6 +6,6 @@ use Rattle.layout.proofs.history.History.address_of.Given as goal
 abbrev pub invariant-loop-k : goal.invariant-loop-k
 invariant-loop-k l =
     There l.self.rows l.k l.self.counts.now l.number
-    × (l.spot ≡ spot_of l.self.rows (history l.k l.self.counts.now) l.number)
+    × (l.at ≡ spot_of l.self.rows (history l.k l.self.counts.now) l.number)
     × (l.reason ≡ reason_of l.self.rows (history l.k l.self.counts.now) l.number)
     × (l.moves ≡ move_count_of l.self.rows (history l.k l.self.counts.now) l.number)

@@ -15,8 +15,8 @@ offset_bounds-self-k-2 c = omega (arith, growths_most _ _ c.args.self.counts.now
 pub bounds-self-k-2 : goal.bounds-self-k-2
 bounds-self-k-2 c = omega (arith, growths_most _ _ c.args.self.counts.now c.args.self.within_limits)
 
-pub overflow_sub-result : goal.overflow_sub-result
-overflow_sub-result c = omega (arith, turn_up _ _ _ c.args.self.counts.now c.args.self.within_limits c.requires)
+pub overflow_sub-added : goal.overflow_sub-added
+overflow_sub-added c = omega (arith, turn_up _ _ _ c.args.self.counts.now c.args.self.within_limits c.requires)
 
 pub invariant_of-result : goal.invariant_of-result
 invariant_of-result c = record { within_limits = turn_grows _ _ _ c.args.self.counts.now c.args.self.within_limits c.requires }

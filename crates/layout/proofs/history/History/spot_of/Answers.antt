@@ -8,12 +8,12 @@ loop-k-init c = (c.placed_by-placed.ensures.there, c.placed_at-spot.ensures)
 
 pub old_block_spot-spot-requires : goal.old_block_spot-spot-requires
 old_block_spot-spot-requires c =
-    rw c.growth_after.ensures.old (turn_disk _ _ _ c.args.self.counts.now c.args.self.within_limits _ _ (omega arith) c.loop-k.invariant.0 c.loop-k.invariant.1)
+    rw c.growth_after-growth.ensures.old (turn_disk _ _ _ c.args.self.counts.now c.args.self.within_limits _ _ (omega arith) c.loop-k.invariant.0 c.loop-k.invariant.1)
 
 pub loop-k-preserved : goal.loop-k-preserved
 loop-k-preserved c =
     let inv = c.loop-k.invariant in
-    let g = c.growth_after.ensures in (
+    let g = c.growth_after-growth.ensures in (
       turn_there _ _ _ c.args.self.counts.now c.args.self.within_limits _ c.loop-k-test.true inv.0,
       spot_next _ _ c.args.self.counts.now _ _ _ inv.0 inv.1 (rw (g.old, g.added) at c.old_block_spot-spot.ensures),
     )
