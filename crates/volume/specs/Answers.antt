@@ -1,53 +1,52 @@
 -- Document 01, "Calls": the number and the figures that each case of an answer stands for. "A refusal has 0 for every figure beside its
 -- number"; the number of an accepted call is 0.
-use Rattle.std.specs.Prelude.{ℕ, Bool, true, false, eqb}
+use Rattle.std.specs.Prelude.{ℕ, Bool, true, false, eqb, Result, Ok, Err}
 use Rattle.std.proofs.Math.Option.{Option, none, some}
+use Rattle.base.specs.declared.Refusal.{Refusal}
+use Rattle.base.specs.Refusals.{refusal_number}
+use Rattle.layout.specs.declared.Address.{Address}
+use Rattle.layout.specs.declared.Block.{Block}
 use Rattle.layout.specs.declared.Part.{Part}
 use Rattle.layout.specs.declared.Reason.{Reason}
 use Rattle.layout.specs.declared.Reason.TheVariants.{SetOut, AddedBy, MovedBy}
 use Rattle.layout.specs.declared.Spot.{Spot}
 use Rattle.volume.specs.declared.Advanced.{Advanced}
 use Rattle.volume.specs.declared.Advanced.TheVariants.{Copied, Recorded, Finished}
-use Rattle.volume.specs.declared.Answer.{Answer}
-use Rattle.volume.specs.declared.Answer.TheVariants.{Refused, Done, CallsLeft, Told}
-use Rattle.volume.specs.declared.AddressAnswer.{AddressAnswer}
-use Rattle.volume.specs.declared.AddressAnswer.TheVariants as address
-use Rattle.volume.specs.declared.HolderAnswer.{HolderAnswer}
-use Rattle.volume.specs.declared.HolderAnswer.TheVariants as holder
+use Rattle.volume.specs.declared.Told.{Told}
+use Rattle.volume.specs.declared.Told.TheVariants as told
 
--- of the calls that work on a medium: the number, and the advance calls left
-unfoldable pub number : (a : Answer) → ℕ
-number (Refused k) = k
-number Done = 0
-number (CallsLeft n) = 0
-number (Told did n) = 0
+-- of every call: the number
+unfoldable pub number : {T : Type 0} (a : Result T Refusal) → ℕ
+number (Err r) = refusal_number r
+number (Ok t) = 0
 
-unfoldable pub calls_told : (a : Answer) → ℕ
-calls_told (Refused k) = 0
-calls_told Done = 0
-calls_told (CallsLeft n) = n
-calls_told (Told did n) = n
+-- of the calls that work on a medium: the advance calls left
+unfoldable pub calls_told : (a : Result Told Refusal) → ℕ
+calls_told (Err r) = 0
+calls_told (Ok told.Done) = 0
+calls_told (Ok (told.CallsLeft n)) = n
+calls_told (Ok (told.Advanced did n)) = n
 
 -- whether the call was accepted; the number that it reported, if it was one that reports; whether it told finished
-unfoldable pub accepted : (a : Answer) → Bool
+unfoldable pub accepted : (a : Result Told Refusal) → Bool
 accepted a = eqb (number a) 0
 
-unfoldable pub reported : (a : Answer) → Option ℕ
-reported (Refused k) = none
-reported Done = none
-reported (CallsLeft n) = some n
-reported (Told did n) = some n
+unfoldable pub reported : (a : Result Told Refusal) → Option ℕ
+reported (Err r) = none
+reported (Ok told.Done) = none
+reported (Ok (told.CallsLeft n)) = some n
+reported (Ok (told.Advanced did n)) = some n
 
 unfoldable pub is_finished : (did : Advanced) → Bool
 is_finished (Copied x part) = false
 is_finished Recorded = false
 is_finished Finished = true
 
-unfoldable pub told_finished : (a : Answer) → Bool
-told_finished (Refused k) = false
-told_finished Done = false
-told_finished (CallsLeft n) = false
-told_finished (Told did n) = is_finished did
+unfoldable pub told_finished : (a : Result Told Refusal) → Bool
+told_finished (Err r) = false
+told_finished (Ok told.Done) = false
+told_finished (Ok (told.CallsLeft n)) = false
+told_finished (Ok (told.Advanced did n)) = is_finished did
 
 -- the block that an advance tells as copied, and its part
 unfoldable pub copied_block : (did : Advanced) → ℕ
@@ -60,34 +59,33 @@ copied_part (Copied x part) = some part
 copied_part Recorded = none
 copied_part Finished = none
 
-unfoldable pub block_copied : (a : Answer) → ℕ
-block_copied (Refused k) = 0
-block_copied Done = 0
-block_copied (CallsLeft n) = 0
-block_copied (Told did n) = copied_block did
+unfoldable pub block_copied : (a : Result Told Refusal) → ℕ
+block_copied (Err r) = 0
+block_copied (Ok told.Done) = 0
+block_copied (Ok (told.CallsLeft n)) = 0
+block_copied (Ok (told.Advanced did n)) = copied_block did
 
-unfoldable pub part_copied : (a : Answer) → Option Part
-part_copied (Refused k) = none
-part_copied Done = none
-part_copied (CallsLeft n) = none
-part_copied (Told did n) = copied_part did
+unfoldable pub part_copied : (a : Result Told Refusal) → Option Part
+part_copied (Err r) = none
+part_copied (Ok told.Done) = none
+part_copied (Ok (told.CallsLeft n)) = none
+part_copied (Ok (told.Advanced did n)) = copied_part did
 
 -- of address: the number, the spot, why the block is there, and by how many growths it was moved
-unfoldable pub address_number : (a : AddressAnswer) → ℕ
-address_number (address.Refused k) = k
-address_number (address.At p reason moves) = 0
+abbrev pub address_number : (a : Result Address Refusal) → ℕ
+address_number a = number a
 
-unfoldable pub spot_told : (a : AddressAnswer) → Spot
-spot_told (address.Refused k) = record { disk = 0; row = record { 0 = 0 } }
-spot_told (address.At p reason moves) = p
+unfoldable pub spot_told : (a : Result Address Refusal) → Spot
+spot_told (Err r) = record { disk = 0; row = record { 0 = 0 } }
+spot_told (Ok found) = found.spot
 
-unfoldable pub reason_told : (a : AddressAnswer) → Reason
-reason_told (address.Refused k) = SetOut
-reason_told (address.At p reason moves) = reason
+unfoldable pub reason_told : (a : Result Address Refusal) → Reason
+reason_told (Err r) = SetOut
+reason_told (Ok found) = found.reason
 
-unfoldable pub moves_told : (a : AddressAnswer) → ℕ
-moves_told (address.Refused k) = 0
-moves_told (address.At p reason moves) = moves
+unfoldable pub moves_told : (a : Result Address Refusal) → ℕ
+moves_told (Err r) = 0
+moves_told (Ok found) = found.moves
 
 -- the part of a block that was moved
 unfoldable pub part_told : (r : Reason) → Option Part
@@ -96,10 +94,9 @@ part_told (AddedBy k) = none
 part_told (MovedBy k part) = some part
 
 -- of holder: the number, and the block
-unfoldable pub holder_number : (a : HolderAnswer) → ℕ
-holder_number (holder.Refused k) = k
-holder_number (holder.Has x) = 0
+abbrev pub holder_number : (a : Result Block Refusal) → ℕ
+holder_number a = number a
 
-unfoldable pub block_told : (a : HolderAnswer) → ℕ
-block_told (holder.Refused k) = 0
-block_told (holder.Has x) = x.0
+unfoldable pub block_told : (a : Result Block Refusal) → ℕ
+block_told (Err r) = 0
+block_told (Ok x) = x.0

@@ -1,58 +1,57 @@
 -- Document 01, "Calls" and "Looking up spots", and document 02, W4 and W7: for each call the table of its refusals, in the order written, and its
 -- effect where none holds: what it hands back, stores and shows. Calls see a medium through its observations.
-use Rattle.std.specs.Prelude.{ℕ, ◌*◌, Bool, true, false, cond, not, ◌&&◌, List, [], ◌∷◌, ◌++◌, eqb, leb, ltb, length}
+use Rattle.std.specs.Prelude.{ℕ, ◌*◌, Bool, true, false, cond, not, ◌&&◌, List, [], ◌∷◌, ◌++◌, eqb, leb, ltb, length, Result, Ok, Err}
 use Rattle.std.proofs.Math.Option.{Option, none, some}
-use Rattle.base.specs.Refusals.{refusal}
+use Rattle.base.specs.declared.Refusal.{Refusal}
+use Rattle.base.specs.Refusals.{refusal, refusal_with}
+use Rattle.layout.specs.declared.Address.{Address}
+use Rattle.layout.specs.declared.Block.{Block}
 use Rattle.layout.specs.declared.Spot.{Spot}
 use Rattle.layout.specs.Limits.{most_disks, most_growths}
-use Rattle.layout.specs.Tally.{open_blocks, live_spot_of, live_block_of, live_reason_of, live_move_count_of, waiting, calls_left_of, moves_now, source_of, target_of, next_block}
+use Rattle.layout.specs.Tally.{open_blocks, live_spot_of, live_block_of, live_address_of, waiting, calls_left_of, moves_now, source_of, target_of, next_block}
 use Rattle.layout.specs.Windows.{part_moved}
 use Rattle.medium.specs.declared.Geometry.{Geometry}
 use Rattle.medium.specs.Medium.{record_bytes, bytes_needed, Observations, Store, no_store, record_store, block_store}
 use Rattle.volume.specs.declared.Volume.{Volume}
 use Rattle.volume.specs.declared.Advanced.{Advanced}
 use Rattle.volume.specs.declared.Advanced.TheVariants.{Copied, Recorded, Finished}
-use Rattle.volume.specs.declared.Answer.TheVariants.{Refused, Done, CallsLeft, Told}
 use Rattle.volume.specs.declared.Reply.{Reply}
-use Rattle.volume.specs.declared.SpotFound.{SpotFound}
-use Rattle.volume.specs.declared.AddressAnswer.TheVariants as address
-use Rattle.volume.specs.declared.AddressReply.{AddressReply}
-use Rattle.volume.specs.declared.HolderAnswer.TheVariants as holder
-use Rattle.volume.specs.declared.HolderReply.{HolderReply}
+use Rattle.volume.specs.declared.Told.{Told}
+use Rattle.volume.specs.declared.Told.TheVariants as told
 use Rattle.volume.specs.States.{geometry, history_of, disks, tally_of, none_pending, new_state, with_pending, after_store, zeros, grown, with_copy, checkpointed}
 use Rattle.volume.specs.Sound.{size_holds, rows_hold, disks_hold, sound}
 use Rattle.volume.specs.Records.{record_of, state_read, is_sound_record}
 
 -- What a call hands back (the next state beside the answer), its store, and what its piece then holds.
 pub record Outcome : Type 0 where
-  pub reply : Reply
+  pub reply : Reply Told
   pub store : Store
   pub piece : List ℕ
 
 -- "state handed back unchanged", or of zeros; nothing stored, the piece as it was
 unfoldable pub refused : (v : Volume) (k : ℕ) (piece : List ℕ) → Outcome
-refused v k piece = record { reply = record { state = v; answer = Refused k }; store = no_store; piece = piece }
+refused v k piece = record { reply = record { state = v; answer = Err (refusal_with k) }; store = no_store; piece = piece }
 
 -- an accepted call: its store is pending in the state that it hands back. One that reports nothing; one that reports the advance calls left;
 -- one that also tells what an advance did
 unfoldable pub doing : (v : Volume) (store : Store) (piece : List ℕ) → Outcome
-doing v store piece = record { reply = record { state = after_store v store; answer = Done }; store = store; piece = piece }
+doing v store piece = record { reply = record { state = after_store v store; answer = Ok told.Done }; store = store; piece = piece }
 
 unfoldable pub reporting : (v : Volume) (store : Store) → Outcome
 reporting v store =
-    record { reply = record { state = after_store v store; answer = CallsLeft (calls_left_of (tally_of v)) }; store = store; piece = [] }
+    record { reply = record { state = after_store v store; answer = Ok (told.CallsLeft (calls_left_of (tally_of v))) }; store = store; piece = [] }
 
 unfoldable pub telling : (v : Volume) (did : Advanced) (store : Store) → Outcome
 telling v did store =
-    record { reply = record { state = after_store v store; answer = Told did (calls_left_of (tally_of v)) }; store = store; piece = [] }
+    record { reply = record { state = after_store v store; answer = Ok (told.Advanced did (calls_left_of (tally_of v))) }; store = store; piece = [] }
 
 -- refused by its table, with the number, or accepted
 abbrev pub judged : {A : Type 0} (table : List (ℕ × Bool)) (refusing : ℕ → A) (accepted : A) → A
 judged table refusing accepted = cond (eqb (refusal table) 0) accepted (refusing (refusal table))
 
--- a refusal, or the spot that a call works on and a mark, as the code answers it
-unfoldable pub found_at : (k : ℕ) (p : Spot) (j : ℕ) → SpotFound
-found_at k p j = record { refusal = k; spot = cond (eqb k 0) p (record { disk = 0; row = record { 0 = 0 } }); mark = cond (eqb k 0) j 0 }
+-- what the code finds for a call, such as the spot that it works on, where its table gives k: that, or the refusal of this number
+unfoldable pub found_at : {A : Type 0} (k : ℕ) (found : A) → Result A Refusal
+found_at k found = cond (eqb k 0) (Ok found) (Err (refusal_with k))
 
 -- "2: medium too short for the record and N[t] disks"
 unfoldable pub too_short : (g : Geometry) (n byte_count : ℕ) → Bool
@@ -255,10 +254,10 @@ advance_outcome v o = judged (advance_table v o.byte_count) (λ k. refused v k [
 unfoldable pub address_table : (v : Volume) (x : ℕ) → List (ℕ × Bool)
 address_table v x = (1, not (sound v)) ∷ (3, leb (open_blocks (tally_of v)) x) ∷ []
 
-unfoldable pub address_reply : (v : Volume) (x : ℕ) → AddressReply
+unfoldable pub address_reply : (v : Volume) (x : ℕ) → Reply Address
 address_reply v x =
-    judged (address_table v x) (λ k. record { state = v; answer = address.Refused k })
-    (record { state = v; answer = address.At (live_spot_of (tally_of v) x) (live_reason_of (tally_of v) x) (live_move_count_of (tally_of v) x) })
+    judged (address_table v x) (λ k. record { state = v; answer = Err (refusal_with k) })
+    (record { state = v; answer = Ok (live_address_of (tally_of v) x) })
 
 -- ---- "Holder of (d, b): 1; 14, d ≥ N[t] or b ≥ s; 15, no open block lives there. It gives the block."
 
@@ -274,7 +273,7 @@ holder_table v p =
     ∷ (15, is_none (live_block_of (tally_of v) p))
     ∷ []
 
-unfoldable pub holder_reply : (v : Volume) (p : Spot) → HolderReply
+unfoldable pub holder_reply : (v : Volume) (p : Spot) → Reply Block
 holder_reply v p =
-    judged (holder_table v p) (λ k. record { state = v; answer = holder.Refused k })
-    (record { state = v; answer = holder.Has (record { 0 = block_found (live_block_of (tally_of v) p) }) })
+    judged (holder_table v p) (λ k. record { state = v; answer = Err (refusal_with k) })
+    (record { state = v; answer = Ok (record { 0 = block_found (live_block_of (tally_of v) p) }) })

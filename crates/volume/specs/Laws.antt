@@ -1,5 +1,5 @@
 -- What is proved of states, records and calls: `VolumeLaws`. `proofs/Theorems.antt` has the proof.
-use Rattle.std.specs.Prelude.{ℕ, ◌*◌, ◌%◌, ◌≤◌, ◌<◌, ◌^◌, ◌≡◌, Bool, true, false, List, [], ◌≢◌, ◌⊎◌, length, get_or}
+use Rattle.std.specs.Prelude.{ℕ, ◌*◌, ◌%◌, ◌≤◌, ◌<◌, ◌^◌, ◌≡◌, Bool, true, false, List, [], ◌≢◌, ◌⊎◌, length, get_or, Ok}
 use Rattle.std.proofs.Math.Option.{none, some}
 use Rattle.base.specs.Refusals.{refusal}
 use Rattle.layout.specs.declared.Block.{Block}
@@ -17,8 +17,8 @@ use Rattle.marks.specs.Words.{marks_of}
 use Rattle.medium.specs.declared.Geometry.{Geometry}
 use Rattle.medium.specs.Medium.{record_bytes, most_size, bytes_needed, Observations, observe, no_store, StoreFits}
 use Rattle.volume.specs.declared.Advanced.TheVariants.{Copied}
-use Rattle.volume.specs.declared.Answer.TheVariants.{Told}
 use Rattle.volume.specs.declared.Pending.{Pending}
+use Rattle.volume.specs.declared.Told.TheVariants as told
 use Rattle.volume.specs.declared.Volume.{Volume}
 use Rattle.volume.specs.Answers.{number, calls_told, block_copied, part_copied, address_number, spot_told, reason_told, moves_told, part_told, holder_number, block_told}
 use Rattle.volume.specs.Calls.{Outcome, format_table, format_outcome, restart_table, restart_outcome, sector_table, sector_outcome, grow_table_of, grow_table, grow_beyond_doubling_table, grow_outcome_of, grow_outcome, grow_beyond_doubling_outcome, write_table, write_outcome, read_table, read_outcome, copy_table, copy_outcome, nothing_to_record, checkpoint_table, checkpoint_outcome, advance_table, advance_outcome, flushed_table, flushed_outcome, address_table, address_reply, holder_table, holder_reply}
@@ -185,9 +185,9 @@ pub record VolumeLaws : Type 0 where
   -- the parts that advance tells, in cases
   pub parts_told : PartsTold
   -- the part that advance tells of a block is the part that address tells once the copy is recorded, and the next checkpoint records it
-  pub part_told_law : (v u : Volume) (o : Observations) (x : Block) (part : Part) (n : ℕ) → (advance_outcome v o).reply.answer ≡ Told (Copied x part) n
+  pub part_told_law : (v u : Volume) (o : Observations) (x : Block) (part : Part) (n : ℕ) → (advance_outcome v o).reply.answer ≡ Ok (told.Advanced (Copied x part) n)
       → RecordsCopy v u x.0 → reason_told (address_reply u x.0).answer ≡ MovedBy v.growths part
-  pub part_recorded : (v : Volume) (o : Observations) (x : Block) (part : Part) (n : ℕ) → (advance_outcome v o).reply.answer ≡ Told (Copied x part) n
+  pub part_recorded : (v : Volume) (o : Observations) (x : Block) (part : Part) (n : ℕ) → (advance_outcome v o).reply.answer ≡ Ok (told.Advanced (Copied x part) n)
       → RecordsCopy v (checkpointed (with_copy v x.0)) x.0
   -- the reason that address tells is true of the growths that made the live spot
   pub address_reason : (v : Volume) (x : ℕ) → address_number (address_reply v x).answer ≡ 0

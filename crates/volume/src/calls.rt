@@ -1,132 +1,124 @@
 // The calls that work on a medium.
-ghost use Rattle.std.specs.Prelude.{◌*◌, ◌≡◌, true, ◌&&◌, ltb};
-ghost use Rattle.base.specs.Refusals.{refusal};
-ghost use Rattle.layout.specs.Tally.{live_spot_of};
+ghost use Rattle.std.specs.Prelude.{◌*◌, ◌≡◌, true, ◌&&◌, ltb, Ok, Err};
+ghost use Rattle.base.specs.Refusals.{refusal, checked};
+ghost use Rattle.layout.specs.Tally.{live_spot_of, calls_left_of};
 ghost use Rattle.medium.specs.Medium.{observe, apply};
 ghost use Rattle.volume.specs.Calls.{found_at, format_table, format_outcome, restart_outcome, sector_outcome, grow_table_of, grow_outcome_of, grow_outcome, grow_beyond_doubling_outcome, write_table, write_outcome, read_table, read_outcome};
 ghost use Rattle.volume.specs.Sound.{sound};
 ghost use Rattle.volume.specs.States.{geometry, disks, tally_of};
+ghost use Rattle.volume.specs.declared.Told.TheVariants.{CallsLeft};
 
 use super::sound::{disks_hold, rows_hold, size_holds};
-use super::{Answer, Reply, SpotFound, Volume};
-use layout::{Block, Row, Spot};
+use super::{Reply, Told, Volume};
+use base::Refusal;
+use layout::{Block, Spot};
 use medium::Geometry;
 
-// Refusal k, and no spot.
-pub fn no_spot(k: usize) -> SpotFound
-    ensures { result ≡ record { refusal = k; spot = record { disk = 0; row = record { 0 = 0 } }; mark = 0 } }
-{
-    let spot = Spot {
-        disk: 0,
-        row: Row(0),
-    };
-    SpotFound {
-        refusal: k,
-        spot,
-        mark: 0,
-    }
-}
-
 impl Volume {
-    // Refusal k, with the state as it is.
-    pub(crate) fn refuse(self, k: usize) -> Reply
-        ensures { result ≡ record { state = self; answer = Answer.Refused k } }
+    // The refusal, with the state as it is.
+    pub(crate) fn refuse<T>(self, refusal: Refusal) -> Reply<T>
+        ensures { result ≡ record { state = self; answer = Err refusal } }
     {
         Reply {
             state: self,
-            answer: Answer::Refused(k),
+            answer: Err(refusal),
         }
     }
 
-    // The state with so many advance calls left.
-    pub(crate) fn report(self, left: usize) -> Reply
-        ensures { result ≡ record { state = self; answer = Answer.CallsLeft left } }
+    // The state with what was asked for.
+    pub(crate) fn accept<T>(self, value: T) -> Reply<T>
+        ensures { result ≡ record { state = self; answer = Ok value } }
     {
         Reply {
             state: self,
-            answer: Answer::CallsLeft(left),
+            answer: Ok(value),
         }
     }
 
-    pub(crate) fn format_refusal(size: usize, rows: usize, disks: usize, len: usize) -> usize
-        ensures { result ≡ refusal (format_table size rows disks len) }
+    // The state with the number of advance calls left.
+    pub(crate) fn report(self) -> Reply<Told>
+        requires { sound self ≡ true }
+        ensures { result ≡ record { state = self; answer = Ok (CallsLeft (calls_left_of (tally_of self))) } }
+    {
+        self.accept(Told::CallsLeft(self.calls_left()))
+    }
+
+    pub(crate) fn check_format(
+        size: usize,
+        rows: usize,
+        disks: usize,
+        len: usize,
+    ) -> Result<(), Refusal>
+        ensures { result ≡ checked (refusal (format_table size rows disks len)) }
     {
         if !size_holds(size) {
-            return 8;
+            return Err(Refusal::OutsideLimits);
         }
         if !rows_hold(rows) {
-            return 8;
+            return Err(Refusal::OutsideLimits);
         }
         if !disks_hold(disks) {
-            return 8;
+            return Err(Refusal::OutsideLimits);
         }
         let g = Geometry { size, rows };
         if len < medium::bytes_needed(g, disks) {
-            return 2;
+            return Err(Refusal::MediumTooShort);
         }
-        0
+        Ok(())
     }
 
     // Makes a volume of so many disks on the lent medium.
-    pub fn format(medium: &mut [u8], size: usize, rows: usize, disks: usize) -> Reply
+    pub fn format(medium: &mut [u8], size: usize, rows: usize, disks: usize) -> Reply<Told>
         ensures value { result ≡ (format_outcome size rows disks (observe medium.old)).reply }
         ensures medium_after { medium.new ≡ apply (geometry result.state) (format_outcome size rows disks (observe medium.old)).store medium.old }
     {
-        let k = Volume::format_refusal(size, rows, disks, medium.len());
-        if k != 0 {
-            return Volume::zeros().refuse(k);
+        if let Err(refusal) = Volume::check_format(size, rows, disks, medium.len()) {
+            return Volume::zeros().refuse(refusal);
         }
         let fresh = Volume::new_state(size, rows, disks);
         fresh.store_record(medium);
-        let formatted = fresh.after_record();
-        Reply {
-            state: formatted,
-            answer: Answer::Done,
-        }
+        fresh.after_record().accept(Told::Done)
     }
 
     // The state of a record sector that stands alone: restart, but that no disks need to be there.
-    pub fn from_sector(sector: &[u8]) -> Reply
+    pub fn from_sector(sector: &[u8]) -> Reply<Told>
         ensures { result ≡ (sector_outcome (observe sector.now)).reply }
     {
         if sector.len() < 512 {
-            return Volume::zeros().refuse(2);
+            return Volume::zeros().refuse(Refusal::MediumTooShort);
         }
         let found = record::read_record(&sector[0..512]);
         if found.refusal != 0 {
-            return Volume::zeros().refuse(13);
+            return Volume::zeros().refuse(Refusal::NoRecord);
         }
         let numbers = found.numbers;
         let marks = found.marks;
         let v = Volume::from_record(numbers, marks);
         if !v.is_sound() {
-            return Volume::zeros().refuse(13);
+            return Volume::zeros().refuse(Refusal::NoRecord);
         }
-        let counts = v.counts;
-        let left = marks::calls_left(&counts, v.growths, v.rows, v.growing, v.window, v.copied);
-        v.report(left)
+        v.report()
     }
 
     // Takes the state from the record, after a power cut or at any time.
-    pub fn restart(medium: &[u8]) -> Reply
+    pub fn restart(medium: &[u8]) -> Reply<Told>
         ensures { result ≡ (restart_outcome (observe medium.now)).reply }
     {
         let reply = Volume::from_sector(medium);
-        let answer = reply.answer;
-        if let Answer::Refused(_) = answer {
+        if let Err(_) = reply.answer {
             return reply;
         }
         let v = reply.state;
         if v.is_short(v.disk_count(), medium.len()) {
-            return Volume::zeros().refuse(2);
+            return Volume::zeros().refuse(Refusal::MediumTooShort);
         }
         reply
     }
 
     // Document 02, W7: does the count exceed twice N[t], where a growth is limited to doubling?
-    pub(crate) fn is_beyond_doubling(self, limited: bool, count: usize) -> bool
-        requires { sound self ≡ true }
-        ensures { result ≡ (limited && ltb (2 * disks self) count) }
+    pub(crate) fn is_beyond_doubling(&self, limited: bool, count: usize) -> bool
+        requires { sound self.now ≡ true }
+        ensures { result ≡ (limited && ltb (2 * disks self.now) count) }
     {
         if !limited {
             return false;
@@ -134,35 +126,35 @@ impl Volume {
         2 * self.disk_count() < count
     }
 
-    pub(crate) fn grow_refusal(self, limited: bool, count: usize, len: usize) -> usize
-        ensures { result ≡ refusal (grow_table_of limited self count len) }
+    pub(crate) fn check_grow(&self, limited: bool, count: usize, len: usize) -> Result<(), Refusal>
+        ensures { result ≡ checked (refusal (grow_table_of limited self.now count len)) }
     {
         if !self.is_sound() {
-            return 1;
+            return Err(Refusal::NotSound);
         }
         if self.growing != 0 {
-            return 6;
+            return Err(Refusal::Growing);
         }
         if self.growths == Volume::MOST_GROWTHS {
-            return 9;
+            return Err(Refusal::NoMoreGrowths);
         }
         if count <= self.disk_count() {
-            return 8;
+            return Err(Refusal::OutsideLimits);
         }
         if Volume::MOST_DISKS < count {
-            return 8;
+            return Err(Refusal::OutsideLimits);
         }
         if self.is_beyond_doubling(limited, count) {
-            return 20;
+            return Err(Refusal::BeyondDoubling);
         }
         if self.is_short(count, len) {
-            return 2;
+            return Err(Refusal::MediumTooShort);
         }
-        self.record_refusal()
+        self.check_record_store()
     }
 
     // Starts a growth to so many disks, at most twice as many as there are.
-    pub fn grow(self, medium: &mut [u8], count: usize) -> Reply
+    pub fn grow(self, medium: &mut [u8], count: usize) -> Reply<Told>
         ensures value { result ≡ (grow_outcome self count (observe medium.old)).reply }
         ensures medium_after { medium.new ≡ apply (geometry self) (grow_outcome self count (observe medium.old)).store medium.old }
     {
@@ -170,7 +162,7 @@ impl Volume {
     }
 
     // Document 02, W7, "the one without 20": starts a growth to so many disks.
-    pub fn grow_beyond_doubling(self, medium: &mut [u8], count: usize) -> Reply
+    pub fn grow_beyond_doubling(self, medium: &mut [u8], count: usize) -> Reply<Told>
         ensures value { result ≡ (grow_beyond_doubling_outcome self count (observe medium.old)).reply }
         ensures medium_after { medium.new ≡ apply (geometry self) (grow_beyond_doubling_outcome self count (observe medium.old)).store medium.old }
     {
@@ -178,112 +170,77 @@ impl Volume {
     }
 
     // Either grow, limited to doubling or not.
-    pub(crate) fn start_growth(self, medium: &mut [u8], limited: bool, count: usize) -> Reply
+    pub(crate) fn start_growth(self, medium: &mut [u8], limited: bool, count: usize) -> Reply<Told>
         ensures value { result ≡ (grow_outcome_of limited self count (observe medium.old)).reply }
         ensures medium_after { medium.new ≡ apply (geometry self) (grow_outcome_of limited self count (observe medium.old)).store medium.old }
     {
-        let k = self.grow_refusal(limited, count, medium.len());
-        if k != 0 {
-            return self.refuse(k);
+        if let Err(refusal) = self.check_grow(limited, count, medium.len()) {
+            return self.refuse(refusal);
         }
         let v = self.grown(count);
         v.store_record(medium);
-        let counts = v.counts;
-        let left = marks::calls_left(&counts, v.growths, v.rows, v.growing, v.window, v.copied);
-        let after = v.after_record();
-        after.report(left)
+        v.after_record().report()
     }
 
-    pub(crate) fn read_refusal(
-        self,
-        counts: &[usize; 8],
-        x: Block,
-        piece: usize,
-        len: usize,
-    ) -> usize
-        requires { counts.now ≡ self.counts }
-        ensures { result ≡ refusal (read_table self x.0 piece len) }
+    pub(crate) fn check_read(&self, x: Block, piece: usize, len: usize) -> Result<(), Refusal>
+        ensures { result ≡ checked (refusal (read_table self.now x.0 piece len)) }
     {
-        if !self.is_sound_by(counts) {
-            return 1;
+        if !self.is_sound() {
+            return Err(Refusal::NotSound);
         }
-        if self.is_short(self.disk_count_by(counts), len) {
-            return 2;
+        if self.is_short(self.disk_count(), len) {
+            return Err(Refusal::MediumTooShort);
         }
-        let blocks = self.open_blocks_by(counts);
+        let blocks = self.open_blocks();
         if blocks <= x.0 {
-            return 3;
+            return Err(Refusal::BlockNotOpen);
         }
         if piece != self.size {
-            return 4;
+            return Err(Refusal::PieceSize);
         }
-        0
+        Ok(())
     }
 
-    // The live spot of block x, which a piece is saved to, or the refusal.
-    pub(crate) fn write_spot(self, x: Block, piece: usize, len: usize) -> SpotFound
-        ensures { result ≡ found_at (refusal (write_table self x.0 piece len)) (live_spot_of (tally_of self) x.0) 0 }
+    // The live spot of block x, which a piece is saved to.
+    pub(crate) fn write_spot(&self, x: Block, piece: usize, len: usize) -> Result<Spot, Refusal>
+        ensures { result ≡ found_at (refusal (write_table self.now x.0 piece len)) (live_spot_of (tally_of self.now) x.0) }
     {
-        let counts = self.counts;
-        let k = self.read_refusal(&counts, x, piece, len);
-        if k != 0 {
-            return no_spot(k);
-        }
-        let t = self.growths;
-        let s = self.rows;
-        let growing = self.growing;
-        let w = self.window;
-        let old = layout::spot_of(&counts, t - growing, s, x);
-        if growing != 0 {
-            let g = layout::newest_growth(&counts, t);
-            if marks::is_waiting(g.old, g.added, w, self.recorded, self.copied, old) {
-                return no_spot(7);
+        self.check_read(x, piece, len)?;
+        let old = self.old_spot(x);
+        if self.growing != 0 {
+            let g = layout::newest_growth(&self.counts, self.growths);
+            if marks::is_waiting(g.old, g.added, self.window, self.recorded, self.copied, old) {
+                return Err(Refusal::CopyNotRecorded);
             }
         }
-        let spot = marks::live_spot(&counts, t, s, growing, w, self.recorded, x, old);
-        self.block_spot(spot, 0)
+        self.check_block_store()?;
+        Ok(self.live_spot_from(x, old))
     }
 
     // Saves a piece as block x.
-    pub fn write(self, medium: &mut [u8], x: Block, piece: &[u8]) -> Reply
+    pub fn write(self, medium: &mut [u8], x: Block, piece: &[u8]) -> Reply<Told>
         ensures value { result ≡ (write_outcome self x.0 piece.now (observe medium.old)).reply }
         ensures medium_after { medium.new ≡ apply (geometry self) (write_outcome self x.0 piece.now (observe medium.old)).store medium.old }
     {
-        let target = self.write_spot(x, piece.len(), medium.len());
-        if target.refusal != 0 {
-            return self.refuse(target.refusal);
-        }
-        let p = target.spot;
-        let g = self.geometry();
-        medium::store_block(medium, g, p, piece);
-        let after = self.after_block();
-        Reply {
-            state: after,
-            answer: Answer::Done,
+        match self.write_spot(x, piece.len(), medium.len()) {
+            Err(refusal) => self.refuse(refusal),
+            Ok(p) => {
+                medium::store_block(medium, self.geometry(), p, piece);
+                self.after_block().accept(Told::Done)
+            }
         }
     }
 
     // Fills a piece with block x.
-    pub fn read(self, medium: &[u8], x: Block, piece: &mut [u8]) -> Reply
+    pub fn read(self, medium: &[u8], x: Block, piece: &mut [u8]) -> Reply<Told>
         ensures value { result ≡ (read_outcome self x.0 piece.old (observe medium.now)).reply }
         ensures piece_after { piece.new ≡ (read_outcome self x.0 piece.old (observe medium.now)).piece }
     {
-        let counts = self.counts;
-        let k = self.read_refusal(&counts, x, piece.len(), medium.len());
-        if k != 0 {
-            return self.refuse(k);
+        if let Err(refusal) = self.check_read(x, piece.len(), medium.len()) {
+            return self.refuse(refusal);
         }
-        let t = self.growths;
-        let s = self.rows;
-        let growing = self.growing;
-        let w = self.window;
-        let old = layout::spot_of(&counts, t - growing, s, x);
-        let p = marks::live_spot(&counts, t, s, growing, w, self.recorded, x, old);
-        let g = self.geometry();
-        medium::fetch_block(medium, g, p, piece);
-        Reply {
-            state: self,
-            answer: Answer::Done,
-        }
+        let p = self.live_spot(x);
+        medium::fetch_block(medium, self.geometry(), p, piece);
+        self.accept(Told::Done)
     }
 }

@@ -1,9 +1,10 @@
 // The growing striped volume: its state by value, and as its methods the calls of document 01 and, of document 02,
-// `flushed` and the grow without 20. Each call takes the state and hands the next one back, beside the answer.
+// `flushed` and the grow without 20. Each call takes the state and hands the next one back, beside the answer: what was
+// asked for, or the refusal.
 //
 // The calls, `is_sound`, `disk_count`, `zeros` and the limits are offered to others and take any input. What has a
 // `requires` is not offered to others: it is seen in this crate alone, but for what crates above need: `open_blocks` and
-// `live_spot`, by which many blocks are addressed after one test of soundness, and `is_sound_by` and `open_blocks_by`.
+// `live_spot`, by which many blocks are addressed after one test of soundness.
 #![tactic(auto)]
 
 mod calls;
@@ -14,7 +15,8 @@ mod lookup;
 mod sound;
 mod state;
 
-use layout::{Block, Part, Reason, Spot};
+use base::Refusal;
+use layout::{Block, Part, Spot};
 
 // Which stores may not be down: that of a record, and those of blocks. It is kept in memory, never in the record.
 #[derive(Clone, Copy)]
@@ -47,53 +49,25 @@ pub enum Advanced {
     Finished,
 }
 
-// The answer of a call on a medium: refused with a number, done, done with so many advance calls left, or what an
-// advance did with so many advance calls left.
+// What an accepted call on a medium tells: that it is done, that so many advance calls are left, or what an advance did
+// with so many advance calls left.
 #[derive(Clone, Copy)]
-pub enum Answer {
-    Refused(usize),
+pub enum Told {
     Done,
     CallsLeft(usize),
-    Told(Advanced, usize),
+    Advanced(Advanced, usize),
 }
 
+// What a call hands back.
 #[derive(Clone, Copy)]
-pub struct Reply {
+pub struct Reply<T> {
     pub state: Volume,
-    pub answer: Answer,
+    pub answer: Result<T, Refusal>,
 }
 
-// A refusal, or 0 and the spot that a call works on, for copy with the mark of its block.
+// The spot that a block is copied from, with the mark of the block.
 #[derive(Clone, Copy)]
-struct SpotFound {
-    refusal: usize,
+struct MarkedSpot {
     spot: Spot,
     mark: usize,
-}
-
-// The answer of address: refused with a number, or the live spot, why the block is there, and by how many growths it
-// was moved.
-#[derive(Clone, Copy)]
-pub enum AddressAnswer {
-    Refused(usize),
-    At(Spot, Reason, usize),
-}
-
-#[derive(Clone, Copy)]
-pub struct AddressReply {
-    pub state: Volume,
-    pub answer: AddressAnswer,
-}
-
-// The answer of holder: refused with a number, or the block that lives at the spot.
-#[derive(Clone, Copy)]
-pub enum HolderAnswer {
-    Refused(usize),
-    Has(Block),
-}
-
-#[derive(Clone, Copy)]
-pub struct HolderReply {
-    pub state: Volume,
-    pub answer: HolderAnswer,
 }

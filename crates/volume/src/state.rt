@@ -66,17 +66,14 @@ impl Volume {
     ) -> Volume
         ensures { result ≡ with_growth self t counts growing w recorded copied }
     {
-        let pending = self.pending;
         Volume {
-            size: self.size,
-            rows: self.rows,
             growths: t,
             counts,
             growing,
             window: w,
             recorded,
             copied,
-            pending,
+            ..self
         }
     }
 
@@ -92,9 +89,9 @@ impl Volume {
     }
 
     // Stores the record.
-    pub(crate) fn store_record(self, medium: &mut [u8])
+    pub(crate) fn store_record(&self, medium: &mut [u8])
         requires { 512 ≤ length medium.old }
-        ensures { medium.new ≡ apply (geometry self) (record_store (record_of self)) medium.old }
+        ensures { medium.new ≡ apply (geometry self.now) (record_store (record_of self.now)) medium.old }
     {
         let c = self.counts;
         let numbers = [

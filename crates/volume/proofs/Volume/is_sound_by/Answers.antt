@@ -1,9 +1,0 @@
--- `is_sound_by` meets its contract.
-use mathlib.Core.Path.{◌∙◌}
-use Rattle.volume.specs.States.{none_pending, with_pending}
-use Rattle.volume.proofs.StatesSound.{pending_sound}
-use Rattle.volume.proofs.Volume.is_sound_by.Goals as goal
-
-pub returns : goal.returns
-unfolding with_pending
-returns c = rw c.requires at c.are_sound.ensures ∙ pending_sound c.args.self none_pending
