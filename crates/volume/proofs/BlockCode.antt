@@ -1,21 +1,21 @@
 -- What the code of read and write needs.
 use Prim.Native.Nat.{ℕ, ◌≤◌, ◌<◌}
-use mathlib.Core.Path.{◌≡◌, refl, ◌∙◌}
-use mathlib.Core.Bool.{Bool, true, false, cond, not}
-use mathlib.Core.Logic.{◌≢◌}
+use mathlib.Core.Path.{◌≡◌, refl}
+use mathlib.Core.Bool.{cond}
+use mathlib.Core.List.{◌∷◌}
 use native.Mathlib.Omega.{arith}
-use lib.Dec.{eqb, leb}
+use Rattle.base.specs.declared.Refusal.{Refusal}
 use Rattle.base.specs.Refusals.{refusal}
+use Rattle.base.proofs.Refusals.{passed_first}
 use Rattle.layout.specs.declared.Spot.{Spot}
 use Rattle.layout.specs.Tally.{open_blocks, live_spot_of, waiting}
 use Rattle.medium.specs.declared.Geometry.{Geometry}
 use Rattle.medium.specs.Medium.{most_size, Inside}
 use Rattle.volume.specs.declared.Volume.{Volume}
-use Rattle.volume.specs.Calls.{judged, too_short, read_table, block_rows, write_table}
-use Rattle.volume.specs.Sound.{sound}
-use Rattle.volume.specs.States.{geometry, disks, tally_of}
+use Rattle.volume.specs.Calls.{piece_table, read_table, block_rows, write_table}
+use Rattle.volume.specs.States.{geometry, tally_of}
 use Rattle.volume.proofs.Accepted.{ReadFacts}
-use Rattle.volume.proofs.Judged.{refused_when, accepted_when}
+use Rattle.volume.proofs.Judged.{Tells, tells_before}
 use Rattle.volume.proofs.LookUpLaws.{live_inside}
 use Rattle.volume.proofs.SoundLaws.{sound_facts}
 
@@ -32,27 +32,11 @@ piece_fits v x n len f g same p e =
 
 -- the table of a write is that of a read, and more tests
 module _ (v : Volume) (x n len : ℕ) where
-  abbrev tests_left : ℕ
-  tests_left = cond (waiting (tally_of v) x) 7 (refusal (block_rows v))
+  pub refused_as_read : (r : Refusal) → Tells (refusal (read_table v x n len)) r → Tells (refusal (write_table v x n len)) r
+  unfolding write_table read_table
+  refused_as_read r f = tells_before (piece_table v x n len) ((7, waiting (tally_of v) x) ∷ block_rows v) r f
 
-  write_table_law : refusal (write_table v x n len) ≡ judged (read_table v x n len) (λ k. k) tests_left
-  unfolding write_table read_table refusal
-  write_table_law =
-      by (not (sound v)) (too_short (geometry v) (disks v) len) (leb (open_blocks (tally_of v)) x) (not (eqb n v.size))
-      tests_left
-    where
-      by : (a b c d : Bool) (rest : ℕ)
-          → ◌≡◌ {A = ℕ} (cond a 1 (cond b 2 (cond c 3 (cond d 4 rest))))
-          (cond (eqb (cond a 1 (cond b 2 (cond c 3 (cond d 4 0)))) 0) rest (cond a 1 (cond b 2 (cond c 3 (cond d 4 0)))))
-      by true b c d rest = refl
-      by false true c d rest = refl
-      by false false true d rest = refl
-      by false false false true rest = refl
-      by false false false false rest = refl
-
-  pub refused_as_read : (k : ℕ) → k ≡ refusal (read_table v x n len) → k ≢ 0 → refusal (write_table v x n len) ≡ k
-  refused_as_read k e h = write_table_law ∙ refused_when (read_table v x n len) (λ k. k) _ k e h
-
-  pub refused_waiting : (k : ℕ) → k ≡ refusal (read_table v x n len) → k ≡ 0
+  pub refused_waiting : refusal (read_table v x n len) ≡ 0
       → refusal (write_table v x n len) ≡ cond (waiting (tally_of v) x) 7 (refusal (block_rows v))
-  refused_waiting k e h = write_table_law ∙ accepted_when (read_table v x n len) (λ k. k) _ k e h
+  unfolding write_table read_table refusal
+  refused_waiting e = passed_first (piece_table v x n len) ((7, waiting (tally_of v) x) ∷ block_rows v) refl e

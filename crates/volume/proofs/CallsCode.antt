@@ -1,22 +1,25 @@
 -- What the code of format and grow needs, and the replies of calls that store.
 use Prim.Native.Nat.{ℕ, ◌≤◌, ◌<◌, ◌^◌}
-use mathlib.Core.Path.{◌≡◌}
+use mathlib.Core.Path.{◌≡◌, ◌∙◌}
 use mathlib.Core.Bool.{true}
 use mathlib.Core.List.{List}
 use native.Mathlib.Omega.{arith}
+use Rattle.std.specs.Prelude.{Ok}
 use Rattle.layout.specs.Limits.{most_disks, most_rows}
 use Rattle.layout.specs.Tally.{calls_left_of}
 use Rattle.medium.specs.declared.Geometry.{Geometry}
 use Rattle.medium.specs.Medium.{bytes_needed, Store, record_store, apply}
 use Rattle.volume.specs.declared.Advanced.{Advanced}
-use Rattle.volume.specs.declared.Answer.TheVariants.{Done, CallsLeft, Told}
 use Rattle.volume.specs.declared.Reply.{Reply}
+use Rattle.volume.specs.declared.Told.{Told}
+use Rattle.volume.specs.declared.Told.TheVariants as told
 use Rattle.volume.specs.declared.Volume.{Volume}
 use Rattle.volume.specs.Calls.{doing, reporting, telling}
 use Rattle.volume.specs.Records.{record_of}
 use Rattle.volume.specs.Sound.{size_holds, rows_hold, disks_hold, sound}
-use Rattle.volume.specs.States.{geometry, disks, tally_of, with_pending, pending_with, after_store}
+use Rattle.volume.specs.States.{geometry, history_of, disks, tally_of, with_pending, pending_with, after_store}
 use Rattle.volume.proofs.ByteBounds.{bytes_bound}
+use Rattle.volume.proofs.StatesSound.{pending_sound}
 use Rattle.volume.proofs.SoundLaws.{size_facts, from_one, sound_facts}
 
 -- what is within the limits needs bytes that do not wrap
@@ -41,18 +44,23 @@ record_stored w v g m after same made = rw same at made
 -- ---- what is handed back after a store: the state w that the call came to, with the store pending
 
 module _ (v w u : Volume) (store : Store) (n : w ≡ v) (m : u ≡ with_pending w (pending_with w.pending store)) where
-  state_after : u ≡ after_store v store
+  pub state_after : u ≡ after_store v store
   state_after = rw n at m
 
-  pub done_made : (piece : List ℕ) → record { state = u; answer = Done } ≡ (doing v store piece).reply
-  unfolding doing
-  done_made piece = rw state_after
+  -- what is pending is no part of soundness
+  pub sound_after : sound v ≡ true → sound u ≡ true
+  sound_after e = rw state_after (pending_sound v (pending_with v.pending store) ∙ e)
 
-  module _ (left : ℕ) (l : left ≡ calls_left_of (tally_of v)) (r : Reply) where
-    pub report_made : r ≡ record { state = u; answer = CallsLeft left } → r ≡ (reporting v store).reply
-    unfolding reporting
-    report_made made = rw (state_after, l) at made
+  module _ (q : Reply Told) where
+    pub done_made : (piece : List ℕ) → q ≡ record { state = u; answer = Ok told.Done } → q ≡ (doing v store piece).reply
+    unfolding doing
+    done_made piece made = rw state_after at made
 
-    pub tell_made : (did : Advanced) → r ≡ record { state = u; answer = Told did left } → r ≡ (telling v did store).reply
-    unfolding telling
-    tell_made did made = rw (state_after, l) at made
+    pub report_made : q ≡ record { state = u; answer = Ok (told.CallsLeft (calls_left_of (tally_of u))) } → q ≡ (reporting v store).reply
+    unfolding reporting tally_of with_pending history_of
+    report_made made = rw state_after at made
+
+    pub tell_made : (did : Advanced) → q ≡ record { state = u; answer = Ok (told.Advanced did (calls_left_of (tally_of u))) }
+        → q ≡ (telling v did store).reply
+    unfolding telling tally_of with_pending history_of
+    tell_made did made = rw state_after at made

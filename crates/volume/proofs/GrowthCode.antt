@@ -9,9 +9,11 @@ use native.Mathlib.Numerals.{add-one}
 use native.Mathlib.Omega.{arith}
 use lib.Dec.{eqb, leb}
 use borrow.Author.Tests.{le-leb, lt-leb, le-ltb, eq-eqb, ne_eqb}
+use Rattle.std.specs.Prelude.{Ok}
+use Rattle.base.specs.declared.Refusal.{Refusal}
 use Rattle.base.specs.Refusals.{refusal}
 use Rattle.base.proofs.Booleans.{and_left}
-use Rattle.base.proofs.Refusals.{refused_first, passed_first}
+use Rattle.base.proofs.Refusals.{passed_first}
 use Rattle.layout.specs.declared.Block.{Block}
 use Rattle.layout.specs.declared.GrowthDisks.{GrowthDisks}
 use Rattle.layout.specs.declared.Part.{Part}
@@ -30,8 +32,9 @@ use Rattle.medium.specs.declared.Geometry.{Geometry}
 use Rattle.medium.specs.Medium.{most_size, bytes_needed, Observations, observe, record_store, block_store, apply, Inside}
 use Rattle.volume.specs.declared.Advanced.{Advanced}
 use Rattle.volume.specs.declared.Advanced.TheVariants.{Copied}
-use Rattle.volume.specs.declared.Answer.TheVariants.{Told}
 use Rattle.volume.specs.declared.Reply.{Reply}
+use Rattle.volume.specs.declared.Told.{Told}
+use Rattle.volume.specs.declared.Told.TheVariants as told
 use Rattle.volume.specs.declared.Volume.{Volume}
 use Rattle.volume.specs.Calls.{Outcome, telling, is_none, too_short, block_rows, record_rows, copy_table, copy_store, nothing_to_record, checkpoint_table, checkpoint_store, advance_table, growth_table, checkpoint_told, advancing, advance_effect}
 use Rattle.volume.specs.Records.{record_of}
@@ -40,6 +43,7 @@ use Rattle.volume.specs.States.{geometry, history_of, disks, tally_of, with_pend
 use Rattle.volume.proofs.Accepted.{AdvanceFacts, CopyFacts}
 use Rattle.volume.proofs.CallsCode.{record_stored, tell_made}
 use Rattle.volume.proofs.CopyLaws.{moves_open}
+use Rattle.volume.proofs.Judged.{Tells, tells_before}
 use Rattle.volume.proofs.LiveCode.{counts_now, history_limits}
 use Rattle.volume.proofs.SoundLaws.{sound_facts, some_old}
 use Rattle.volume.proofs.StoresFit.{source_inside, copy_inside}
@@ -57,26 +61,23 @@ moves_told_law v x = refl
 
 module _ (v : Volume) (len : ℕ) where
   -- refused by those
-  module _ (k : ℕ) (e : k ≡ refusal (growth_table v len)) (h : k ≢ 0) where
-    growth_refused : (table : List (ℕ × Bool)) → k ≡ refusal (growth_table v len ++ table)
-    growth_refused table = e ∙ sym (refused_first (growth_table v len) table (λ z. h (e ∙ z)))
-
-    pub advance_refused : k ≡ refusal (advance_table v len)
+  module _ (r : Refusal) (f : Tells (refusal (growth_table v len)) r) where
+    pub advance_refused : Tells (refusal (advance_table v len)) r
     unfolding advance_table
-    advance_refused = growth_refused _
+    advance_refused = tells_before (growth_table v len) _ r f
 
-    pub checkpoint_refused : k ≡ refusal (checkpoint_table v len)
+    pub checkpoint_refused : Tells (refusal (checkpoint_table v len)) r
     unfolding checkpoint_table
-    checkpoint_refused = growth_refused _
+    checkpoint_refused = tells_before (growth_table v len) _ r f
 
-    pub copy_refused : (x : ℕ) → k ≡ refusal (copy_table v x len)
+    pub copy_refused : (x : ℕ) → Tells (refusal (copy_table v x len)) r
     unfolding copy_table
-    copy_refused x = growth_refused _
+    copy_refused x = tells_before (growth_table v len) _ r f
 
   -- what is left to test
-  module _ (k : ℕ) (e : k ≡ refusal (growth_table v len)) (h : k ≡ 0) where
+  module _ (h : refusal (growth_table v len) ≡ 0) where
     growth_passed : (table : List (ℕ × Bool)) → refusal (growth_table v len ++ table) ≡ refusal table
-    growth_passed table = passed_first (growth_table v len) table refl (sym e ∙ h)
+    growth_passed table = passed_first (growth_table v len) table refl h
 
     pub checkpoint_left : (kept : Bool) → kept ≡ nothing_to_record v
         → cond kept 12 (refusal (record_rows v)) ≡ refusal (checkpoint_table v len)
@@ -234,10 +235,10 @@ module _ (v : Volume) (o : Observations) where
     records = rw e
 
     pub records_told : (u : Volume) → u ≡ with_pending w (record_pending w.pending) → (did : Advanced) → did ≡ checkpoint_told w
-        → (left : ℕ) → left ≡ calls_left_of (tally_of w) → (r : Reply) → r ≡ record { state = u; answer = Told did left } → r ≡ advanced.reply
+        → (q : Reply Told) → q ≡ record { state = u; answer = Ok (told.Advanced did (calls_left_of (tally_of u))) } → q ≡ advanced.reply
     unfolding pending_with checkpoint_store
-    records_told u m did told left l r made =
-        rw records (tell_made (checkpointed v) w u (checkpoint_store v) n m left (rw n at l) r (checkpoint_told (checkpointed v)) (rw (told, n) at made))
+    records_told u m did known q made =
+        rw records (tell_made (checkpointed v) w u (checkpoint_store v) n m q (checkpoint_told (checkpointed v)) (rw (known, n) at made))
 
     pub records_stored : (g : Geometry) (m after : List ℕ) → after ≡ apply (geometry w) (record_store (record_of w)) m
         → after ≡ apply g advanced.store m
@@ -250,9 +251,9 @@ module _ (v : Volume) (o : Observations) where
     copies = rw (e, p)
 
     pub copies_told : (w : Volume) → w ≡ with_copy v x.0 → (u : Volume) → u ≡ with_pending w (block_pending w.pending)
-        → (left : ℕ) → left ≡ calls_left_of (tally_of (with_copy v x.0)) → (r : Reply) → r ≡ record { state = u; answer = Told (Copied x part) left } → r ≡ advanced.reply
+        → (q : Reply Told) → q ≡ record { state = u; answer = Ok (told.Advanced (Copied x part) (calls_left_of (tally_of u))) } → q ≡ advanced.reply
     unfolding pending_with copy_store
-    copies_told w n u m left l r made = rw copies (tell_made (with_copy v x.0) w u (copy_store v x.0 o) n m left l r (Copied x part) made)
+    copies_told w n u m q made = rw copies (tell_made (with_copy v x.0) w u (copy_store v x.0 o) n m q (Copied x part) made)
 
     pub copies_stored : (g : Geometry) (m after : List ℕ) → after ≡ apply g (copy_store v x.0 o) m → after ≡ apply g advanced.store m
     unfolding telling

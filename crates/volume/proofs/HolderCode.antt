@@ -3,7 +3,10 @@ use Prim.Native.Nat.{ℕ}
 use mathlib.Core.Path.{◌≡◌, refl}
 use mathlib.Core.Bool.{true, false, ◌||◌}
 use mathlib.Core.Option.{Option, none, some}
-use Rattle.base.specs.Refusals.{refusal}
+use Rattle.std.specs.Prelude.{Result, Ok, Err}
+use Rattle.base.specs.declared.Refusal.{Refusal}
+use Rattle.base.specs.declared.Refusal.TheVariants.{NoSuchSpot, NoBlockThere}
+use Rattle.base.specs.Refusals.{refusal, refusal_number, refusals, refusal_with}
 use Rattle.base.proofs.Booleans.{cond_cases, neither, by_test}
 use Rattle.layout.specs.declared.Block.{Block}
 use Rattle.layout.specs.declared.Spot.{Spot}
@@ -14,8 +17,6 @@ use Rattle.marks.specs.Marks.{as_live_block}
 use lib.Dec.{eqb, leb}
 use borrow.Author.Tests.{leb-false, lt-leb}
 use Rattle.volume.specs.declared.Volume.{Volume}
-use Rattle.volume.specs.declared.HolderAnswer.{HolderAnswer}
-use Rattle.volume.specs.declared.HolderAnswer.TheVariants as holder
 use Rattle.volume.specs.Calls.{is_none, block_found, holder_table, holder_reply}
 use Rattle.volume.specs.Sound.{sound}
 use Rattle.volume.specs.States.{history_of, disks, tally_of}
@@ -32,14 +33,14 @@ block_lives none x e = (cc, cc)
 block_lives (some y) x e = (refl, cc)
 
 -- the whole reply, from its answer
-pub holder_reply_law : (v : Volume) (p : Spot) (a : HolderAnswer) → a ≡ (holder_reply v p).answer → record { state = v; answer = a } ≡ holder_reply v p
+pub holder_reply_law : (v : Volume) (p : Spot) (a : Result Block Refusal) → a ≡ (holder_reply v p).answer → record { state = v; answer = a } ≡ holder_reply v p
 unfolding holder_reply
 holder_reply_law v p a e = rw e (cond_cases (λ r. record { state = v; answer = r.answer } ≡ r) (eqb (refusal (holder_table v p)) 0) (λ t. refl) (λ t. refl))
 
 -- what the test of disk and row knows
 pub holder_outside : (v : Volume) (p : Spot) → sound v ≡ true → (leb (disks v) p.disk || leb v.rows p.row.0) ≡ true
-    → holder.Refused 14 ≡ (holder_reply v p).answer
-unfolding holder_reply holder_table refusal
+    → Err NoSuchSpot ≡ (holder_reply v p).answer
+unfolding holder_reply holder_table refusal refusal_with refusals refusal_number
 holder_outside v p s e = by_test (leb (disks v) p.disk) (λ d. simp (s, d)) (λ d. simp (s, d, rw d at e))
 
 pub spot_within : (v : Volume) (p : Spot) → (leb (disks v) p.disk || leb v.rows p.row.0) ≡ false
@@ -50,12 +51,12 @@ spot_within v p e =
     record { disk = leb-false _ _ n.0; row = leb-false _ _ n.1 }
 
 module _ (v : Volume) (p : Spot) (s : sound v ≡ true) (w : Within v.rows (history_of v) p) where
-  pub holder_nothing : as_live_block (live_block_of (tally_of v) p) ≡ Nothing → holder.Refused 15 ≡ (holder_reply v p).answer
-  unfolding holder_reply holder_table refusal disks
+  pub holder_nothing : as_live_block (live_block_of (tally_of v) p) ≡ Nothing → Err NoBlockThere ≡ (holder_reply v p).answer
+  unfolding holder_reply holder_table refusal refusal_with refusals refusal_number disks
   holder_nothing e = simp (s, lt-leb _ _ w.disk, lt-leb _ _ w.row, nothing_lives (live_block_of (tally_of v) p) e)
 
-  pub holder_block : (x : Block) → as_live_block (live_block_of (tally_of v) p) ≡ Lives x → holder.Has x ≡ (holder_reply v p).answer
-  unfolding holder_reply holder_table refusal disks
+  pub holder_block : (x : Block) → as_live_block (live_block_of (tally_of v) p) ≡ Lives x → Ok x ≡ (holder_reply v p).answer
+  unfolding holder_reply holder_table refusal refusal_with refusals refusal_number disks
   holder_block x e =
       let b = block_lives (live_block_of (tally_of v) p) x e in
       rw b.1 (simp (s, lt-leb _ _ w.disk, lt-leb _ _ w.row, b.0))

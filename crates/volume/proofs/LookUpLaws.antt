@@ -9,26 +9,27 @@ use mathlib.Core.Option.{Option, none, some}
 use native.Mathlib.Omega.{arith}
 use lib.Dec.{eqb, leb}
 use lib.ListN.{length}
-use borrow.Author.Tests.{eqb-false, eq-eqb, lt-leb, not-false}
-use Rattle.base.specs.Refusals.{refusal}
+use borrow.Author.Tests.{eqb-false, eq-eqb, ne_eqb, lt-leb, not-false}
+use Rattle.std.specs.Prelude.{Ok, Err}
+use Rattle.base.specs.declared.Refusal.{Refusal}
+use Rattle.base.specs.Refusals.{refusal, refusal_with}
 use Rattle.base.proofs.Booleans.{clash}
 use Rattle.layout.specs.declared.Spot.{Spot}
 use Rattle.layout.specs.History.{Within, history, earlier}
 use Rattle.layout.specs.Laws.{ReasonTrue, LookUps, MovesTrue, LiveMoves}
-use Rattle.layout.specs.Tally.{not_growing, growing, is_running, open_blocks, live_spot_of, live_block_of, growths_of, live_reason_of, live_move_count_of}
+use Rattle.layout.specs.Tally.{not_growing, growing, is_running, open_blocks, live_spot_of, live_block_of, growths_of, live_reason_of, live_move_count_of, live_address_of}
 use Rattle.layout.proofs.HistoryCode.{history_length}
 use Rattle.layout.proofs.Histories.{earlier_length}
 use Rattle.layout.proofs.Theorems as layout
 use Rattle.medium.specs.Medium.{bytes_needed, Inside}
 use Rattle.medium.proofs.Theorems.{medium_laws}
 use Rattle.volume.specs.declared.Volume.{Volume}
-use Rattle.volume.specs.declared.AddressAnswer.TheVariants as address
 use Rattle.volume.specs.Answers.{address_number, spot_told, reason_told, moves_told, holder_number, block_told}
 use Rattle.volume.specs.Calls.{address_table, address_reply, is_none, block_found, holder_table, holder_reply}
 use Rattle.volume.specs.Sound.{sound}
 use Rattle.volume.specs.States.{geometry, history_of, disks, mode_of, tally_of}
 use Rattle.volume.proofs.Accepted.{address_accepted, holder_accepted}
-use Rattle.volume.proofs.Judged.{refused_when, accepted_when}
+use Rattle.volume.proofs.Judged.{Tells, accepted_when}
 use Rattle.volume.proofs.RefusalLaws.{address_refuses, holder_refuses}
 use Rattle.volume.proofs.SoundLaws.{sound_facts, some_old}
 
@@ -73,26 +74,25 @@ pub is_open : (v : Volume) (x : ℕ) → sound v ≡ true → x < open_blocks (t
 unfolding address_table refusal
 is_open v x e h = rw (e, lt-leb (open_blocks (tally_of v)) x h)
 
--- the replies of address, where k is the number of its table
-module _ (v : Volume) (x k : ℕ) where
-  pub address_refused : k ≡ refusal (address_table v x) → k ≢ 0 → address_reply v x ≡ record { state = v; answer = address.Refused k }
-  unfolding address_reply
-  address_refused e h = refused_when (address_table v x) (λ n. record { state = v; answer = address.Refused n }) _ k e h
+-- the reply of address, where its table refuses and where it does not
+pub address_refused : (v : Volume) (x : ℕ) (r : Refusal) → Tells (refusal (address_table v x)) r
+    → address_reply v x ≡ record { state = v; answer = Err r }
+unfolding address_reply
+address_refused v x r f = simp (ne_eqb (refusal (address_table v x)) 0 f.0, f.1)
 
-  pub address_found : k ≡ refusal (address_table v x) → k ≡ 0
-      → address_reply v x
-      ≡ record { state = v; answer = address.At (live_spot_of (tally_of v) x) (live_reason_of (tally_of v) x) (live_move_count_of (tally_of v) x) }
-  unfolding address_reply
-  address_found e h = accepted_when (address_table v x) (λ n. record { state = v; answer = address.Refused n }) _ k e h
+pub address_found : (v : Volume) (x : ℕ) → refusal (address_table v x) ≡ 0
+    → address_reply v x ≡ record { state = v; answer = Ok (live_address_of (tally_of v) x) }
+unfolding address_reply
+address_found v x e = accepted_when (address_table v x) (λ k. record { state = v; answer = Err (refusal_with k) }) _ e
 
 -- the spot, the reason and the block that are told
 spot_told_law : (v : Volume) (x : ℕ) → refusal (address_table v x) ≡ 0 → spot_told (address_reply v x).answer ≡ live_spot_of (tally_of v) x
-unfolding spot_told
-spot_told_law v x e = rw (address_found v x (refusal (address_table v x)) refl e)
+unfolding spot_told live_address_of
+spot_told_law v x e = rw (address_found v x e)
 
 pub reason_told_law : (v : Volume) (x : ℕ) → refusal (address_table v x) ≡ 0 → reason_told (address_reply v x).answer ≡ live_reason_of (tally_of v) x
-unfolding reason_told
-reason_told_law v x e = rw (address_found v x (refusal (address_table v x)) refl e)
+unfolding reason_told live_address_of
+reason_told_law v x e = rw (address_found v x e)
 
 pub address_reason : (v : Volume) (x : ℕ) → address_number (address_reply v x).answer ≡ 0
     → ReasonTrue v.rows (growths_of (tally_of v) x) x (reason_told (address_reply v x).answer)
@@ -103,8 +103,8 @@ address_reason v x e =
     rw (reason_told_law v x r) ((look_ups_of v f.is_sound).live_reason x f.block_open)
 
 moves_told_law : (v : Volume) (x : ℕ) → refusal (address_table v x) ≡ 0 → moves_told (address_reply v x).answer ≡ live_move_count_of (tally_of v) x
-unfolding moves_told
-moves_told_law v x e = rw (address_found v x (refusal (address_table v x)) refl e)
+unfolding moves_told live_address_of
+moves_told_law v x e = rw (address_found v x e)
 
 -- the growths that made a live spot are at most t
 growths_made : (v : Volume) (x : ℕ) → sound v ≡ true → length (growths_of (tally_of v) x) - 1 ≤ v.growths

@@ -10,6 +10,8 @@ use lib.Dec.{eqb, ltb}
 use lib.ListN.{length}
 use lib.Seq.{get_or-set_same}
 use borrow.Author.Tests.{eqb-true, eq-eqb, lt-ltb, le-ltb}
+use Rattle.std.specs.Prelude.{Result, Ok}
+use Rattle.base.specs.declared.Refusal.{Refusal}
 use Rattle.base.proofs.Bits.{bits_length}
 use Rattle.base.proofs.Booleans.{cond_cases, and_left, and_right, and_both}
 use Rattle.layout.specs.declared.Block.{Block}
@@ -30,8 +32,8 @@ use Rattle.marks.proofs.MarkSets.{its_mark}
 use Rattle.medium.specs.Medium.{Observations}
 use Rattle.volume.specs.declared.Advanced.{Advanced}
 use Rattle.volume.specs.declared.Advanced.TheVariants.{Copied}
-use Rattle.volume.specs.declared.Answer.{Answer}
-use Rattle.volume.specs.declared.Answer.TheVariants.{Told}
+use Rattle.volume.specs.declared.Told.{Told}
+use Rattle.volume.specs.declared.Told.TheVariants as told
 use Rattle.volume.specs.declared.Volume.{Volume}
 use Rattle.volume.specs.Answers.{copied_block, copied_part, block_copied, part_copied, reason_told}
 use Rattle.volume.specs.Calls.{Outcome, refused, telling, advance_table, checkpoint_told, advancing, advance_effect, advance_outcome, address_reply}
@@ -57,9 +59,9 @@ no_part v = cond_cases (λ (did : Advanced). copied_part did ≡ none) (eqb v.gr
 
 module _ (v : Volume) (o : Observations) (x : Block) (part : Part) (n : ℕ) where
   abbrev TellsCopy : (out : Outcome) → Type 0
-  TellsCopy out = out.reply.answer ≡ Told (Copied x part) n
+  TellsCopy out = out.reply.answer ≡ Ok (told.Advanced (Copied x part) n)
 
-  block_and_part : (a : Answer) → a ≡ Told (Copied x part) n → (block_copied a ≡ x.0) × (part_copied a ≡ some part)
+  block_and_part : (a : Result Told Refusal) → a ≡ Ok (told.Advanced (Copied x part) n) → (block_copied a ≡ x.0) × (part_copied a ≡ some part)
   unfolding block_copied part_copied copied_block copied_part
   block_and_part a e = rw e (refl, refl)
 
@@ -176,10 +178,10 @@ module _ (v : Volume) (o : Observations) (x : ℕ) (part : Part) (c : CopyTold v
         recorded = r.2;
       }
 
-pub part_told_law : (v u : Volume) (o : Observations) (x : Block) (part : Part) (n : ℕ) → (advance_outcome v o).reply.answer ≡ Told (Copied x part) n
+pub part_told_law : (v u : Volume) (o : Observations) (x : Block) (part : Part) (n : ℕ) → (advance_outcome v o).reply.answer ≡ Ok (told.Advanced (Copied x part) n)
     → RecordsCopy v u x.0 → reason_told (address_reply u x.0).answer ≡ MovedBy v.growths part
 part_told_law v u o x part n told = later_told v o x.0 part (copy_told v o x part n told) u
 
-pub part_recorded : (v : Volume) (o : Observations) (x : Block) (part : Part) (n : ℕ) → (advance_outcome v o).reply.answer ≡ Told (Copied x part) n
+pub part_recorded : (v : Volume) (o : Observations) (x : Block) (part : Part) (n : ℕ) → (advance_outcome v o).reply.answer ≡ Ok (told.Advanced (Copied x part) n)
     → RecordsCopy v (checkpointed (with_copy v x.0)) x.0
 part_recorded v o x part n told = recorded_next v o x.0 part (copy_told v o x part n told)

@@ -7,18 +7,20 @@ use mathlib.Core.Logic.{◌≢◌}
 use native.Mathlib.Omega.{arith}
 use lib.ListN.{length, take}
 use borrow.Author.Tests.{le-ltb, lt-ltb, eq-eqb, ne_eqb}
-use Rattle.base.specs.Refusals.{refusal}
-use Rattle.base.proofs.Refusals.{refused_first, passed_first}
+use Rattle.std.specs.Prelude.{Err}
+use Rattle.base.specs.declared.Refusal.{Refusal}
+use Rattle.base.specs.Refusals.{refusal, refusal_with}
+use Rattle.base.proofs.Refusals.{passed_first}
 use Rattle.medium.specs.Medium.{record_bytes, Observations, observe, no_store}
 use Rattle.record.specs.Sector.{read_record}
 use Rattle.volume.specs.declared.Volume.{Volume}
-use Rattle.volume.specs.declared.Answer.TheVariants.{Refused}
 use Rattle.volume.specs.declared.Reply.{Reply}
+use Rattle.volume.specs.declared.Told.{Told}
 use Rattle.volume.specs.Calls.{Outcome, refused, reporting, restart_effect, too_short, restart_table, sector_table, sector_outcome}
 use Rattle.volume.specs.Records.{state_read, is_sound_record}
 use Rattle.volume.specs.Sound.{sound}
 use Rattle.volume.specs.States.{geometry, disks, zeros}
-use Rattle.volume.proofs.Judged.{judged_cases, accepted_when}
+use Rattle.volume.proofs.Judged.{Tells, tells_before, judged_cases, accepted_when}
 
 -- bytes that are no record, and bytes that are the record of a state
 pub unread : (bytes : List ℕ) → (read_record bytes).refusal ≢ 0 → is_sound_record bytes ≡ false
@@ -42,27 +44,27 @@ record_or_not m false h e = rw (le-ltb (length m) record_bytes h, e)
 
 -- ---- the reply, told apart by its answer
 
-pub reply_refused : (o : Observations) (r : Reply) (k : ℕ) → r ≡ (sector_outcome o).reply → r.answer ≡ Refused k
-    → (k ≡ refusal (sector_table o)) × (k ≢ 0) × (r ≡ record { state = zeros; answer = Refused k })
+pub reply_refused : (o : Observations) (q : Reply Told) (r : Refusal) → q ≡ (sector_outcome o).reply → q.answer ≡ Err r
+    → Tells (refusal (sector_table o)) r × (q ≡ record { state = zeros; answer = Err r })
 unfolding sector_outcome restart_effect refused reporting
-reply_refused o r k e told =
+reply_refused o q r e told =
     judged_cases
-    (λ out. r ≡ out.reply → out.reply.answer ≡ Refused k → (k ≡ refusal (sector_table o)) × (k ≢ 0) × (r ≡ record { state = zeros; answer = Refused k }))
+    (λ out. q ≡ out.reply → out.reply.answer ≡ Err r → Tells (refusal (sector_table o)) r × (q ≡ record { state = zeros; answer = Err r }))
     (sector_table o) (λ k. refused zeros k []) _
-    (λ _ _ f. let z : ◌≡◌ {A = ℕ} 0 1 = cc in absurd (omega arith))
-    (λ h g f. let n : k ≡ refusal (sector_table o) = cc in (n, λ z. h (sym n ∙ z), rw n g))
+    (λ _ _ f. absurd (cc))
+    (λ h g f. let n : refusal_with (refusal (sector_table o)) ≡ r = cc in ((h, n), rw n at g))
     e (rw e at told)
 
--- what is known where the answer is not `Refused(_)`
-pub reply_taken : (o : Observations) (r : Reply) → r ≡ (sector_outcome o).reply → ((k : ℕ) → r.answer ≢ Refused k)
-    → (refusal (sector_table o) ≡ 0) × (r ≡ (reporting (state_read o.sector) no_store).reply)
+-- what is known where the answer is no refusal
+pub reply_taken : (o : Observations) (q : Reply Told) → q ≡ (sector_outcome o).reply → ((r : Refusal) → q.answer ≢ Err r)
+    → (refusal (sector_table o) ≡ 0) × (q ≡ (reporting (state_read o.sector) no_store).reply)
 unfolding sector_outcome restart_effect refused
-reply_taken o r e other =
+reply_taken o q e other =
     let taken : refusal (sector_table o) ≡ 0 =
-    judged_cases (λ out. ((k : ℕ) → out.reply.answer ≢ Refused k) → refusal (sector_table o) ≡ 0)
+    judged_cases (λ out. ((r : Refusal) → out.reply.answer ≢ Err r) → refusal (sector_table o) ≡ 0)
     (sector_table o) (λ k. refused zeros k []) (reporting (state_read o.sector) no_store) (λ h _. h)
     (λ _ t. absurd (t _ refl)) (rw e at other) in
-    (taken, e ∙ ap (λ (out : Outcome). out.reply) (accepted_when (sector_table o) (λ k. refused zeros k []) _ 0 (sym taken) refl))
+    (taken, e ∙ ap (λ (out : Outcome). out.reply) (accepted_when (sector_table o) (λ k. refused zeros k []) _ taken))
 
 -- ---- restart's last test, "2"
 
@@ -70,9 +72,9 @@ module _ (o : Observations) where
   abbrev short_for : Volume → Bool
   short_for v = too_short (geometry v) (disks v) o.byte_count
 
-  pub restart_refused_before : refusal (sector_table o) ≢ 0 → refusal (restart_table o) ≡ refusal (sector_table o)
+  pub restart_refused : (r : Refusal) → Tells (refusal (sector_table o)) r → Tells (refusal (restart_table o)) r
   unfolding restart_table
-  restart_refused_before = refused_first (sector_table o) _
+  restart_refused = tells_before (sector_table o) _
 
   pub restart_tested_last : refusal (sector_table o) ≡ 0 → refusal (restart_table o) ≡ cond (short_for (state_read o.sector)) 2 0
   unfolding restart_table refusal

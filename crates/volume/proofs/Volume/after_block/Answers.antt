@@ -1,5 +1,8 @@
 -- `after_block` meets its contract.
+use mathlib.Core.Path.{refl}
+use Rattle.volume.specs.States.{with_pending}
 use Rattle.volume.proofs.Volume.after_block.Goals as goal
 
 pub returns : goal.returns
-returns c = c.with_pending.ensures
+unfolding with_pending
+returns c = refl

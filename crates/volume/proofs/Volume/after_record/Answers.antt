@@ -1,5 +1,8 @@
 -- `after_record` meets its contract.
+use mathlib.Core.Path.{refl}
+use Rattle.volume.specs.States.{with_pending}
 use Rattle.volume.proofs.Volume.after_record.Goals as goal
 
 pub returns : goal.returns
-returns c = c.with_pending.ensures
+unfolding with_pending
+returns c = refl

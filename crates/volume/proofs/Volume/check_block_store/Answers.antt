@@ -1,11 +1,13 @@
--- `block_refusal` meets its contract.
-use Rattle.base.specs.Refusals.{refusal}
-use Rattle.volume.proofs.Volume.block_refusal.Goals as goal
+-- `check_block_store` meets its contract.
+use Rattle.base.specs.declared.Refusal.TheVariants.{FlushRecord}
+use Rattle.base.specs.Refusals.{refusal, refusal_number}
+use Rattle.volume.proofs.Judged.{tells, err_checked, ok_checked}
+use Rattle.volume.proofs.Volume.check_block_store.Goals as goal
 
-pub returns-then-pending : goal.returns-then-pending
-unfolding refusal
-returns-then-pending c = simp c.if-pending.true
+pub returns-then-self : goal.returns-then-self
+unfolding refusal refusal_number
+returns-then-self c = err_checked _ FlushRecord (tells _ _ (simp c.if-self.true))
 
 pub returns : goal.returns
 unfolding refusal
-returns c = simp c.if-pending.false
+returns c = ok_checked _ (simp c.if-self.false)

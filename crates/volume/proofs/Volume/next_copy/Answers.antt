@@ -7,13 +7,13 @@ use Rattle.volume.proofs.Volume.next_copy.Goals as goal
 
 pub next_copy-requires : goal.next_copy-requires
 next_copy-requires c =
-    let v = c.args.self in
+    let v = c.args.self.now in
     let p = c.requires.sound_state in
-    rw c.requires.counts_same (record {
+    record {
       limits = history_limits v p.0;
       t_nonzero = (has_growth v p.1 p.0, window_below v p.1 p.0);
-    })
+    }
 
 pub returns : goal.returns
 unfolding next_block next_of_window moves_now rank_now tally_of history_of
-returns c = rw c.requires.counts_same at c.next_copy.ensures
+returns c = c.next_copy.ensures

@@ -1,32 +1,31 @@
--- `open_blocks_by` meets its contract.
+-- `open_blocks` meets its contract.
 use native.Mathlib.Omega.{arith}
 use Rattle.volume.proofs.LiveCode.{growths_below, blocks_most, rest_open, has_growth, old_blocks_most, growing_open}
-use Rattle.volume.proofs.Volume.open_blocks_by.Goals as goal
+use Rattle.volume.proofs.Volume.open_blocks.Goals as goal
 
-pub offset_bounds-counts-t : goal.offset_bounds-counts-t
-offset_bounds-counts-t c = omega (arith, growths_below c.args.self c.requires.sound_state)
+pub offset_bounds-self-self : goal.offset_bounds-self-self
+offset_bounds-self-self c = omega (arith, growths_below c.args.self.now c.requires)
 
-pub bounds-counts-t : goal.bounds-counts-t
-bounds-counts-t c = growths_below _ c.requires.sound_state
+pub bounds-self-self : goal.bounds-self-self
+bounds-self-self c = growths_below _ c.requires
 
 pub overflow_mul-result : goal.overflow_mul-result
-overflow_mul-result c = rw c.requires.counts_same (omega (arith, blocks_most c.args.self c.requires.sound_state))
+overflow_mul-result c = omega (arith, blocks_most c.args.self.now c.requires)
 
 pub returns-then-self-eq0 : goal.returns-then-self-eq0
-returns-then-self-eq0 c = rw c.requires.counts_same (rest_open c.args.self c.if-self-eq0.true)
+returns-then-self-eq0 c = rest_open c.args.self.now c.if-self-eq0.true
 
 pub overflow_sub-result : goal.overflow_sub-result
-overflow_sub-result c = has_growth _ c.if-self-eq0.false c.requires.sound_state
+overflow_sub-result c = has_growth _ c.if-self-eq0.false c.requires
 
-pub offset_bounds-counts-t-2 : goal.offset_bounds-counts-t-2
-offset_bounds-counts-t-2 c = omega (arith, growths_below c.args.self c.requires.sound_state)
+pub offset_bounds-self-self-2 : goal.offset_bounds-self-self-2
+offset_bounds-self-self-2 c = omega (arith, growths_below c.args.self.now c.requires)
 
-pub bounds-counts-t-2 : goal.bounds-counts-t-2
-bounds-counts-t-2 c = omega (arith, growths_below c.args.self c.requires.sound_state)
+pub bounds-self-self-2 : goal.bounds-self-self-2
+bounds-self-self-2 c = omega (arith, growths_below c.args.self.now c.requires)
 
 pub overflow_mul-result-2 : goal.overflow_mul-result-2
-overflow_mul-result-2 c =
-    rw c.requires.counts_same (omega (arith, old_blocks_most c.args.self c.if-self-eq0.false c.requires.sound_state))
+overflow_mul-result-2 c = omega (arith, old_blocks_most c.args.self.now c.if-self-eq0.false c.requires)
 
 pub returns : goal.returns
-returns c = rw c.requires.counts_same (growing_open c.args.self c.if-self-eq0.false c.requires.sound_state)
+returns c = growing_open c.args.self.now c.if-self-eq0.false c.requires

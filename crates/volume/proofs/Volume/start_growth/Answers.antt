@@ -1,5 +1,5 @@
 -- `start_growth` meets its contract.
-use mathlib.Core.Path.{◌≡◌, refl, sym, ◌∙◌}
+use mathlib.Core.Path.{◌≡◌, refl}
 use mathlib.Core.List.{[]}
 use lib.ListN.{length}
 use Rattle.base.specs.Refusals.{refusal}
@@ -9,50 +9,48 @@ use Rattle.volume.specs.Records.{record_of}
 use Rattle.volume.specs.States.{pending_with, grown}
 use Rattle.volume.proofs.Accepted.{grow_accepted}
 use Rattle.volume.proofs.ByteBounds.{record_room}
-use Rattle.volume.proofs.CallsCode.{record_stored, report_made}
-use Rattle.volume.proofs.Judged.{refused_reply, refused_stores, accepted_reply, accepted_stores}
+use Rattle.volume.proofs.CallsCode.{record_stored, sound_after, report_made}
+use Rattle.volume.proofs.Judged.{checked_tells, checked_takes, refused_reply, refused_stores, accepted_reply, accepted_stores}
 use Rattle.volume.proofs.StatesSound.{grown_sound}
-use Rattle.volume.proofs.LiveCode.{calls_asks, calls_told}
 use Rattle.volume.proofs.Volume.start_growth.Goals as goal
-use Rattle.volume.proofs.Volume.start_growth.Goals.{Else-k-ne0}
+use Rattle.volume.proofs.Volume.start_growth.Goals.{In_default}
 
-pub returns-then-k-ne0 : goal.returns-then-k-ne0
+pub returns-in-Err : goal.returns-in-Err
 unfolding grow_outcome_of observe
-returns-then-k-ne0 c =
+returns-in-Err c =
     let v = c.args.self in
-    let e = c.grow_refusal-k.ensures in
-    let h = c.if-k-ne0.true in
+    let f = checked_tells _ _ _ c.check_grow.ensures c.in-Err.is in
     record {
-      value = refused_reply _ v [] _ _ e h v _ refl c.refuse.ensures;
-      medium_after = refused_stores _ v [] _ _ e h _ _;
+      value = refused_reply _ v [] _ _ f v _ refl c.refuse.ensures;
+      medium_after = refused_stores _ v [] _ _ f _ _;
     }
 
 -- the table refuses nothing
-clear : (c : Else-k-ne0) → let a = c.args in refusal (grow_table_of a.limited a.self a.count (length a.medium.now)) ≡ 0
-clear c = sym c.grow_refusal-k.ensures ∙ c.if-k-ne0.false
+clear : (c : In_default) → let a = c.args in refusal (grow_table_of a.limited a.self a.count (length a.medium.now)) ≡ 0
+clear c = checked_takes _ _ c.check_grow.ensures c.in_default.not-Err
 
 pub grown-v-requires : goal.grown-v-requires
-grown-v-requires c = (grow_accepted _ _ _ _ (clear (goal.at.grown-v-requires c).Else-k-ne0)).may.one_more
+grown-v-requires c = (grow_accepted _ _ _ _ (clear (goal.at.grown-v-requires c).In_default)).may.one_more
 
 pub store_record-requires : goal.store_record-requires
-store_record-requires c = record_room _ _ _ (grow_accepted _ _ _ _ (clear (goal.at.store_record-requires c).Else-k-ne0)).room
+store_record-requires c = record_room _ _ _ (grow_accepted _ _ _ _ (clear (goal.at.store_record-requires c).In_default)).room
 
-pub calls_left-left-requires : goal.calls_left-left-requires
-calls_left-left-requires c =
-    let h = calls_asks c.grown-v.result (rw c.grown-v.ensures (grown_sound _ _ _ _ (clear (goal.at.calls_left-left-requires c).Else-k-ne0))) in
-    record { limits = h.0; while_growing = h.1 }
+pub report-requires : goal.report-requires
+unfolding pending_with
+report-requires c =
+    let a = c.args in
+    let store = record_store (record_of (grown a.self a.count)) in
+    sound_after _ _ _ store c.grown-v.ensures c.after_record.ensures (grown_sound _ _ _ _ (clear (goal.at.report-requires c).In_default))
 
 pub returns : goal.returns
 unfolding grow_outcome_of grow_effect reporting pending_with observe
 returns c =
     let a = c.args in
     let v = a.self in
-    let e = c.grow_refusal-k.ensures in
-    let h = c.if-k-ne0.false in
-    let g = c.grown-v in
-    let n = g.ensures in
-    let left = rw n at (calls_told g.result _ c.calls_left-left.ensures) in
+    let e = clear (goal.at.returns c).In_default in
+    let n = c.grown-v.ensures in
+    let store = record_store (record_of (grown v a.count)) in
     record {
-      value = accepted_reply _ v [] _ _ e h _ (report_made _ _ _ (record_store (record_of (grown v a.count))) n c.after_record-after.ensures _ left _ c.report.ensures);
-      medium_after = accepted_stores _ v [] _ _ e h _ _ _ (record_stored _ _ _ _ _ n c.store_record.ensures);
+      value = accepted_reply _ v [] _ e _ (report_made _ _ _ store n c.after_record.ensures _ c.report.ensures);
+      medium_after = accepted_stores _ v [] _ e _ _ _ (record_stored _ _ _ _ _ n c.store_record.ensures);
     }

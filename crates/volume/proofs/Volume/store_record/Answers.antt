@@ -10,6 +10,6 @@ use Rattle.volume.proofs.Volume.store_record.Goals as goal
 pub returns : goal.returns
 unfolding apply record_of
 returns c =
-    let v = c.args.self in
+    let v = c.args.self.now in
     let e : length v.counts ≡ 8 = search rules in
     rw (numbers_listed v e, ← c.marks_of-marks.ensures) c.write_record.ensures
