@@ -1,17 +1,23 @@
--- `checkpoint_refusal` meets its contract.
+-- `check_checkpoint` meets its contract.
 use mathlib.Core.Path.{sym, ◌∙◌}
 use borrow.Author.Tests.{eq-eqb, ne_eqb}
+use Rattle.std.proofs.lemmas.Result.{err_from_is_err_and}
+use Rattle.base.specs.declared.Refusal.TheVariants.{NothingToRecord}
+use Rattle.base.specs.Refusals.{refusal_number}
 use Rattle.volume.proofs.GrowthCode.{checkpoint_refused, checkpoint_left}
-use Rattle.volume.proofs.Volume.checkpoint_refusal.Goals as goal
+use Rattle.volume.proofs.Judged.{tells, err_tells, ok_takes, err_checked}
+use Rattle.volume.proofs.Volume.check_checkpoint.Goals as goal
 
-pub returns-then-k-ne0 : goal.returns-then-k-ne0
-returns-then-k-ne0 c = checkpoint_refused _ _ _ c.growth_refusal-k.ensures c.if-k-ne0.true
+pub returns-in_err-check_growth : goal.returns-in_err-check_growth
+returns-in_err-check_growth c =
+    let p = err_from_is_err_and c.from_residual.result c.from_residual.ensures.1 in
+    rw (p.1, p.2) (err_checked _ _ (checkpoint_refused _ _ _ (err_tells _ _ c.in_err-check_growth.ensures)))
 
-pub returns-then-copied-recorded : goal.returns-then-copied-recorded
-returns-then-copied-recorded c =
-    checkpoint_left _ _ _ c.growth_refusal-k.ensures c.if-k-ne0.false _ (sym (eq-eqb _ _ c.if-copied-recorded.true))
+pub returns-then-self : goal.returns-then-self
+unfolding refusal_number
+returns-then-self c =
+    err_checked _ NothingToRecord (tells _ _ (checkpoint_left _ _ (ok_takes _ _ c.in_ok-check_growth.ensures) _ (sym (eq-eqb _ _ c.if-self.true))))
 
 pub returns : goal.returns
 returns c =
-    c.record_refusal.ensures
-    ∙ checkpoint_left _ _ _ c.growth_refusal-k.ensures c.if-k-ne0.false _ (sym (ne_eqb _ _ c.if-copied-recorded.false))
+    rw (checkpoint_left _ _ (ok_takes _ _ c.in_ok-check_growth.ensures) _ (sym (ne_eqb _ _ c.if-self.false))) at c.check_record_store.ensures

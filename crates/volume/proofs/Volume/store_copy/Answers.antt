@@ -1,44 +1,39 @@
 -- `store_copy` meets its contract.
 use mathlib.Core.Path.{◌≡◌}
 use lib.ListN.{length}
-use Rattle.layout.specs.History.{history, newest_growth, spot_of}
+use Rattle.layout.specs.History.{spot_of}
 use Rattle.volume.proofs.Accepted.{CopyFacts}
 use Rattle.volume.proofs.GrowthCode.{copy_facts, copy_asks, copy_stored}
 use Rattle.volume.proofs.LiveCode.{counts_now, newest_asked, spot_before_it, live_asks, new_read}
 use Rattle.volume.proofs.Volume.store_copy.Goals as goal
-use Rattle.volume.proofs.Volume.store_copy.Goals.{After-newest_growth-d, After-spot_after-to, Start}
+use Rattle.volume.proofs.Volume.store_copy.Goals.{After-spot_after-to, Start}
 
-facts : (c : Start) → CopyFacts c.args.self c.args.x.0 (length c.args.medium.now)
+facts : (c : Start) → CopyFacts c.args.self.now c.args.x.0 (length c.args.medium.now)
 facts c = copy_facts _ _ _ c.requires.sound_state (c.requires.room, c.requires.to_copy)
 
 pub newest_growth-d-requires : goal.newest_growth-d-requires
 newest_growth-d-requires c =
     let p = c.requires.sound_state in
-    rw c.requires.counts_same (newest_asked c.args.self p.1 p.0)
-
--- what the lent counts, which are the state's, tell
-growth_told : (c : After-newest_growth-d)
-    → let v = c.args.self in c.newest_growth-d.result ≡ newest_growth (history v.growths v.counts)
-growth_told c = rw c.requires.counts_same at c.newest_growth-d.ensures
+    newest_asked c.args.self.now p.1 p.0
 
 pub spot_after-to-requires : goal.spot_after-to-requires
 spot_after-to-requires c =
     let p = c.requires.sound_state in
-    let a = live_asks _ p.1 p.0 _ (growth_told (goal.at.spot_after-to-requires c).After-newest_growth-d) _ (facts (goal.at.spot_after-to-requires c).Start).block_open _ (spot_before_it _ p.1 p.0 _ _ c.requires.at_old_spot) in
+    let a = live_asks _ p.1 p.0 _ c.newest_growth-d.ensures _ (facts (goal.at.spot_after-to-requires c).Start).block_open _ (spot_before_it _ p.1 p.0 _ _ c.requires.at_old_spot) in
     record { grows = a.0; s_le_most_rows = (a.1.0, λ _. a.1.1) }
 
 -- and the one that it is copied to, its new one
 to_new : (c : After-spot_after-to)
-    → let v = c.args.self in c.spot_after-to.result ≡ spot_of v.rows (counts_now v) c.args.x.0
+    → let v = c.args.self.now in c.spot_after-to.result ≡ spot_of v.rows (counts_now v) c.args.x.0
 to_new c =
     let p = c.requires.sound_state in
-    new_read _ p.1 p.0 _ (rw c.requires.counts_same at c.newest_growth-d.ensures) _ ((copy_facts _ _ _ c.requires.sound_state (c.requires.room, c.requires.to_copy))).block_open _ (spot_before_it _ p.1 p.0 _ _ c.requires.at_old_spot) _ c.spot_after-to.ensures
+    new_read _ p.1 p.0 _ c.newest_growth-d.ensures _ ((copy_facts _ _ _ c.requires.sound_state (c.requires.room, c.requires.to_copy))).block_open _ (spot_before_it _ p.1 p.0 _ _ c.requires.at_old_spot) _ c.spot_after-to.ensures
 
 pub copy_block-requires : goal.copy_block-requires
 copy_block-requires c =
-    let h = copy_asks _ _ _ (facts (goal.at.copy_block-requires c).Start) _ c.geometry-g.ensures _ _ c.requires.at_old_spot (to_new (goal.at.copy_block-requires c).After-spot_after-to) in
+    let h = copy_asks _ _ _ (facts (goal.at.copy_block-requires c).Start) _ c.geometry.ensures _ _ c.requires.at_old_spot (to_new (goal.at.copy_block-requires c).After-spot_after-to) in
     record { size_in_range = h.0; from_inside = h.1.0; to_inside = h.1.1 }
 
 pub returns : goal.returns
 returns c =
-    copy_stored _ _ _ c.geometry-g.ensures _ _ c.requires.at_old_spot (to_new (goal.at.returns c).After-spot_after-to) _ _ c.copy_block.ensures
+    copy_stored _ _ _ c.geometry.ensures _ _ c.requires.at_old_spot (to_new (goal.at.returns c).After-spot_after-to) _ _ c.copy_block.ensures
