@@ -8,7 +8,7 @@ use Rattle.base.specs.declared.Refusal.{Refusal}
 use Rattle.base.specs.Refusals.{refusal}
 use Rattle.base.proofs.Refusals.{passed_first}
 use Rattle.layout.specs.declared.Spot.{Spot}
-use Rattle.layout.specs.Tally.{open_blocks, live_spot_of, waiting}
+use Rattle.layout.specs.Tally.{live_spot_of, waiting}
 use Rattle.medium.specs.declared.Geometry.{Geometry}
 use Rattle.medium.specs.Medium.{most_size, Inside}
 use Rattle.volume.specs.declared.Volume.{Volume}

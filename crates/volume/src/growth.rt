@@ -203,7 +203,9 @@ impl Volume {
             return self.refuse(refusal);
         }
         self.store_copy(medium, x, p);
-        self.with_mark(j).after_block().tell(Advanced::Copied(x, part))
+        self.with_mark(j)
+            .after_block()
+            .tell(Advanced::Copied(x, part))
     }
 
     // The block to copy next.
@@ -211,6 +213,12 @@ impl Volume {
         requires sound_state { (sound self.now ≡ true) × (self.now.growing ≢ 0) }
         ensures { result ≡ as_next_copy self.now.rows (history_of self.now) (next_block (tally_of self.now)) }
     {
-        marks::next_copy(&self.counts, self.growths, self.rows, self.window, self.copied)
+        marks::next_copy(
+            &self.counts,
+            self.growths,
+            self.rows,
+            self.window,
+            self.copied,
+        )
     }
 }

@@ -73,7 +73,16 @@ impl Volume {
         ensures { result ≡ live_spot_of (tally_of self.now) x.0 }
     {
         let t = self.growths;
-        marks::live_spot(&self.counts, t, self.rows, self.growing, self.window, self.recorded, x, old)
+        marks::live_spot(
+            &self.counts,
+            t,
+            self.rows,
+            self.growing,
+            self.window,
+            self.recorded,
+            x,
+            old,
+        )
     }
 
     // The live spot of block x.
@@ -119,7 +128,14 @@ impl Volume {
             return LiveBlock::Lives(layout::block_at(&self.counts, self.growths, self.rows, p));
         }
         let recorded = self.recorded;
-        marks::live_block(&self.counts, self.growths, self.rows, self.window, recorded, p)
+        marks::live_block(
+            &self.counts,
+            self.growths,
+            self.rows,
+            self.window,
+            recorded,
+            p,
+        )
     }
 
     // The number of advance calls left.
@@ -128,6 +144,13 @@ impl Volume {
         ensures { result ≡ calls_left_of (tally_of self.now) }
     {
         let t = self.growths;
-        marks::calls_left(&self.counts, t, self.rows, self.growing, self.window, self.copied)
+        marks::calls_left(
+            &self.counts,
+            t,
+            self.rows,
+            self.growing,
+            self.window,
+            self.copied,
+        )
     }
 }

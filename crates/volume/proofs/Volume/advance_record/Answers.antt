@@ -1,5 +1,5 @@
 -- `advance_record` meets its contract.
-use mathlib.Core.Path.{◌≡◌, refl}
+use mathlib.Core.Path.{refl}
 use mathlib.Core.List.{[]}
 use lib.ListN.{length}
 use Rattle.medium.specs.Medium.{observe}

@@ -17,7 +17,7 @@ is_sound c = sym c.is_sound.ensures ∙ c.if-not-is_sound.false
 
 pub returns-then-not-is_sound : goal.returns-then-not-is_sound
 unfolding refusal refusal_number
-returns-then-not-is_sound c = 
+returns-then-not-is_sound c =
     let e : sound c.args.self.now ≡ false = sym c.is_sound.ensures ∙ c.if-not-is_sound.true in
     err_checked _ NotSound (tells _ _ (simp e))
 

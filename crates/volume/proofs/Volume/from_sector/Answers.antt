@@ -1,9 +1,8 @@
 -- `from_sector` meets its contract.
 use Prim.Native.Nat.{◌≤◌}
-use mathlib.Core.Path.{◌≡◌, refl, sym, ◌∙◌}
+use mathlib.Core.Path.{◌≡◌, sym, ◌∙◌}
 use mathlib.Core.Bool.{true, false}
 use mathlib.Core.List.{[]}
-use native.Mathlib.Omega.{arith}
 use lib.ListN.{length, take}
 use Rattle.base.specs.declared.Refusal.TheVariants.{MediumTooShort, NoRecord}
 use Rattle.base.specs.Refusals.{refusal_number}

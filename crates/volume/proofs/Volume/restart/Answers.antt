@@ -1,5 +1,5 @@
 -- `restart` meets its contract.
-use mathlib.Core.Path.{◌≡◌, refl, ap, sym, ◌∙◌}
+use mathlib.Core.Path.{◌≡◌, refl, ap, sym}
 use mathlib.Core.Bool.{true, cond}
 use mathlib.Core.List.{[]}
 use mathlib.Core.Logic.{◌≢◌}

@@ -1,6 +1,5 @@
 -- `write` meets its contract.
 use mathlib.Core.Path.{refl}
-use lib.ListN.{length}
 use Rattle.layout.specs.Tally.{live_spot_of}
 use Rattle.medium.specs.Medium.{observe, block_store}
 use Rattle.volume.specs.Calls.{doing, write_effect, write_outcome}

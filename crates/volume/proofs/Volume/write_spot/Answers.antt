@@ -1,14 +1,14 @@
 -- `write_spot` meets its contract.
-use mathlib.Core.Path.{◌≡◌, refl, sym, ◌∙◌}
+use mathlib.Core.Path.{◌≡◌, sym, ◌∙◌}
 use mathlib.Core.Bool.{false}
 use Rattle.std.proofs.lemmas.Result.{err_from_is_err_and}
 use Rattle.base.specs.declared.Refusal.TheVariants.{CopyNotRecorded}
 use Rattle.base.specs.Refusals.{refusal, refusal_number}
 use Rattle.layout.specs.History.{spot_of}
 use Rattle.layout.specs.Tally.{waiting}
-use Rattle.volume.specs.Calls.{read_table, write_table, block_rows}
+use Rattle.volume.specs.Calls.{write_table, block_rows}
 use Rattle.volume.specs.States.{tally_of}
-use Rattle.volume.proofs.Accepted.{ReadFacts, read_accepted}
+use Rattle.volume.proofs.Accepted.{read_accepted}
 use Rattle.volume.proofs.BlockCode.{refused_as_read, refused_waiting}
 use Rattle.volume.proofs.Judged.{tells, err_tells, ok_takes, err_found, ok_found}
 use Rattle.volume.proofs.LiveCode.{counts_before, rest_waiting, newest_asked, spot_asks, waiting_read, spot_in_growth}
