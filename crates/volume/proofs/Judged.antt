@@ -7,6 +7,8 @@ use mathlib.Core.Logic.{◌≢◌}
 use lib.Dec.{eqb}
 use borrow.Author.Tests.{eq-eqb, ne_eqb, eqb-true, eqb-false}
 use Rattle.std.specs.Prelude.{Result, Ok, Err}
+use Rattle.std.specs.Result.{IsErrAnd}
+use Rattle.std.proofs.lemmas.Result.{err_from_is_err_and}
 use Rattle.base.specs.declared.Refusal.{Refusal}
 use Rattle.base.specs.Refusals.{refusal, refusal_number, refusal_with, checked}
 use Rattle.base.proofs.Booleans.{cond_cases, by_test}
@@ -71,6 +73,10 @@ checked_tells a k r e f = checked_refused k r (sym e ∙ f)
 pub checked_takes : (a : Result (Unit {0}) Refusal) (k : ℕ) → a ≡ checked k → ((r : Refusal) → a ≢ Err r) → k ≡ 0
 unfolding checked
 checked_takes a k e other = by_test (eqb k 0) (λ z. eqb-true k 0 z) (λ z. absurd (other (refusal_with k) (rw z at e)))
+
+-- what a `?` hands back
+pub exits : {A : Type 0} (a b : Result A Refusal) (r : Refusal) → IsErrAnd a (λ q. q ≡ r) → Err r ≡ b → a ≡ b
+exits a b r e f = let p = err_from_is_err_and a e in rw (p.1, p.2) f
 
 -- what it finds
 module _ {A : Type 0} (k : ℕ) (found : A) where

@@ -1,17 +1,15 @@
 -- `check_checkpoint` meets its contract.
 use mathlib.Core.Path.{sym}
 use borrow.Author.Tests.{eq-eqb, ne_eqb}
-use Rattle.std.proofs.lemmas.Result.{err_from_is_err_and}
 use Rattle.base.specs.declared.Refusal.TheVariants.{NothingToRecord}
 use Rattle.base.specs.Refusals.{refusal_number}
 use Rattle.volume.proofs.GrowthCode.{checkpoint_refused, checkpoint_left}
-use Rattle.volume.proofs.Judged.{tells, err_tells, ok_takes, err_checked}
+use Rattle.volume.proofs.Judged.{exits, tells, err_tells, ok_takes, err_checked}
 use Rattle.volume.proofs.Volume.check_checkpoint.Goals as goal
 
 pub returns-in_err-check_growth : goal.returns-in_err-check_growth
 returns-in_err-check_growth c =
-    let p = err_from_is_err_and c.from_residual.result c.from_residual.ensures.1 in
-    rw (p.1, p.2) (err_checked _ _ (checkpoint_refused _ _ _ (err_tells _ _ c.in_err-check_growth.ensures)))
+    exits _ _ _ c.from_residual.ensures.1 (err_checked _ _ (checkpoint_refused _ _ _ (err_tells _ _ c.in_err-check_growth.ensures)))
 
 pub returns-then-self : goal.returns-then-self
 unfolding refusal_number

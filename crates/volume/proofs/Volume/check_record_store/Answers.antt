@@ -1,19 +1,17 @@
 -- `check_record_store` meets its contract.
 use mathlib.Core.Path.{refl, sym, ◌∙◌}
 use mathlib.Core.List.{[], ◌∷◌}
-use Rattle.std.proofs.lemmas.Result.{err_from_is_err_and}
 use Rattle.base.specs.declared.Refusal.TheVariants.{FlushBlocks}
 use Rattle.base.specs.Refusals.{refusal, refusal_number}
 use Rattle.base.proofs.Refusals.{passed_first}
 use Rattle.volume.specs.Calls.{block_rows}
-use Rattle.volume.proofs.Judged.{tells, tells_before, err_checked, ok_checked, err_tells, ok_takes}
+use Rattle.volume.proofs.Judged.{exits, tells, tells_before, err_checked, ok_checked, err_tells, ok_takes}
 use Rattle.volume.proofs.Volume.check_record_store.Goals as goal
 
 pub returns-in_err-check_block_store : goal.returns-in_err-check_block_store
 returns-in_err-check_block_store c =
     let v = c.args.self.now in
-    let p = err_from_is_err_and c.from_residual.result c.from_residual.ensures.1 in
-    rw (p.1, p.2) (err_checked _ _ (tells_before (block_rows v) ((18, v.pending.blocks) ∷ []) _ (err_tells _ _ c.in_err-check_block_store.ensures)))
+    exits _ _ _ c.from_residual.ensures.1 (err_checked _ _ (tells_before (block_rows v) ((18, v.pending.blocks) ∷ []) _ (err_tells _ _ c.in_err-check_block_store.ensures)))
 
 pub returns-then-self : goal.returns-then-self
 unfolding refusal refusal_number

@@ -3,7 +3,6 @@ use Prim.Native.Nat.{◌<◌}
 use mathlib.Core.Path.{◌≡◌, sym, ◌∙◌}
 use mathlib.Core.Bool.{Bool, true, cond}
 use native.Mathlib.Omega.{arith}
-use Rattle.std.proofs.lemmas.Result.{err_from_is_err_and}
 use Rattle.base.specs.declared.Refusal.TheVariants.{BlockNotOpen, NotMoving, AlreadyCopied}
 use Rattle.base.specs.Refusals.{refusal, refusal_number}
 use Rattle.layout.specs.Tally.{open_blocks}
@@ -14,15 +13,14 @@ use Rattle.volume.specs.Calls.{block_rows, copy_table}
 use Rattle.volume.specs.States.{tally_of}
 use Rattle.volume.proofs.Accepted.{AdvanceFacts, growth_accepted}
 use Rattle.volume.proofs.GrowthCode.{copy_refused, copy_not_open, copy_not_moving, copy_left}
-use Rattle.volume.proofs.Judged.{tells, err_tells, ok_takes, err_found, ok_found}
+use Rattle.volume.proofs.Judged.{exits, tells, err_tells, ok_takes, err_found, ok_found}
 use Rattle.volume.proofs.LiveCode.{counts_now, has_growth, asks_before, newest_asked, spot_is_old, spot_asks, moves_read, mark_asks, mark_read, mark_set_read}
 use Rattle.volume.proofs.Volume.copy_spot.Goals as goal
 use Rattle.volume.proofs.Volume.copy_spot.Goals.{After-has_mark, After-moves_now, Else-not-moves_now, Else-open_blocks-x, In_ok-check_growth}
 
 pub returns-in_err-check_growth : goal.returns-in_err-check_growth
 returns-in_err-check_growth c =
-    let p = err_from_is_err_and c.from_residual.result c.from_residual.ensures.1 in
-    rw (p.1, p.2) (err_found _ _ _ (copy_refused _ _ _ (err_tells _ _ c.in_err-check_growth.ensures) _))
+    exits _ _ _ c.from_residual.ensures.1 (err_found _ _ _ (copy_refused _ _ _ (err_tells _ _ c.in_err-check_growth.ensures) _))
 
 advances : (c : In_ok-check_growth) → AdvanceFacts c.args.self.now c.args.len
 advances c = growth_accepted _ _ (ok_takes _ _ c.in_ok-check_growth.ensures)
@@ -112,9 +110,8 @@ returns-then-has_mark c =
 pub returns-in_err-check_block_store : goal.returns-in_err-check_block_store
 returns-in_err-check_block_store c =
     let r = c.from_residual-in_err-check_block_store in
-    let p = err_from_is_err_and r.result r.ensures.1 in
     let left = last_test (goal.at.returns-in_err-check_block_store c).After-has_mark _ (sym c.if-has_mark.false) in
-    rw (p.1, p.2) (err_found _ _ _ (rw left at (err_tells _ _ c.in_err-check_block_store.ensures)))
+    exits _ _ _ r.ensures.1 (err_found _ _ _ (rw left at (err_tells _ _ c.in_err-check_block_store.ensures)))
 
 pub returns : goal.returns
 returns c =

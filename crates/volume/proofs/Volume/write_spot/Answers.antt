@@ -1,7 +1,6 @@
 -- `write_spot` meets its contract.
 use mathlib.Core.Path.{◌≡◌, sym, ◌∙◌}
 use mathlib.Core.Bool.{false}
-use Rattle.std.proofs.lemmas.Result.{err_from_is_err_and}
 use Rattle.base.specs.declared.Refusal.TheVariants.{CopyNotRecorded}
 use Rattle.base.specs.Refusals.{refusal, refusal_number}
 use Rattle.layout.specs.History.{spot_of}
@@ -10,15 +9,14 @@ use Rattle.volume.specs.Calls.{write_table, block_rows}
 use Rattle.volume.specs.States.{tally_of}
 use Rattle.volume.proofs.Accepted.{read_accepted}
 use Rattle.volume.proofs.BlockCode.{refused_as_read, refused_waiting}
-use Rattle.volume.proofs.Judged.{tells, err_tells, ok_takes, err_found, ok_found}
+use Rattle.volume.proofs.Judged.{exits, tells, err_tells, ok_takes, err_found, ok_found}
 use Rattle.volume.proofs.LiveCode.{counts_before, rest_waiting, newest_asked, spot_asks, waiting_read, spot_in_growth}
 use Rattle.volume.proofs.Volume.write_spot.Goals as goal
 use Rattle.volume.proofs.Volume.write_spot.Goals.{After-check_read, Joined-self-ne0, Then-self-ne0}
 
 pub returns-in_err-check_read : goal.returns-in_err-check_read
 returns-in_err-check_read c =
-    let p = err_from_is_err_and c.from_residual.result c.from_residual.ensures.1 in
-    rw (p.1, p.2) (err_found _ _ _ (refused_as_read _ _ _ _ _ (err_tells _ _ c.in_err-check_read.ensures)))
+    exits _ _ _ c.from_residual.ensures.1 (err_found _ _ _ (refused_as_read _ _ _ _ _ (err_tells _ _ c.in_err-check_read.ensures)))
 
 pub old_spot-old-requires : goal.old_spot-old-requires
 old_spot-old-requires c =
@@ -71,8 +69,7 @@ left c = refused_waiting _ _ _ _ (ok_takes _ _ c.in_ok-check_read.ensures) ∙ s
 
 pub returns-in_err-check_block_store : goal.returns-in_err-check_block_store
 returns-in_err-check_block_store c =
-    let p = err_from_is_err_and c.from_residual-in_err-check_block_store.result c.from_residual-in_err-check_block_store.ensures.1 in
-    rw (p.1, p.2) (err_found _ _ _ (rw (left (goal.at.returns-in_err-check_block_store c).Joined-self-ne0) (err_tells _ _ c.in_err-check_block_store.ensures)))
+    exits _ _ _ c.from_residual-in_err-check_block_store.ensures.1 (err_found _ _ _ (rw (left (goal.at.returns-in_err-check_block_store c).Joined-self-ne0) (err_tells _ _ c.in_err-check_block_store.ensures)))
 
 pub live_spot_from-requires : goal.live_spot_from-requires
 live_spot_from-requires c =
