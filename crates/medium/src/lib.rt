@@ -18,47 +18,31 @@ pub struct Geometry {
     pub rows: usize,
 }
 
-// The bytes that the record and so many disks take.
-pub fn bytes_needed(g: Geometry, disks: usize) -> usize
-    requires size_nonzero { 0 < g.size }
-    requires disks_bound { bytes_needed g disks < 2 ^ 64 }
-    ensures { result ≡ bytes_needed g disks }
-{
-    512 + disks * g.rows * g.size
+impl Geometry {
+    // The bytes that the record and so many disks take.
+    pub fn bytes_needed(self, disks: usize) -> usize
+        requires size_nonzero { 0 < self.size }
+        requires disks_bound { bytes_needed self disks < 2 ^ 64 }
+        ensures { result ≡ bytes_needed self disks }
+    {
+        512 + disks * self.rows * self.size
+    }
+
+    // The byte at which a spot starts.
+    pub fn place_of(self, p: Spot) -> usize
+        requires size_nonzero { 0 < self.size }
+        requires p_bound { place self p < 2 ^ 64 }
+        ensures { result ≡ place self p }
+    {
+        512 + (p.disk * self.rows + p.row.0) * self.size
+    }
 }
 
-// The byte at which a spot starts.
-pub fn place_of(g: Geometry, p: Spot) -> usize
-    requires size_nonzero { 0 < g.size }
-    requires p_bound { place g p < 2 ^ 64 }
-    ensures { result ≡ place g p }
-{
-    512 + (p.disk * g.rows + p.row.0) * g.size
-}
-
-// The most bytes in a block, and so of the local array that a copy passes through.
+// The most bytes in a block.
 pub const MOST_SIZE: usize = 65_536;
 
-// Copies all of src to dst. Two loops, through a local array: of these the compiler makes one memmove, and the array is
-// gone. Of a single loop it can't, since it does not know that src and dst are apart.
-fn copy_all(src: &[u8], dst: &mut [u8])
-    requires src_len_bound { length src.now ≤ most_size }
-    requires src_len { length src.now ≡ length dst.old }
-    ensures { dst.new ≡ src.now }
-{
-    let n = src.len();
-    let mut held = [0u8; MOST_SIZE];
-    let mut i = 0;
-    while i < n {
-        held[i] = src[i];
-        i += 1;
-    }
-    let mut j = 0;
-    while j < n {
-        dst[j] = held[j];
-        j += 1;
-    }
-}
+// Kept: three contracts ask for a size within its limits. That is no invariant of Geometry: a volume's is that of any
+// state, sound or not.
 
 // Stores a piece at a spot.
 pub fn store_block(medium: &mut [u8], g: Geometry, p: Spot, piece: &[u8])
@@ -67,9 +51,9 @@ pub fn store_block(medium: &mut [u8], g: Geometry, p: Spot, piece: &[u8])
     requires piece_len { length piece.now ≡ g.size }
     ensures { medium.new ≡ apply g (block_store p piece.now) medium.old }
 {
-    let at = place_of(g, p);
-    let end = at + piece.len();
-    copy_all(piece, &mut medium[at..end]);
+    let at = g.place_of(p);
+    let spot = &mut medium[at..at + g.size];
+    spot.copy_from_slice(piece);
 }
 
 // Fills a piece from a spot.
@@ -79,29 +63,18 @@ pub fn fetch_block(medium: &[u8], g: Geometry, p: Spot, piece: &mut [u8])
     requires piece_len { length piece.old ≡ g.size }
     ensures { piece.new ≡ (observe medium.now).bytes_at g p }
 {
-    let at = place_of(g, p);
-    let end = at + piece.len();
-    copy_all(&medium[at..end], piece);
+    let at = g.place_of(p);
+    let spot = &medium[at..at + g.size];
+    piece.copy_from_slice(spot);
 }
 
-// Copies n bytes from one place of the medium to another; two loops for the same reason.
+// Copies n bytes from one place of the medium to another.
 fn copy_bytes(medium: &mut [u8], from: usize, to: usize, n: usize)
-    requires n_le_most_size { n ≤ most_size }
     requires from_in_bounds { from + n ≤ length medium.old }
     requires to_in_bounds { to + n ≤ length medium.old }
     ensures { medium.new ≡ sets medium.old to (take n (drop from medium.old)) }
 {
-    let mut held = [0u8; MOST_SIZE];
-    let mut i = 0;
-    while i < n {
-        held[i] = medium[from + i];
-        i += 1;
-    }
-    let mut j = 0;
-    while j < n {
-        medium[to + j] = held[j];
-        j += 1;
-    }
+    medium.copy_within(from..from + n, to);
 }
 
 // Copies the block at one spot to another.
@@ -111,7 +84,7 @@ pub fn copy_block(medium: &mut [u8], g: Geometry, from: Spot, to: Spot)
     requires to_inside { Inside g (length medium.old) to }
     ensures { medium.new ≡ apply g (block_store to ((observe medium.old).bytes_at g from)) medium.old }
 {
-    let source = place_of(g, from);
-    let target = place_of(g, to);
+    let source = g.place_of(from);
+    let target = g.place_of(to);
     copy_bytes(medium, source, target, g.size);
 }
