@@ -33,7 +33,7 @@ fn shelves_refusal(v: Volume, counts: &[usize; 8], first: usize, second: usize, 
     if second < (disks - k) * g.rows * g.size {
         return 2;
     }
-    if first < medium::bytes_needed(g, k) {
+    if first < g.bytes_needed(k) {
         return 2;
     }
     0
@@ -45,11 +45,11 @@ fn start_on_shelf(g: Geometry, k: usize, p: Spot) -> ViewAnswer
     requires p_bound { place g p < 2 ^ 64 }
     ensures { result ≡ start_on_shelf g k p }
 {
-    let at = medium::place_of(g, p);
+    let at = g.place_of(p);
     if p.disk < k {
         return ViewAnswer::First(at);
     }
-    ViewAnswer::Second(at - medium::bytes_needed(g, k))
+    ViewAnswer::Second(at - g.bytes_needed(k))
 }
 
 // What a view of block x tells, with shelves of so many bytes. Whether a growth runs is asked once, before 3 is tested: that

@@ -61,7 +61,7 @@ impl Volume {
             return Err(Refusal::OutsideLimits);
         }
         let g = Geometry { size, rows };
-        if len < medium::bytes_needed(g, disks) {
+        if len < g.bytes_needed(disks) {
             return Err(Refusal::MediumTooShort);
         }
         Ok(())

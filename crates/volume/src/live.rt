@@ -40,7 +40,7 @@ impl Volume {
         requires disks_le_most_disks { disks ≤ most_disks }
         ensures { result ≡ too_short (geometry self.now) disks len }
     {
-        len < medium::bytes_needed(self.geometry(), disks)
+        len < self.geometry().bytes_needed(disks)
     }
 
     // The number of open blocks.
