@@ -13,10 +13,12 @@ use lib.Seq.{take-add, drop-drop, get_or-append-add, get_or-take, get_or-drop, e
 use Rattle.base.proofs.Booleans.{cond_cases, and_both, clash, by_test}
 use Rattle.base.proofs.Counting.{every_use, every_make}
 use Rattle.base.specs.Below.{joined}
+use Rattle.base.specs.declared.Refusal.{Refusal}
+use Rattle.std.specs.Prelude.{Result, Ok}
 use Rattle.base.proofs.Lists.{length_table, get_d_table, table_ext, table_self, joined_part}
 use Rattle.record.specs.declared.Column.{Column}
 use Rattle.record.specs.declared.Column.TheVariants.{Number, Blank, NotANumber}
-use Rattle.record.specs.declared.RecordRead.{RecordRead}
+use Rattle.record.specs.declared.Record.{Record}
 use Rattle.record.specs.Decimal.{space, zero_digit, column_width, decimal, blank, read_column, value_of}
 use Rattle.record.specs.Sector.{column_count, mark_count, growths, one_digit, line_feed, is_blank, field, columns, mark_byte, mark_bytes, ending, sector, is_number, blank_as_zero, column_at, read_field, growths_read, is_mark, fields_hold, marks_hold, spaces_hold, is_record, numbers_found, marks_found, no_record, read_record}
 use Rattle.record.specs.Laws.{Writable}
@@ -133,7 +135,7 @@ module _ (numbers : List ℕ) (marks : List Bool) where
         (and_both fields_hold_law
         (and_both marks_hold_law (and_both spaces_hold_law (eq-eqb _ _ (ending_at 317 ∙ ending_feed)))))
 
-    pub written_is_read : read_record (sector numbers marks) ≡ record { refusal = 0; numbers = numbers; marks = marks }
+    pub written_is_read : read_record (sector numbers marks) ≡ Ok (record { numbers = numbers; marks = marks })
     unfolding read_record
     written_is_read = rw (sector_is_record, growths_found, numbers_found_law, marks_found_law)
 
@@ -237,10 +239,12 @@ module _ (bytes : List ℕ) (held : Holds bytes) where
       sym (take-append-drop 130 bytes)
       ∙ rw (columns_are column_count (omega arith), sym (take-append-drop mark_count (drop 130 bytes)), marks_are, e)
 
-pub read_is_written : (bytes : List ℕ) → (read_record bytes).refusal ≡ 0
-    → Writable (read_record bytes).numbers (read_record bytes).marks × (bytes ≡ sector (read_record bytes).numbers (read_record bytes).marks)
+pub read_is_written : (bytes : List ℕ) (r : Record) → read_record bytes ≡ Ok r → Writable r.numbers r.marks × (bytes ≡ sector r.numbers r.marks)
 unfolding read_record no_record
-read_is_written bytes =
-    cond_cases (λ (r : RecordRead). r.refusal ≡ 0 → Writable r.numbers r.marks × (bytes ≡ sector r.numbers r.marks)) (is_record bytes)
-    (λ e _. let held = holds bytes e in (writable bytes held, is_sector bytes held))
-    (λ _ e. absurd (omega arith))
+read_is_written bytes r =
+    cond_cases (λ (found : Result Record Refusal). found ≡ Ok r → Writable r.numbers r.marks × (bytes ≡ sector r.numbers r.marks)) (is_record bytes)
+    (λ e f.
+    let held = holds bytes e in
+    let same : record { numbers = numbers_of bytes; marks = marks_found bytes } ≡ r = cc in
+    rw (← same) (writable bytes held, is_sector bytes held))
+    (λ e f. cc)

@@ -1,6 +1,7 @@
 -- What is proved of the record: `RecordLaws`. `proofs/Theorems.antt` has the proof.
-use Rattle.std.specs.Prelude.{ℕ, ◌^◌, ◌<◌, ◌≡◌, Bool, true, List, length, get_or}
+use Rattle.std.specs.Prelude.{ℕ, ◌^◌, ◌<◌, ◌≡◌, Bool, true, List, length, get_or, Ok}
 use Rattle.record.specs.declared.Column.TheVariants.{Number, Blank}
+use Rattle.record.specs.declared.Record.{Record}
 use Rattle.record.specs.Decimal.{column_width, decimal, blank, read_column}
 use Rattle.record.specs.Sector.{column_count, mark_count, growths, is_blank, sector, read_record}
 
@@ -21,6 +22,5 @@ pub record RecordLaws : Type 0 where
   -- the whole record, the same
   pub sector_length : (numbers : List ℕ) (marks : List Bool) → length (sector numbers marks) ≡ 512
   pub written_is_read : (numbers : List ℕ) (marks : List Bool) → Writable numbers marks
-      → read_record (sector numbers marks) ≡ record { refusal = 0; numbers = numbers; marks = marks }
-  pub read_is_written : (bytes : List ℕ) → (read_record bytes).refusal ≡ 0
-      → Writable (read_record bytes).numbers (read_record bytes).marks × (bytes ≡ sector (read_record bytes).numbers (read_record bytes).marks)
+      → read_record (sector numbers marks) ≡ Ok (record { numbers = numbers; marks = marks })
+  pub read_is_written : (bytes : List ℕ) (r : Record) → read_record bytes ≡ Ok r → Writable r.numbers r.marks × (bytes ≡ sector r.numbers r.marks)

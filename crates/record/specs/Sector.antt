@@ -1,12 +1,12 @@
 -- Document 01, "Medium, state, record": the 512 bytes of the record, from thirteen numbers and 64 marks, and the reading of
 -- them. The numbers are Z, s, t, N[0] to N[7], growing and w, in the order of their columns.
-use Rattle.std.specs.Prelude.{ℕ, ◌+◌, ◌*◌, Bool, true, false, cond, ◌&&◌, ◌||◌, List, [], ◌∷◌, ◌++◌, eqb, ltb, length, take, drop, get_or, replicate}
+use Rattle.std.specs.Prelude.{ℕ, ◌+◌, ◌*◌, Bool, true, false, cond, ◌&&◌, ◌||◌, List, [], ◌∷◌, ◌++◌, eqb, ltb, length, take, drop, get_or, replicate, Result, Ok, Err}
 use Rattle.base.specs.Below.{every, table, joined}
+use Rattle.base.specs.declared.Refusal.{Refusal}
+use Rattle.base.specs.declared.Refusal.TheVariants.{NoRecord}
 use Rattle.record.specs.declared.Column.{Column}
 use Rattle.record.specs.declared.Column.TheVariants.{Number, Blank, NotANumber}
-use Rattle.record.specs.declared.NumbersRead.{NumbersRead}
-use Rattle.record.specs.declared.MarksRead.{MarksRead}
-use Rattle.record.specs.declared.RecordRead.{RecordRead}
+use Rattle.record.specs.declared.Record.{Record}
 use Rattle.record.specs.Decimal.{space, zero_digit, column_width, decimal, blank, read_column, value_of}
 
 -- Z, s and t are columns 0 to 2, N[k] is column 3 + k, growing and w are columns 11 and 12
@@ -105,25 +105,19 @@ numbers_found bytes t = table (λ i. value_of (read_field bytes t i)) column_cou
 unfoldable pub marks_found : (bytes : List ℕ) → List Bool
 marks_found bytes = table (λ i. eqb (get_or bytes (130 + i) 0) one_digit) mark_count
 
--- The columns alone, the marks alone, the whole. "A refusal has 0 for every figure beside its number."
-unfoldable pub read_numbers : (bytes : List ℕ) (t : ℕ) → NumbersRead
-read_numbers bytes t =
-    cond (fields_hold bytes t)
-    (record { refusal = 0; numbers = numbers_found bytes t })
-    (record { refusal = 13; numbers = replicate column_count 0 })
+-- The columns alone, the marks alone, the whole: what is found, or refusal 13.
+unfoldable pub read_numbers : (bytes : List ℕ) (t : ℕ) → Result (List ℕ) Refusal
+read_numbers bytes t = cond (fields_hold bytes t) (Ok (numbers_found bytes t)) (Err NoRecord)
 
-unfoldable pub read_marks : (bytes : List ℕ) → MarksRead
-read_marks bytes =
-    cond (marks_hold bytes)
-    (record { refusal = 0; marks = marks_found bytes })
-    (record { refusal = 13; marks = replicate mark_count false })
+unfoldable pub read_marks : (bytes : List ℕ) → Result (List Bool) Refusal
+read_marks bytes = cond (marks_hold bytes) (Ok (marks_found bytes)) (Err NoRecord)
 
-unfoldable pub no_record : RecordRead
-no_record = record { refusal = 13; numbers = replicate column_count 0; marks = replicate mark_count false }
+unfoldable pub no_record : Result Record Refusal
+no_record = Err NoRecord
 
 -- the numbers and marks of a record, or refusal 13
-unfoldable pub read_record : (bytes : List ℕ) → RecordRead
+unfoldable pub read_record : (bytes : List ℕ) → Result Record Refusal
 read_record bytes =
     cond (is_record bytes)
-    (record { refusal = 0; numbers = numbers_found bytes (growths_read bytes); marks = marks_found bytes })
+    (Ok (record { numbers = numbers_found bytes (growths_read bytes); marks = marks_found bytes }))
     no_record

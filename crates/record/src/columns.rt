@@ -9,13 +9,7 @@ use super::Column;
 pub fn is_blank(t: usize, i: usize) -> bool
     ensures { result ≡ is_blank t i }
 {
-    if i < 3 {
-        return false;
-    }
-    if 11 <= i {
-        return false;
-    }
-    t < i - 3
+    (3..11).contains(&i) && t < i - 3
 }
 
 // Fills a lent part with a number: decimal, right-justified with spaces, no leading zeros.
@@ -26,17 +20,16 @@ pub fn put_number(page: &mut [u8], n: usize)
     if width == 0 {
         return;
     }
-    let mut i = width - 1;
-    page[i] = b'0' + (n % 10) as u8;
+    let last = width - 1;
+    page[last] = b'0' + (n % 10) as u8;
     let mut rest = n / 10;
-    while 0 < i {
-        i -= 1;
-        if rest == 0 {
-            page[i] = b' ';
+    for i in (0..last).rev() {
+        page[i] = if rest == 0 {
+            b' '
         } else {
-            page[i] = b'0' + (rest % 10) as u8;
-        }
-        rest = rest / 10;
+            b'0' + (rest % 10) as u8
+        };
+        rest /= 10;
     }
 }
 
@@ -45,32 +38,11 @@ fn column_step(c: Column, b: u8) -> Column
     requires { value_of c < 10 ^ 10 }
     ensures { result ≡ column_step c b }
 {
-    match c {
-        Column::Number(n) => {
-            if b < b'0' {
-                return Column::NotANumber;
-            }
-            if b'9' < b {
-                return Column::NotANumber;
-            }
-            if n == 0 {
-                return Column::NotANumber;
-            }
-            Column::Number(n * 10 + (b - b'0') as usize)
-        }
-        Column::Blank => {
-            if b == b' ' {
-                return Column::Blank;
-            }
-            if b < b'0' {
-                return Column::NotANumber;
-            }
-            if b'9' < b {
-                return Column::NotANumber;
-            }
-            Column::Number((b - b'0') as usize)
-        }
-        Column::NotANumber => Column::NotANumber,
+    match (c, b) {
+        (Column::Blank, b' ') => Column::Blank,
+        (Column::Blank, b'0'..=b'9') => Column::Number((b - b'0') as usize),
+        (Column::Number(n), b'0'..=b'9') if n != 0 => Column::Number(n * 10 + (b - b'0') as usize),
+        _ => Column::NotANumber,
     }
 }
 
@@ -82,10 +54,8 @@ pub fn read_column(column: &[u8]) -> Column
         return Column::NotANumber;
     }
     let mut found = Column::Blank;
-    let mut i = 0;
-    while i < 10 {
-        found = column_step(found, column[i]);
-        i += 1;
+    for b in column {
+        found = column_step(found, *b);
     }
     found
 }

@@ -19,24 +19,9 @@ pub enum Column {
     NotANumber,
 }
 
-// What reading the thirteen columns gives: refusal 0 and the numbers, or 13 and zeros.
+// What a record holds: the numbers in the order of their columns, and the marks.
 #[derive(Clone, Copy)]
-struct NumbersRead {
-    pub refusal: usize,
-    pub numbers: [usize; 13],
-}
-
-// What reading the marks gives: refusal 0 and the marks, or 13 and none set.
-#[derive(Clone, Copy)]
-struct MarksRead {
-    pub refusal: usize,
-    pub marks: [bool; 64],
-}
-
-// What reading a record gives: refusal 0, the numbers and the marks, or 13 and zeros.
-#[derive(Clone, Copy)]
-pub struct RecordRead {
-    pub refusal: usize,
+pub struct Record {
     pub numbers: [usize; 13],
     pub marks: [bool; 64],
 }

@@ -1,19 +1,18 @@
 // Reading the record. Each field is read or the record is refused there.
 ghost use Rattle.std.specs.Prelude.{◌≡◌, ◌<◌, length};
-ghost use Rattle.record.specs.Sector.{read_field, read_numbers, read_marks, spaces_hold, no_record, read_record};
+ghost use Rattle.record.specs.Sector.{read_field, read_numbers, read_marks, spaces_hold, read_record};
 
 use super::columns::{is_blank, read_column};
-use super::{Column, MarksRead, NumbersRead, RecordRead};
+use super::{Column, Record};
+use base::Refusal;
 
 // What column i holds; one that has to be blank holds 0.
-fn read_field(bytes: &[u8], t: usize, i: usize) -> Column
-    requires i_bound { i < 13 }
-    requires bytes_len { length bytes.now ≡ 512 }
+fn read_field(bytes: &[u8; 512], t: usize, i: usize) -> Column
+    requires { i < 13 }
     ensures { result ≡ read_field bytes.now t i }
 {
     let at = i * 10;
-    let end = at + 10;
-    let found = read_column(&bytes[at..end]);
+    let found = read_column(&bytes[at..at + 10]);
     if !is_blank(t, i) {
         return found;
     }
@@ -24,108 +23,65 @@ fn read_field(bytes: &[u8], t: usize, i: usize) -> Column
 }
 
 // The thirteen numbers.
-fn read_numbers(bytes: &[u8], t: usize) -> NumbersRead
-    requires { length bytes.now ≡ 512 }
+fn read_numbers(bytes: &[u8; 512], t: usize) -> Result<[usize; 13], Refusal>
     ensures { result ≡ read_numbers bytes.now t }
 {
-    let mut numbers = [0usize; 13];
-    let mut i = 0;
-    while i < 13 {
+    let mut numbers = [0; 13];
+    for i in 0..13 {
         let Column::Number(n) = read_field(bytes, t, i) else {
-            return NumbersRead {
-                refusal: 13,
-                numbers: [0; 13],
-            };
+            return Err(Refusal::NoRecord);
         };
         numbers[i] = n;
-        i += 1;
     }
-    NumbersRead {
-        refusal: 0,
-        numbers,
-    }
+    Ok(numbers)
 }
 
 // The marks.
-fn read_marks(bytes: &[u8]) -> MarksRead
-    requires { length bytes.now ≡ 512 }
+fn read_marks(bytes: &[u8; 512]) -> Result<[bool; 64], Refusal>
     ensures { result ≡ read_marks bytes.now }
 {
     let mut marks = [false; 64];
-    let mut i = 0;
-    while i < 64 {
-        let b = bytes[130 + i];
-        if b != b'0' {
-            if b != b'1' {
-                return MarksRead {
-                    refusal: 13,
-                    marks: [false; 64],
-                };
-            }
-        }
-        marks[i] = b == b'1';
-        i += 1;
+    for (i, b) in bytes[130..194].iter().enumerate() {
+        marks[i] = match *b {
+            b'0' => false,
+            b'1' => true,
+            _ => return Err(Refusal::NoRecord),
+        };
     }
-    MarksRead { refusal: 0, marks }
+    Ok(marks)
 }
 
 // Are bytes 194 to 510 spaces?
-fn has_spaces(bytes: &[u8]) -> bool
-    requires { length bytes.now ≡ 512 }
+fn has_spaces(bytes: &[u8; 512]) -> bool
     ensures { result ≡ spaces_hold bytes.now }
 {
     // No early return, so that the compiler takes many bytes at a time.
     let mut other = 0u16;
-    let mut i = 0;
-    while i < 317 {
-        if bytes[194 + i] != b' ' {
+    for b in &bytes[194..511] {
+        if *b != b' ' {
             other += 1;
         }
-        i += 1;
     }
     other == 0
 }
 
-// Refusal 13.
-fn no_record() -> RecordRead
-    ensures { result ≡ no_record }
-{
-    RecordRead {
-        refusal: 13,
-        numbers: [0; 13],
-        marks: [false; 64],
-    }
-}
-
 // The numbers and marks of a record, or refusal 13.
-pub fn read_record(bytes: &[u8]) -> RecordRead
+pub fn read_record(bytes: &[u8]) -> Result<Record, Refusal>
     ensures { result ≡ read_record bytes.now }
 {
-    if bytes.len() != 512 {
-        return no_record();
-    }
-    let Column::Number(t) = read_column(&bytes[20..30]) else {
-        return no_record();
+    let Some(bytes) = bytes.as_array::<512>() else {
+        return Err(Refusal::NoRecord);
     };
-    let found = read_numbers(bytes, t);
-    if found.refusal != 0 {
-        return no_record();
-    }
-    let marked = read_marks(bytes);
-    if marked.refusal != 0 {
-        return no_record();
-    }
+    let Column::Number(t) = read_column(&bytes[20..30]) else {
+        return Err(Refusal::NoRecord);
+    };
+    let numbers = read_numbers(bytes, t)?;
+    let marks = read_marks(bytes)?;
     if !has_spaces(bytes) {
-        return no_record();
+        return Err(Refusal::NoRecord);
     }
     if bytes[511] != b'\n' {
-        return no_record();
+        return Err(Refusal::NoRecord);
     }
-    let numbers = found.numbers;
-    let marks = marked.marks;
-    RecordRead {
-        refusal: 0,
-        numbers,
-        marks,
-    }
+    Ok(Record { numbers, marks })
 }

@@ -15,27 +15,27 @@ pub returns-then-column-ne10 : goal.returns-then-column-ne10
 unfolding read_column
 returns-then-column-ne10 c = simp (ne_eqb _ _ c.if-column-ne10.true)
 
-pub loop-i-init : goal.loop-i-init
+pub loop-b-init : goal.loop-b-init
 unfolding column_fold
-loop-i-init c = (omega arith, refl)
+loop-b-init c = refl
 
 pub column_step-found-requires : goal.column_step-found-requires
 column_step-found-requires c =
-    let lp = c.loop-i in
+    let lp = c.loop-b in
     let column = c.args.column.now in
-    let h : 10 ^ lp.i ≤ 10 ^ 10 = pow-le-pow_right (lit< tt) lp.invariant.0 in
-    rw lp.invariant.1 (omega (arith, fold_small column lp.i (omega arith), h))
+    let few : lp.b-index ≤ 10 = omega arith in
+    let h : 10 ^ lp.b-index ≤ 10 ^ 10 = pow-le-pow_right (lit< tt) few in
+    rw lp.invariant (omega (arith, fold_small column lp.b-index (omega arith), h))
 
-pub loop-i-preserved : goal.loop-i-preserved
-loop-i-preserved c =
-    let lp = c.loop-i in
-    let column = c.args.column.now in
-    (omega arith, c.column_step-found.ensures ∙ rw lp.invariant.1 (sym (fold_next column lp.i (omega arith))))
+pub loop-b-preserved : goal.loop-b-preserved
+loop-b-preserved c =
+    let lp = c.loop-b in
+    c.column_step-found.ensures ∙ rw lp.invariant (sym (fold_next c.args.column.now lp.b-index (omega arith)))
 
 pub returns : goal.returns
 unfolding read_column
 returns c =
     let column = c.args.column.now in
     let e : length column ≡ 10 = omega arith in
-    let all : take c.loop-i.i column ≡ column = take_all c.loop-i.i column (omega arith) in
-    rw (eq-eqb _ _ e) (c.loop-i.invariant.1 ∙ rw all)
+    let all : take c.loop-b.b-index column ≡ column = take_all c.loop-b.b-index column (omega arith) in
+    rw (eq-eqb _ _ e) (c.loop-b.invariant ∙ rw all)

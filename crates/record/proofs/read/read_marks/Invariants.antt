@@ -1,4 +1,4 @@
-use Prim.Native.Nat.{◌-◌, ◌≤◌}
+use Prim.Native.Nat.{◌-◌}
 use mathlib.Core.Path.{◌≡◌}
 use mathlib.Core.Bool.{true, false}
 use mathlib.Core.List.{◌++◌}
@@ -8,7 +8,4 @@ use Rattle.record.proofs.ReadCode.{mark_at, set_at}
 use Rattle.record.proofs.read.read_marks.Given as goal
 
 abbrev pub invariant-loop-i : goal.invariant-loop-i
-invariant-loop-i l = (l.i ≤ 64) × ((every (mark_at l.bytes) l.i ≡ true) × (l.marks ≡ table (set_at l.bytes) l.i ++ replicate (64 - l.i) false))
-
-abbrev pub decreases-loop-i : goal.decreases-loop-i
-decreases-loop-i l = 64 - l.i
+invariant-loop-i l = (every (mark_at l.bytes) l.i ≡ true) × (l.marks ≡ table (set_at l.bytes) l.i ++ replicate (64 - l.i) false)

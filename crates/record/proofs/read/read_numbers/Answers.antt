@@ -12,7 +12,7 @@ use Rattle.record.proofs.read.read_numbers.Goals as goal
 
 pub loop-i-init : goal.loop-i-init
 unfolding every table
-loop-i-init c = (omega arith, (refl, refl))
+loop-i-init c = (refl, refl)
 
 pub returns-in_default : goal.returns-in_default
 returns-in_default c =
@@ -25,11 +25,10 @@ loop-i-preserved c =
     let lp = c.loop-i in
     let h : lp.i < 13 = omega arith in
     let e = sym c.read_field.ensures ∙ c.in-Number.is in
-    let number = every_next _ lp.i lp.invariant.1.0 (ap is_number e) in
-    (omega arith, (number, rw (← ap value_of e) (table_next 0 13 lp.i _ lp.numbers h lp.invariant.1.1)))
+    (every_next _ lp.i lp.invariant.0 (ap is_number e), rw (← ap value_of e) (table_next 0 13 lp.i _ lp.numbers h lp.invariant.1))
 
 pub returns : goal.returns
 returns c =
     let lp = c.loop-i in
     let e : lp.i ≡ 13 = omega arith in
-    numbers_read _ c.args.t lp.numbers (rw e at lp.invariant.1.0) (rw e at lp.invariant.1.1)
+    numbers_read _ c.args.t lp.numbers (rw e at lp.invariant.0) (rw e at lp.invariant.1)

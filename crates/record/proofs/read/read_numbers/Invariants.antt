@@ -1,4 +1,4 @@
-use Prim.Native.Nat.{◌-◌, ◌≤◌}
+use Prim.Native.Nat.{◌-◌}
 use mathlib.Core.Path.{◌≡◌}
 use mathlib.Core.Bool.{true}
 use mathlib.Core.List.{◌++◌}
@@ -8,7 +8,4 @@ use Rattle.record.proofs.ReadCode.{number_at, value_at}
 use Rattle.record.proofs.read.read_numbers.Given as goal
 
 abbrev pub invariant-loop-i : goal.invariant-loop-i
-invariant-loop-i l = (l.i ≤ 13) × ((every (number_at l.bytes l.t) l.i ≡ true) × (l.numbers ≡ table (value_at l.bytes l.t) l.i ++ replicate (13 - l.i) 0))
-
-abbrev pub decreases-loop-i : goal.decreases-loop-i
-decreases-loop-i l = 13 - l.i
+invariant-loop-i l = (every (number_at l.bytes l.t) l.i ≡ true) × (l.numbers ≡ table (value_at l.bytes l.t) l.i ++ replicate (13 - l.i) 0)

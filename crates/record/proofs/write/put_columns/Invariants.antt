@@ -1,4 +1,3 @@
-use Prim.Native.Nat.{◌-◌, ◌≤◌}
 use mathlib.Core.Path.{◌≡◌}
 use lib.ListN.{length}
 use lib.Seq.{sets}
@@ -6,7 +5,4 @@ use Rattle.record.specs.Sector.{growths, columns}
 use Rattle.record.proofs.write.put_columns.Given as goal
 
 abbrev pub invariant-loop-i : goal.invariant-loop-i
-invariant-loop-i l = (l.i ≤ 13) × ((l.page ≡ sets l.initial.page 0 (columns l.numbers l.i)) × ((length l.page ≡ length l.initial.page) × (l.t ≡ growths l.numbers)))
-
-abbrev pub decreases-loop-i : goal.decreases-loop-i
-decreases-loop-i l = 13 - l.i
+invariant-loop-i l = (l.page ≡ sets l.initial.page 0 (columns l.numbers l.i)) × (length l.page ≡ length l.initial.page) × (l.t ≡ growths l.numbers)

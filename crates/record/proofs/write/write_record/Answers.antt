@@ -4,5 +4,5 @@ use Rattle.record.proofs.write.write_record.Goals as goal
 
 pub returns : goal.returns
 returns c =
-    let a = c.args in
-    rw (c.put_ending.ensures, c.put_marks.ensures, c.put_columns.ensures) (sector_parts a.page.now a.numbers a.marks)
+    let held = c.args.held.now in
+    rw (c.put_ending.ensures, c.put_marks.ensures, c.put_columns.ensures) (sector_parts c.args.page.now held.numbers held.marks)
