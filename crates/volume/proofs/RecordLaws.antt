@@ -2,14 +2,14 @@
 -- state's record.
 use Prim.Native.Nat.{ℕ, ◌+◌, ◌^◌, ◌≤◌, ◌<◌}
 use mathlib.Core.Path.{◌≡◌, refl, sym, ap, ◌∙◌}
-use mathlib.Core.Bool.{Bool, true, false}
+use mathlib.Core.Bool.{Bool, true, false, false≢true}
 use mathlib.Core.List.{List}
 use mathlib.Core.Logic.{◌≢◌}
 use native.Mathlib.Decide.{ℕ_discrete}
 use native.Mathlib.Omega.{arith}
-use lib.Dec.{eqb, ltb, leb}
+use lib.Dec.{ltb, leb}
 use lib.ListN.{length, get_or}
-use borrow.Author.Tests.{eqb-true, ltb-true, leb-true, leb-false}
+use borrow.Author.Tests.{ltb-true, leb-true, leb-false}
 use Rattle.base.proofs.Booleans.{and_left, and_right, by_test, clash}
 use Rattle.layout.specs.History.{old_count, added_count}
 use Rattle.layout.proofs.HistoryCode.{history_disks, growths_most, limits_at, newest_old}
@@ -18,13 +18,16 @@ use Rattle.layout.proofs.WindowsCode.{windows_most}
 use Rattle.marks.specs.Marks.{within}
 use Rattle.marks.proofs.MarkSets.{within_use, within_make, within_self}
 use Rattle.medium.specs.Medium.{record_bytes}
+use Rattle.std.specs.Prelude.{Result, Ok, Err, is_ok}
+use Rattle.base.specs.declared.Refusal.{Refusal}
+use Rattle.record.specs.declared.Record.{Record}
 use Rattle.record.specs.Decimal.{column_width}
 use Rattle.record.specs.Laws.{Writable}
 use Rattle.record.specs.Sector.{is_blank, sector, read_record}
 use Rattle.record.proofs.Theorems.{record_laws}
 use Rattle.volume.specs.declared.Volume.{Volume}
 use Rattle.volume.specs.Laws.{SoundFacts, RestFacts, GrowthFacts}
-use Rattle.volume.specs.Records.{numbers_of, record_of, state_of, state_read, is_sound_record}
+use Rattle.volume.specs.Records.{numbers_of, record_of, state_of, state_found, state_read, is_sound_record}
 use Rattle.volume.specs.Sound.{moving_of, sound}
 use Rattle.volume.specs.States.{history_of, tally_of, with_growth, recorded_only, with_pending, none_pending, new_state}
 use Rattle.volume.proofs.NumberLists.{numbers_each, state_back, numbers_back}
@@ -142,8 +145,8 @@ unfolding record_of
 record_length v = record_laws.sector_length (numbers_of v) (marks_of v.recorded)
 
 state_read_law : (v : Volume) → sound v ≡ true
-    → ((read_record (record_of v)).refusal ≡ 0) × (state_read (record_of v) ≡ recorded_only v)
-unfolding record_of state_read recorded_only
+    → (is_ok (read_record (record_of v)) ≡ true) × (state_read (record_of v) ≡ recorded_only v)
+unfolding record_of state_read state_found recorded_only
 state_read_law v e =
     let f = sound_facts v e in
     let r = record_laws.written_is_read (numbers_of v) (marks_of v.recorded) (writable v f) in
@@ -155,19 +158,28 @@ record_read v e = let r = state_read_law v e in (rw (r.0, r.1) (recorded_sound v
 
 pub read_sound : (bytes : List ℕ) → is_sound_record bytes ≡ true → sound (state_read bytes) ≡ true
 unfolding is_sound_record
-read_sound bytes e = and_right (eqb (read_record bytes).refusal 0) (sound (state_read bytes)) e
+read_sound bytes e = and_right (is_ok (read_record bytes)) (sound (state_read bytes)) e
+
+record_found : (r : Result Record Refusal) → is_ok r ≡ true → (found : Record) × (r ≡ Ok found)
+record_found (Ok found) e = (found, refl)
+record_found (Err refusal) e = absurd (false≢true e)
 
 pub read_recorded : (bytes : List ℕ) → is_sound_record bytes ≡ true → record_of (state_read bytes) ≡ bytes
-unfolding is_sound_record record_of state_read state_of with_growth
+unfolding is_sound_record record_of state_read state_found state_of with_growth
 read_recorded bytes e =
-    let r = record_laws.read_is_written bytes (eqb-true _ 0 (and_left (eqb (read_record bytes).refusal 0) (sound (state_read bytes)) e)) in
-    let marks = (read_record bytes).marks in
-    ap (λ (l : List Bool). sector (numbers_of (state_of (read_record bytes).numbers marks)) l) (marks_of_word marks r.0.marks_length)
-    ∙ ap (λ (l : List ℕ). sector l marks) (numbers_back (read_record bytes).numbers marks r.0.numbers_length) ∙ sym r.1
+    let (found, is) = record_found (read_record bytes) (and_left (is_ok (read_record bytes)) (sound (state_read bytes)) e) in
+    let r = record_laws.read_is_written bytes found is in
+    rw is
+    (ap (λ (l : List Bool). sector (numbers_of (state_of found.numbers found.marks)) l) (marks_of_word found.marks r.0.marks_length)
+    ∙ ap (λ (l : List ℕ). sector l found.marks) (numbers_back found.numbers found.marks r.0.numbers_length) ∙ sym r.1)
 
 pub read_no_copies : (bytes : List ℕ) → recorded_only (state_read bytes) ≡ state_read bytes
-unfolding recorded_only with_pending state_read state_of with_growth new_state none_pending
-read_no_copies bytes = refl
+unfolding recorded_only with_pending state_read state_found state_of with_growth new_state none_pending
+read_no_copies bytes = by (read_record bytes)
+  where
+    by : (r : Result Record Refusal) → recorded_only (state_found r) ≡ state_found r
+    by (Ok found) = refl
+    by (Err refusal) = refl
 
 pub not_a_record : (bytes : List ℕ) → is_sound_record bytes ≡ false → (v : Volume) → sound v ≡ true → record_of v ≢ bytes
 not_a_record bytes f v e q = clash (record_read v e).0 (rw q f)

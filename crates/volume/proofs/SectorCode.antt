@@ -5,12 +5,13 @@ use mathlib.Core.Bool.{Bool, true, false, cond}
 use mathlib.Core.List.{List, [], ◌∷◌}
 use mathlib.Core.Logic.{◌≢◌}
 use lib.ListN.{length, take}
-use borrow.Author.Tests.{le-ltb, lt-ltb, eq-eqb, ne_eqb}
-use Rattle.std.specs.Prelude.{Err}
+use borrow.Author.Tests.{le-ltb, lt-ltb}
+use Rattle.std.specs.Prelude.{Result, Ok, Err, is_ok}
 use Rattle.base.specs.declared.Refusal.{Refusal}
 use Rattle.base.specs.Refusals.{refusal, refusal_with}
 use Rattle.base.proofs.Refusals.{passed_first}
 use Rattle.medium.specs.Medium.{record_bytes, Observations, observe, no_store}
+use Rattle.record.specs.declared.Record.{Record}
 use Rattle.record.specs.Sector.{read_record}
 use Rattle.volume.specs.declared.Volume.{Volume}
 use Rattle.volume.specs.declared.Reply.{Reply}
@@ -22,13 +23,18 @@ use Rattle.volume.specs.States.{geometry, disks, zeros}
 use Rattle.volume.proofs.Judged.{Tells, tells_before, judged_cases, accepted_when}
 
 -- bytes that are no record, and bytes that are the record of a state
-pub unread : (bytes : List ℕ) → (read_record bytes).refusal ≢ 0 → is_sound_record bytes ≡ false
+pub unread : (bytes : List ℕ) → ((found : Record) → read_record bytes ≢ Ok found) → is_sound_record bytes ≡ false
 unfolding is_sound_record
-unread bytes h = rw (ne_eqb (read_record bytes).refusal 0 h)
+unread bytes n = rw (none_found (read_record bytes) n)
+  where
+    none_found : (r : Result Record Refusal) → ((found : Record) → r ≢ Ok found) → is_ok r ≡ false
+    none_found (Ok found) n = absurd (n found refl)
+    none_found (Err refusal) n = refl
 
-pub read_back : (bytes : List ℕ) (t : Bool) → (read_record bytes).refusal ≡ 0 → sound (state_read bytes) ≡ t → is_sound_record bytes ≡ t
+pub read_back : (bytes : List ℕ) (found : Record) (t : Bool) → read_record bytes ≡ Ok found → sound (state_read bytes) ≡ t
+    → is_sound_record bytes ≡ t
 unfolding is_sound_record
-read_back bytes t e f = rw (eq-eqb (read_record bytes).refusal 0 e, f)
+read_back bytes found t e f = rw (f, e)
 
 -- the table, test by test
 pub below_record : (m : List ℕ) → length m < record_bytes → 2 ≡ refusal (sector_table (observe m))

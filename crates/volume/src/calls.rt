@@ -87,13 +87,10 @@ impl Volume {
         if sector.len() < 512 {
             return Volume::zeros().refuse(Refusal::MediumTooShort);
         }
-        let found = record::read_record(&sector[0..512]);
-        if found.refusal != 0 {
+        let Ok(found) = record::read_record(&sector[0..512]) else {
             return Volume::zeros().refuse(Refusal::NoRecord);
-        }
-        let numbers = found.numbers;
-        let marks = found.marks;
-        let v = Volume::from_record(numbers, marks);
+        };
+        let v = Volume::from_record(&found);
         if !v.is_sound() {
             return Volume::zeros().refuse(Refusal::NoRecord);
         }

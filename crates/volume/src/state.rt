@@ -6,6 +6,7 @@ ghost use Rattle.volume.specs.Records.{record_of, state_of};
 ghost use Rattle.volume.specs.States.{geometry, new_state, with_growth, zeros, grown};
 
 use super::{Pending, Volume};
+use record::Record;
 
 impl Volume {
     // Document 01, "Words and limits". Block sizes are multiples of SIZE_STEP.
@@ -110,13 +111,14 @@ impl Volume {
             self.window,
         ];
         let marks = marks::marks_of(self.recorded);
-        record::write_record(medium, numbers, marks);
+        record::write_record(medium, &Record { numbers, marks });
     }
 
     // The state of a record's numbers and marks.
-    pub(crate) fn from_record(numbers: [usize; 13], marks: [bool; 64]) -> Volume
-        ensures { result ≡ state_of numbers marks }
+    pub(crate) fn from_record(found: &Record) -> Volume
+        ensures { result ≡ state_of found.now.numbers found.now.marks }
     {
+        let numbers = found.numbers;
         let counts = [
             numbers[3],
             numbers[4],
@@ -128,7 +130,7 @@ impl Volume {
             numbers[10],
         ];
         let fresh = Volume::new_state(numbers[0], numbers[1], 0);
-        let word = marks::word_of(marks);
+        let word = marks::word_of(found.marks);
         fresh.with_growth(numbers[2], counts, numbers[11], numbers[12], word, word)
     }
 }
