@@ -1,5 +1,7 @@
 // The worked record of document 01: written, read back, and changed in every byte.
+use base::Refusal;
 use printing::{Line, next_number, number, text};
+use record::Record;
 use std::io;
 use std::io::Write;
 
@@ -9,7 +11,8 @@ pub fn worked() -> [u8; 520] {
     let mut marks = [false; 64];
     marks[0] = true;
     marks[1] = true;
-    record::write_record(&mut page, [512, 5, 1, 3, 5, 0, 0, 0, 0, 0, 0, 1, 0], marks);
+    let numbers = [512, 5, 1, 3, 5, 0, 0, 0, 0, 0, 0, 1, 0];
+    record::write_record(&mut page, &Record { numbers, marks });
     page
 }
 
@@ -37,16 +40,28 @@ fn show_set(out: &mut impl Write, marks: [bool; 64]) -> io::Result<()> {
     Ok(())
 }
 
+// The number of the refusal, or 0, and the record, or zeros.
+fn answer(read: Result<Record, Refusal>) -> (usize, Record) {
+    match read {
+        Ok(found) => (0, found),
+        Err(refusal) => (
+            refusal.number(),
+            Record {
+                numbers: [0; 13],
+                marks: [false; 64],
+            },
+        ),
+    }
+}
+
 // What the first 512 bytes are read as.
 pub fn show_read(out: &mut impl Write, page: [u8; 520]) -> io::Result<()> {
-    let found = record::read_record(&page[0..512]);
-    let numbers = found.numbers;
-    let marks = found.marks;
-    number(out, found.refusal)?;
+    let (refusal, found) = answer(record::read_record(&page[0..512]));
+    number(out, refusal)?;
     text(out, b", numbers")?;
-    show_numbers(out, numbers)?;
+    show_numbers(out, found.numbers)?;
     text(out, b", marks")?;
-    show_set(out, marks)
+    show_set(out, found.marks)
 }
 
 // The refusal with k added to byte `at` of the record, 256 being 0.
@@ -56,8 +71,7 @@ fn refusal_with(page: [u8; 520], at: usize, k: u8) -> usize {
         return 2;
     }
     changed[at] = changed[at].wrapping_add(k);
-    let found = record::read_record(&changed[0..512]);
-    found.refusal
+    answer(record::read_record(&changed[0..512])).0
 }
 
 // How many of the 255 changes of each byte from `from` to `last` get this refusal; 0 past byte 511.
@@ -99,6 +113,5 @@ pub fn show_refusal(out: &mut impl Write, page: [u8; 520], length: usize) -> io:
     if 520 < length {
         return Ok(());
     }
-    let found = record::read_record(&page[0..length]);
-    number(out, found.refusal)
+    number(out, answer(record::read_record(&page[0..length])).0)
 }
