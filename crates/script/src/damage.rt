@@ -3,6 +3,7 @@ use super::given::Given;
 use super::lines::text_start;
 use super::run::{Run, with_medium};
 use printing::put_bytes;
+use record::Record;
 
 // Puts so many times one byte on the medium; nothing if they do not fit.
 pub fn put(run: Run, given: Given) -> Run {
@@ -25,9 +26,9 @@ pub fn put_text(run: Run, line: &[u8], at: usize) -> Run {
     with_medium(run, medium)
 }
 
-fn write_record(medium: &mut [u8], numbers: [usize; 13], recorded: [bool; 64]) {
+fn write_record(medium: &mut [u8], held: &Record) {
     if 512 <= medium.len() {
-        record::write_record(medium, numbers, recorded);
+        record::write_record(medium, held);
     }
 }
 
@@ -40,8 +41,8 @@ pub fn put_record(run: Run) -> Run {
         v.window,
     ];
     let mut medium = run.medium;
-    let recorded = marks::marks_of(v.recorded);
-    write_record(&mut medium, numbers, recorded);
+    let marks = marks::marks_of(v.recorded);
+    write_record(&mut medium, &Record { numbers, marks });
     with_medium(run, medium)
 }
 
