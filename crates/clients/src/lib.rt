@@ -42,7 +42,7 @@ pub fn client_read(
     ensures value { result ≡ (client_read table client state x.0 piece.old (observe medium.now)).reply }
     ensures piece_after { piece.new ≡ (client_read table client state x.0 piece.old (observe medium.now)).piece }
 {
-    if !spans::allows(table, client, x.0) {
+    if !table.allows(client, x.0) {
         return outside(state);
     }
     state.read(medium, x, piece)
@@ -60,7 +60,7 @@ pub fn client_write(
     ensures value { result ≡ (client_write table client state x.0 piece.now (observe medium.old)).reply }
     ensures medium_after { medium.new ≡ apply (geometry state) (client_write table client state x.0 piece.now (observe medium.old)).store medium.old }
 {
-    if !spans::allows(table, client, x.0) {
+    if !table.allows(client, x.0) {
         return outside(state);
     }
     state.write(medium, x, piece)

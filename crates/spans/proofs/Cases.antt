@@ -2,8 +2,10 @@
 use mathlib.Core.Path.{◌≡◌, refl}
 use mathlib.Core.Bool.{true, false}
 use mathlib.Core.List.{[], ◌∷◌}
+use Rattle.std.specs.Prelude.{Ok, Err}
+use Rattle.base.specs.declared.Refusal.TheVariants.{OutsideSpan}
 use Rattle.spans.specs.Cases.{span_table, zero_bounds, one_bounds, sums_beyond, shared_blocks, empty_spans, Keep, two_spans, broken_spans, used_below7, none_of7, SpanCases}
-use Rattle.spans.specs.Spans.{reaches, short, in_span, apart, spans_hold, owned_by, allowed, made}
+use Rattle.spans.specs.Spans.{reaches, short, in_span, apart, spans_hold, owned_by, allowed, made, given}
 
 zero_bounds_law : Keep zero_bounds
 unfolding spans_hold short apart reaches
@@ -41,13 +43,13 @@ blocks_broken : used_below7 broken_spans 0 ≡ none_of7
 unfolding allowed owned_by in_span spans_hold short apart reaches
 blocks_broken = refl
 
-made_two : made two_spans ≡ record { spans = two_spans; refusal = 0 }
+made_two : made two_spans ≡ Ok two_spans
 unfolding made spans_hold short apart reaches
 made_two = refl
 
-made_broken : made broken_spans ≡ record { spans = span_table 0 0 0 0; refusal = 21 }
-unfolding made spans_hold short apart reaches
-made_broken = refl
+made_broken : (made broken_spans ≡ Err OutsideSpan) × (given broken_spans ≡ span_table 0 0 0 0)
+unfolding made given spans_hold short apart reaches
+made_broken = (refl, refl)
 
 pub span_cases : SpanCases
 span_cases =

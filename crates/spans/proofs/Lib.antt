@@ -1,4 +1,2 @@
-pub mod Rule
-pub mod SpansCode
 pub mod Cases
 pub mod Theorems

@@ -1,7 +1,8 @@
 -- Document 02, W10: span tables worked out by hand: `SpanCases`. `proofs/Cases.antt` has the proof, by computing.
-use Rattle.std.specs.Prelude.{ℕ, ◌≡◌, Bool, true, false, List, [], ◌∷◌, map}
+use Rattle.std.specs.Prelude.{ℕ, ◌≡◌, Bool, true, false, List, [], ◌∷◌, Ok, Err, map}
+use Rattle.base.specs.declared.Refusal.TheVariants.{OutsideSpan}
 use Rattle.spans.specs.declared.Spans.{Spans}
-use Rattle.spans.specs.Spans.{spans_hold, allowed, made}
+use Rattle.spans.specs.Spans.{spans_hold, allowed, made, given}
 
 -- the spans of both clients: first and count of the one, first and count of the other
 abbrev pub span_table : (first count first1 count1 : ℕ) → Spans
@@ -65,5 +66,5 @@ pub record SpanCases : Type 0 where
   pub blocks_two : used_below7 two_spans 2 ≡ none_of7
   pub blocks_broken : used_below7 broken_spans 0 ≡ none_of7
   -- a table made, and one refused
-  pub made_two : made two_spans ≡ record { spans = two_spans; refusal = 0 }
-  pub made_broken : made broken_spans ≡ record { spans = span_table 0 0 0 0; refusal = 21 }
+  pub made_two : made two_spans ≡ Ok two_spans
+  pub made_broken : (made broken_spans ≡ Err OutsideSpan) × (given broken_spans ≡ span_table 0 0 0 0)

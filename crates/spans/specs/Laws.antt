@@ -1,9 +1,10 @@
 -- Document 02, W10: what is proved of span tables: `SpanLaws`. `proofs/Theorems.antt` has the proof.
-use Rattle.std.specs.Prelude.{ℕ, ◌+◌, ◌≤◌, ◌<◌, ◌≡◌, true, false}
+use Rattle.std.specs.Prelude.{ℕ, ◌+◌, ◌≤◌, ◌<◌, ◌≡◌, true, false, Ok, Err}
+use Rattle.base.specs.declared.Refusal.TheVariants.{OutsideSpan}
 use Rattle.spans.specs.declared.Span.{Span}
 use Rattle.spans.specs.declared.Spans.{Spans}
 use Rattle.spans.specs.Cases.{SpanCases}
-use Rattle.spans.specs.Spans.{most_reached, reaches, in_span, spans_hold, owned_by, allowed, no_spans, made}
+use Rattle.spans.specs.Spans.{most_reached, reaches, in_span, spans_hold, owned_by, allowed, no_spans, made, given}
 
 -- a block of the span, by its place in it
 pub record PlacedIn (s : Span) (x : ℕ) : Type 0 where
@@ -35,10 +36,10 @@ pub record SpanLaws : Type 0 where
   -- no two clients may use one block
   pub allowed_one : (t : Spans) (client other x : ℕ) → allowed t client x ≡ true → allowed t other x ≡ true → client ≡ other
   -- "checked when made": what is made keeps the rule, and is the table asked for
-  pub made_holds : (t : Spans) → spans_hold (made t).spans ≡ true
-  pub made_own : (t : Spans) → spans_hold t ≡ true → ((made t).refusal ≡ 0) × ((made t).spans ≡ t)
+  pub made_holds : (t : Spans) → spans_hold (given t) ≡ true
+  pub made_own : (t : Spans) → spans_hold t ≡ true → (made t ≡ Ok t) × (given t ≡ t)
   -- "refused with 21 too and gives zeros", in whose spans no block is
-  pub made_zeros : (t : Spans) → spans_hold t ≡ false → ((made t).refusal ≡ 21) × ((made t).spans ≡ no_spans)
+  pub made_zeros : (t : Spans) → spans_hold t ≡ false → (made t ≡ Err OutsideSpan) × (given t ≡ no_spans)
   pub zeros_allow_none : (client x : ℕ) → allowed no_spans client x ≡ false
   -- tables worked out by hand
   pub cases : SpanCases

@@ -1,8 +1,10 @@
 -- Document 02, W10: the span table.
-use Rattle.std.specs.Prelude.{ℕ, zero, suc, ◌+◌, Bool, false, cond, ◌&&◌, ◌||◌, List, eqb, leb, ltb, get_or}
+use Rattle.std.specs.Prelude.{ℕ, zero, suc, ◌+◌, Bool, false, cond, ◌&&◌, ◌||◌, List, Result, Ok, Err, eqb, leb, ltb, get_or}
+use Rattle.std.specs.Result.{result_unwrap_or}
+use Rattle.base.specs.declared.Refusal.{Refusal}
+use Rattle.base.specs.declared.Refusal.TheVariants.{OutsideSpan}
 use Rattle.spans.specs.declared.Span.{Span}
 use Rattle.spans.specs.declared.Spans.{Spans}
-use Rattle.spans.specs.declared.MadeSpans.{MadeSpans}
 
 -- "in each first plus count is at most 16,000,000"
 abbrev pub most_reached : ℕ
@@ -37,11 +39,15 @@ unfoldable pub allowed : (t : Spans) (client x : ℕ) → Bool
 allowed t client x = spans_hold t && owned_by t client x
 
 -- "making such a table is refused with 21 too and gives zeros"
+unfoldable pub made : (t : Spans) → Result Spans Refusal
+made t = cond (spans_hold t) (Ok t) (Err OutsideSpan)
+
 abbrev pub no_spans : Spans
 no_spans = record { zero = record { first = 0; count = 0 }; one = record { first = 0; count = 0 } }
 
-unfoldable pub made : (t : Spans) → MadeSpans
-made t = record { spans = cond (spans_hold t) t no_spans; refusal = cond (spans_hold t) 0 21 }
+-- the table that there is then
+unfoldable pub given : (t : Spans) → Spans
+given t = result_unwrap_or (made t) no_spans
 
 -- the words of a table, in which it crosses to other languages: first and count of client 0, first and count of client 1
 abbrev pub span_words : ℕ
