@@ -8,7 +8,7 @@ use native.Mathlib.Omega.{arith}
 use lib.Dec.{eqb}
 use lib.ListN.{length, take, replicate}
 use borrow.Author.Tests.{eq-eqb}
-use Rattle.base.specs.Refusals.{row_after}
+use Rattle.base.specs.Refusals.{refusal_number, row_after}
 use Rattle.base.proofs.Booleans.{by_test, cond_cases, and_right}
 use Rattle.medium.specs.Medium.{Observations}
 use Rattle.volume.specs.declared.Volume.{Volume}
@@ -19,7 +19,7 @@ use Rattle.spans.specs.Spans.{spans_hold, made, span_words, spans_from}
 use Rattle.spans.proofs.Theorems.{span_laws}
 use Rattle.clients.specs.ClientCalls.{span_row, client_read_table, client_write_table, client_read, client_write}
 use Rattle.clients.proofs.Laws.{client_laws}
-use Rattle.capi.specs.Clients.{words_of_spans, spans_left, client_fits, client_read_left, client_write_left}
+use Rattle.capi.specs.Clients.{words_of_spans, made_number, spans_left, client_fits, client_read_left, client_write_left}
 use Rattle.capi.specs.Exported.{Left, wrong_length, state_fits, untouched, handed_back, looked_up}
 use Rattle.capi.specs.Figures.{no_figures}
 use Rattle.capi.specs.Laws.{RefusedLeft}
@@ -45,23 +45,25 @@ span_words_back (a ∷ (b ∷ (c ∷ (d ∷ (f ∷ words))))) e = absurd (omega 
 
 pub spans_accepted : (words : List ℕ) → length words ≡ span_words → spans_hold (spans_from words) ≡ true
     → ((spans_left words).number ≡ 0) × ((spans_left words).words ≡ words)
-unfolding spans_left looked_up
+unfolding spans_left looked_up made_number
 spans_accepted words e h =
     let m = span_laws.made_own (spans_from words) h in
-    rw (eq-eqb (length words) span_words e) (m.0, ap words_of_spans m.1 ∙ span_words_back words e)
+    rw (eq-eqb (length words) span_words e) (ap made_number m.0, ap words_of_spans m.1 ∙ span_words_back words e)
 
 pub spans_refused : (words : List ℕ) → length words ≡ span_words → spans_hold (spans_from words) ≡ false
     → ((spans_left words).number ≡ 21) × ((spans_left words).words ≡ replicate span_words 0)
-unfolding spans_left looked_up
+unfolding spans_left looked_up made_number refusal_number
 spans_refused words e h =
     let m = span_laws.made_zeros (spans_from words) h in
-    rw (eq-eqb (length words) span_words e) (m.0, ap words_of_spans m.1 ∙ (unfold words_of_spans in refl))
+    rw (eq-eqb (length words) span_words e) (ap made_number m.0, ap words_of_spans m.1 ∙ (unfold words_of_spans in refl))
 
 -- ---- numbers
 
-pub spans_number : (t : Spans) → (made t).refusal ≢ wrong_length
+pub spans_number : (t : Spans) → made_number (made t) ≢ wrong_length
+unfolding made_number refusal_number
 spans_number t =
-    by_test (spans_hold t) (λ e w. let k = (span_laws.made_own t e).0 in omega (arith, k, w)) (λ e w. let k = (span_laws.made_zeros t e).0 in omega (arith, k, w))
+    by_test (spans_hold t) (λ e w. let k : made_number (made t) ≡ 0 = ap made_number (span_laws.made_own t e).0 in omega (arith, k, w))
+    (λ e w. let k : made_number (made t) ≡ 21 = ap made_number (span_laws.made_zeros t e).0 in omega (arith, k, w))
 
 module _ (t : Spans) (client : ℕ) (v : Volume) (x : ℕ) (piece : List ℕ) (o : Observations) where
   pub client_read_number : number (client_read t client v x piece o).reply.answer ≢ wrong_length

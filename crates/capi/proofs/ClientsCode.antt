@@ -8,6 +8,9 @@ use native.Mathlib.Omega.{arith}
 use lib.Dec.{eqb}
 use lib.ListN.{length, set}
 use borrow.Author.Tests.{eq-eqb, ne_eqb}
+use Rattle.std.specs.Prelude.{Result}
+use Rattle.std.specs.Result.{result_unwrap_or}
+use Rattle.base.specs.declared.Refusal.{Refusal}
 use Rattle.base.proofs.Booleans.{by_test}
 use Rattle.medium.specs.declared.Geometry.{Geometry}
 use Rattle.medium.specs.Medium.{observe, apply}
@@ -15,12 +18,11 @@ use Rattle.volume.specs.Answers.{number}
 use Rattle.volume.specs.Calls.{refused}
 use Rattle.volume.specs.Sound.{sound}
 use Rattle.spans.specs.declared.Spans.{Spans}
-use Rattle.spans.specs.declared.MadeSpans.{MadeSpans}
-use Rattle.spans.specs.Spans.{allowed, made, span_words, spans_from}
+use Rattle.spans.specs.Spans.{allowed, no_spans, made, given, span_words, spans_from}
 use Rattle.clients.proofs.Laws.{client_laws}
 use Rattle.promise.specs.Lists.{call_outcome}
 use Rattle.capi.specs.Exported.{Left, wrong_length, state_fits, untouched, handed_back, looked_up, call_left, read_left, write_left}
-use Rattle.capi.specs.Clients.{words_of_spans, spans_left, client_fits, client_read_left, client_write_left}
+use Rattle.capi.specs.Clients.{words_of_spans, made_number, spans_left, client_fits, client_read_left, client_write_left}
 use Rattle.capi.specs.Words.{words_of, state_from, are_state}
 use Rattle.capi.proofs.WordLaws.{state_words_law, words_back}
 
@@ -39,12 +41,12 @@ pub spans_not_made : (words : List ℕ) → length words ≢ span_words → (wro
 unfolding spans_left untouched
 spans_not_made words h = rw (ne_eqb (length words) span_words h) (refl, refl)
 
-pub spans_made : (words : List ℕ) → length words ≡ span_words → (t : Spans) → t ≡ spans_from words → (m : MadeSpans) → m ≡ made (record { zero = t.zero; one = t.one })
-    → (after : List ℕ) → after ≡ words_of_spans m.spans → (m.refusal ≡ (spans_left words).number) × (after ≡ (spans_left words).words)
-unfolding spans_left looked_up
+pub spans_made : (words : List ℕ) → length words ≡ span_words → (t : Spans) → t ≡ spans_from words → (m : Result Spans Refusal) → made (record { zero = t.zero; one = t.one }) ≡ m
+    → (after : List ℕ) → after ≡ words_of_spans (result_unwrap_or m no_spans) → (made_number m ≡ (spans_left words).number) × (after ≡ (spans_left words).words)
+unfolding spans_left looked_up given
 spans_made words h t e m f after g =
-    let same : m ≡ made (spans_from words) = f ∙ ap made e in
-    rw (eq-eqb (length words) span_words h) (ap (λ (m : MadeSpans). m.refusal) same, g ∙ ap (λ (m : MadeSpans). words_of_spans m.spans) same)
+    let same : m ≡ made (spans_from words) = sym f ∙ ap made e in
+    rw (eq-eqb (length words) span_words h) (ap made_number same, g ∙ ap (λ (m : Result Spans Refusal). words_of_spans (result_unwrap_or m no_spans)) same)
 
 -- ---- a client's read and write
 
@@ -61,14 +63,9 @@ no_fit : (spans words : List ℕ) → length spans ≢ span_words → client_fit
 unfolding client_fits
 no_fit spans words n = rw (ne_eqb (length spans) span_words n) refl
 
--- what `allows_words` told
-pub told_outside : (spans : List ℕ) (client x : ℕ) (told : Bool) → length spans ≡ span_words → told ≡ (eqb (length spans) span_words && allowed (spans_from spans) client x)
-    → told ≡ false → allowed (spans_from spans) client x ≡ false
-told_outside spans client x told n e h = rw (eq-eqb (length spans) span_words n) at (sym e ∙ h)
-
-pub told_inside : (spans : List ℕ) (client x : ℕ) (told : Bool) → length spans ≡ span_words → told ≡ (eqb (length spans) span_words && allowed (spans_from spans) client x)
-    → told ≡ true → allowed (spans_from spans) client x ≡ true
-told_inside spans client x told n e h = rw (eq-eqb (length spans) span_words n) at (sym e ∙ h)
+-- what `Spans::allows` told
+pub told_allowed : (t u : Spans) (client x : ℕ) (told b : Bool) → t ≡ u → told ≡ allowed t client x → told ≡ b → allowed u client x ≡ b
+told_allowed t u client x told b e f g = rw e at (sym f ∙ g)
 
 -- the number outside the span
 abbrev outside_number : (words : List ℕ) → ℕ

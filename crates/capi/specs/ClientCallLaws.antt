@@ -7,12 +7,12 @@ use Rattle.volume.specs.Answers.{number}
 use Rattle.spans.specs.declared.Spans.{Spans}
 use Rattle.spans.specs.Spans.{spans_hold, made, span_words, spans_from}
 use Rattle.clients.specs.ClientCalls.{client_read, client_write}
-use Rattle.capi.specs.Clients.{words_of_spans, spans_left, client_fits, client_read_left, client_write_left}
+use Rattle.capi.specs.Clients.{words_of_spans, made_number, spans_left, client_fits, client_read_left, client_write_left}
 use Rattle.capi.specs.Exported.{wrong_length}
 use Rattle.capi.specs.Laws.{RefusedLeft}
 
 pub record ClientCallLaws : Type 0 where
-  pub spans_number : (t : Spans) → (made t).refusal ≢ wrong_length
+  pub spans_number : (t : Spans) → made_number (made t) ≢ wrong_length
   pub client_read_number : (t : Spans) (client : ℕ) (v : Volume) (x : ℕ) (piece : List ℕ) (o : Observations)
       → number (client_read t client v x piece o).reply.answer ≢ wrong_length
   pub client_write_number : (t : Spans) (client : ℕ) (v : Volume) (x : ℕ) (piece : List ℕ) (o : Observations)

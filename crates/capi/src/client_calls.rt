@@ -11,7 +11,7 @@ ghost use Rattle.capi.specs.Words.{state_from, are_state};
 use super::WRONG_LENGTH;
 use super::pieces::{streterva_read, streterva_write};
 use super::words::{is_state, state_of};
-use spans::{SPAN_WORDS, Span, Spans};
+use spans::{NO_SPANS, SPAN_WORDS, Span, Spans};
 
 // The span table of words.
 fn spans_of(words: &[usize]) -> Spans
@@ -66,10 +66,16 @@ pub extern "C" fn streterva_spans(spans: &mut [usize]) -> usize
         return WRONG_LENGTH;
     }
     let asked = spans_of(spans);
-    let made = spans::make_spans(asked.zero, asked.one);
-    let table = made.spans;
-    put_spans(spans, table);
-    made.refusal
+    match spans::make_spans(asked.zero, asked.one) {
+        Ok(table) => {
+            put_spans(spans, table);
+            0
+        }
+        Err(refusal) => {
+            put_spans(spans, NO_SPANS);
+            refusal.number()
+        }
+    }
 }
 
 // Fills a piece with a block, through the client's span. It calls `streterva_read`, which tests the state, and not the call
@@ -90,7 +96,7 @@ pub extern "C" fn streterva_client_read(
     if spans.len() != SPAN_WORDS {
         return WRONG_LENGTH;
     }
-    if !spans::allows_words(spans, client, block) {
+    if !spans_of(spans).allows(client, block) {
         return outside(state);
     }
     streterva_read(state, medium, block, piece)
@@ -113,7 +119,7 @@ pub extern "C" fn streterva_client_write(
     if spans.len() != SPAN_WORDS {
         return WRONG_LENGTH;
     }
-    if !spans::allows_words(spans, client, block) {
+    if !spans_of(spans).allows(client, block) {
         return outside(state);
     }
     streterva_write(state, medium, block, piece)
