@@ -1,6 +1,6 @@
 // A run: what the lines of a script have come to.
 use printing::{number_bytes, text};
-use spans::{Span, Spans};
+use spans::{NO_SPANS, Spans};
 use std::io;
 use std::io::Write;
 use volume::Volume;
@@ -20,17 +20,12 @@ pub struct Run {
 // The state of zeros, a table of zeros, a medium whose byte k holds k % 251, all of it lent, and a write cache.
 pub fn start() -> Run {
     let v = Volume::zeros();
-    let none = Span { first: 0, count: 0 };
-    let table = Spans {
-        zero: none,
-        one: none,
-    };
     let kept = [0u8; 18_432];
     let mut medium = [0u8; 18_432];
     number_bytes(&mut medium);
     Run {
         v,
-        table,
+        table: NO_SPANS,
         lent: 18_432,
         cached: true,
         medium,

@@ -5,7 +5,7 @@ use super::given::Given;
 use super::run::{Run, with_medium, with_table};
 use layout::Block;
 use printing::{labelled, next_number, text};
-use spans::{Span, Spans};
+use spans::{NO_SPANS, Span, Spans};
 use std::io;
 use std::io::Write;
 use volume::{Reply, Volume};
@@ -43,9 +43,11 @@ fn show_refusal(out: &mut impl Write, k: usize) -> io::Result<()> {
 // Makes a table. What comes of it is the run's from now on.
 pub fn make_table(out: &mut impl Write, run: Run, given: Given) -> io::Result<Run> {
     let asked = table_of(given);
-    let made = spans::make_spans(asked.zero, asked.one);
-    let table = made.spans;
-    show_refusal(out, made.refusal)?;
+    let (table, refusal) = match spans::make_spans(asked.zero, asked.one) {
+        Ok(table) => (table, 0),
+        Err(refusal) => (NO_SPANS, refusal.number()),
+    };
+    show_refusal(out, refusal)?;
     show_table(out, table)?;
     Ok(with_table(run, table))
 }
