@@ -8,7 +8,7 @@ use lib.Dec.{leb, ltb}
 use borrow.Author.Tests.{leb-true, le-leb, ltb-true, lt-ltb}
 use Rattle.base.proofs.Booleans.{and_left, and_right, and_both, by_test}
 use Rattle.layout.specs.Limits.{Grows, most_disks}
-use Rattle.move_table.specs.declared.Place.TheVariants.{At, NoMark}
+use Rattle.std.specs.Prelude.{Some, None}
 use Rattle.move_table.specs.Entries.{offset, has_mark, place_of}
 use Rattle.move_table.specs.Tables.{IsMark}
 
@@ -37,11 +37,11 @@ module _ (m n j : ℕ) where
       (and_both (and_both (le-leb 1 m h.pair.old) (le-leb 1 n h.pair.added)) (le-leb (m + n) most_disks h.pair.most))
       (lt-ltb j (m * n) h.below)
 
-  pub at_place : IsMark m n j → place_of m n j ≡ At (offset m n j)
+  pub at_place : IsMark m n j → place_of m n j ≡ Some (offset m n j)
   unfolding place_of
   at_place h = rw (true_mark h)
 
-  pub no_place : (IsMark m n j → ⊥) → place_of m n j ≡ NoMark
+  pub no_place : (IsMark m n j → ⊥) → place_of m n j ≡ None
   unfolding place_of
   no_place none = by_test (has_mark m n j) (λ e. absurd (none (mark_true e))) (λ e. rw e)
 

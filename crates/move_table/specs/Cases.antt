@@ -1,11 +1,10 @@
 -- Examples of the table of moves, and what breaks each part of `IsMoveTable` and of `AddressAgrees`.
-use Rattle.std.specs.Prelude.{ℕ, suc, ◌+◌, ◌-◌, ◌*◌, ◌≡◌, List, [], ◌∷◌, ◌++◌, eqb, get_or, set}
+use Rattle.std.specs.Prelude.{ℕ, suc, ◌+◌, ◌-◌, ◌*◌, ◌≡◌, List, [], ◌∷◌, ◌++◌, eqb, get_or, set, Some, None}
 use Rattle.base.specs.Below.{table, joined}
 use Rattle.layout.specs.declared.Spot.{Spot}
 use Rattle.layout.specs.Windows.{mark_of}
 use Rattle.layout.specs.Tally.{Tally, growing, live_spot_of, growths_of}
 use Rattle.layout.specs.Limits.{most_disks}
-use Rattle.move_table.specs.declared.Place.TheVariants.{At, NoMark}
 use Rattle.move_table.specs.Entries.{entries_of_pair, entries_of_sum, entries, offset, offset_formula, place_of}
 use Rattle.move_table.specs.Tables.{IsMoveTable, spot_by_table, AddressAgrees}
 
@@ -22,14 +21,14 @@ under_way = record { rows = 5; counts = 5 ∷ 3 ∷ []; mode = growing; window =
 
 pub record Examples : Type 0 where
   -- the first pair, 1 and 1, has one mark; the last, 15 and 1, has 15
-  pub first_place : place_of 1 1 0 ≡ At 0
-  pub last_place : place_of 15 1 14 ≡ At 3_059
+  pub first_place : place_of 1 1 0 ≡ Some 0
+  pub last_place : place_of 15 1 14 ≡ Some 3_059
   pub last_formula : offset_formula 15 1 14 ≡ 3_059
   -- from 3 disks to 5, document 01's example: six marks
-  pub three_to_five_place : place_of 3 2 0 ≡ At 25
+  pub three_to_five_place : place_of 3 2 0 ≡ Some 25
   pub three_to_five_law : entries_from 25 6 ≡ 3 ∷ 3 ∷ 4 ∷ 3 ∷ 4 ∷ 4 ∷ []
   -- from 2 disks to 5, the pair before: six marks too
-  pub two_to_five_place : place_of 2 3 0 ≡ At 19
+  pub two_to_five_place : place_of 2 3 0 ≡ Some 19
   pub two_to_five : entries_from 19 6 ≡ 2 ∷ 2 ∷ 3 ∷ 3 ∷ 4 ∷ 4 ∷ []
   -- `moving_block`: block 4 of that growth is on disk 1 in row 1, and moves to disk 4
   pub its_mark : mark_of 5 (5 ∷ 3 ∷ []) 4 ≡ 2
@@ -45,10 +44,10 @@ pub record Examples : Type 0 where
   pub recorded_live : spot_by_table entries offset 5 (growths_of under_way 3) 3 ≡ at 3 1
   pub unrecorded_live : spot_by_table entries offset 5 (growths_of under_way 0) 0 ≡ at 0 0
   -- no old disk, no added disk, 17 disks, and a mark too many
-  pub no_old : place_of 0 5 0 ≡ NoMark
-  pub no_added : place_of 5 0 0 ≡ NoMark
-  pub too_many_disks : place_of 9 8 0 ≡ NoMark
-  pub no_such_mark : place_of 3 2 6 ≡ NoMark
+  pub no_old : place_of 0 5 0 ≡ None
+  pub no_added : place_of 5 0 0 ≡ None
+  pub too_many_disks : place_of 9 8 0 ≡ None
+  pub no_such_mark : place_of 3 2 6 ≡ None
 
 -- Where `place` is any, no places make these numbers a table of moves; where `numbers` is any, no numbers do with these places.
 pub record Counterexamples : Type 0 where

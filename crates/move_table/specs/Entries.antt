@@ -1,11 +1,9 @@
 -- Document 02, W9: "one number for each mark of each pair m, n with m + n at most 16: the new disk .. Order is m + n rising, then m rising,
 -- then mark rising". m and n are those of a growth, from m disks by n more.
-use Rattle.std.specs.Prelude.{ℕ, suc, ◌+◌, ◌-◌, ◌*◌, ◌/◌, ◌%◌, Bool, cond, ◌&&◌, List, leb, ltb}
+use Rattle.std.specs.Prelude.{ℕ, suc, ◌+◌, ◌-◌, ◌*◌, ◌/◌, ◌%◌, Bool, cond, ◌&&◌, List, Option, Some, None, leb, ltb}
 use Rattle.base.specs.Below.{sum, table, joined}
 use Rattle.layout.specs.Growth.{new_disk}
 use Rattle.layout.specs.Limits.{most_disks}
-use Rattle.move_table.specs.declared.Place.{Place}
-use Rattle.move_table.specs.declared.Place.TheVariants.{At, NoMark}
 
 -- ---- the table
 
@@ -49,5 +47,6 @@ offset_formula m n j =
 unfoldable pub has_mark : (m n j : ℕ) → Bool
 has_mark m n j = leb 1 m && leb 1 n && leb (m + n) most_disks && ltb j (m * n)
 
-unfoldable pub place_of : (m n j : ℕ) → Place
-place_of m n j = cond (has_mark m n j) (At (offset m n j)) NoMark
+-- the place of the entry of a mark, if there is such a mark
+unfoldable pub place_of : (m n j : ℕ) → Option ℕ
+place_of m n j = cond (has_mark m n j) (Some (offset m n j)) None

@@ -10,10 +10,3 @@ pub use places::{disk_at, offset};
 
 // How many entries the table has.
 pub const ENTRY_COUNT: usize = 3_060;
-
-// Where the entry of a mark is in the table: at an offset, counted from 0; or that there is no such mark.
-#[derive(Clone, Copy)]
-pub enum Place {
-    At(usize),
-    NoMark,
-}

@@ -4,17 +4,13 @@ ghost use Rattle.layout.specs.Limits.{Grows};
 ghost use Rattle.move_table.specs.Entries.{entries, offset, place_of};
 
 use super::table::MOVES;
-use super::{ENTRY_COUNT, Place};
 use volume::Volume;
 
 // The entry at a place, which is a disk; 0, which no entry is, where the table has ended.
 pub fn disk_at(at: usize) -> usize
     ensures { result ≡ get_or entries at 0 }
 {
-    if ENTRY_COUNT <= at {
-        return 0;
-    }
-    MOVES[at] as usize
+    usize::from(MOVES.get(at).copied().unwrap_or(0))
 }
 
 // The place of the first entry of the pair m, n.
@@ -27,23 +23,23 @@ fn first_of_pair(m: usize, n: usize) -> usize
 }
 
 // The place of the entry of mark j of the growth from m disks by n.
-pub fn offset(m: usize, n: usize, j: usize) -> Place
+pub fn offset(m: usize, n: usize, j: usize) -> Option<usize>
     ensures { result ≡ place_of m n j }
 {
     if m < 1 {
-        return Place::NoMark;
+        return None;
     }
     if n < 1 {
-        return Place::NoMark;
+        return None;
     }
     if Volume::MOST_DISKS <= m {
-        return Place::NoMark;
+        return None;
     }
     if Volume::MOST_DISKS - m < n {
-        return Place::NoMark;
+        return None;
     }
     if m * n <= j {
-        return Place::NoMark;
+        return None;
     }
-    Place::At(first_of_pair(m, n) + j)
+    Some(first_of_pair(m, n) + j)
 }

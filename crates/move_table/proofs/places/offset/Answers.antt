@@ -3,7 +3,7 @@ use Prim.Native.Nat.{◌+◌}
 use mathlib.Core.Path.{◌≡◌, sym, ◌∙◌, ap}
 use native.Mathlib.Omega.{arith}
 use borrow.Author.Rules.{rules}
-use Rattle.move_table.specs.declared.Place.TheVariants.{At}
+use Rattle.std.specs.Prelude.{Some}
 use Rattle.move_table.specs.Entries.{offset}
 use Rattle.move_table.specs.Tables.{IsMark}
 use Rattle.move_table.proofs.EntryPlaces.{size_law, within_law}
@@ -40,4 +40,4 @@ pub overflow_add-result : goal.overflow_add-result
 overflow_add-result c = omega (arith, start (goal.at.overflow_add-result c).After-first_of_pair, within_law _ _ _ (mark (goal.at.overflow_add-result c).Else-m-n-2), size_law)
 
 pub returns : goal.returns
-returns c = ap At (start (goal.at.returns c).After-first_of_pair) ∙ sym (at_place _ _ _ (mark (goal.at.returns c).Else-m-n-2))
+returns c = ap Some (start (goal.at.returns c).After-first_of_pair) ∙ sym (at_place _ _ _ (mark (goal.at.returns c).Else-m-n-2))
