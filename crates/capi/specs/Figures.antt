@@ -1,5 +1,6 @@
 -- The figures beside an answer's number, as lists of numbers. "A refusal has 0 for every figure beside its number."
 use Rattle.std.specs.Prelude.{ℕ, List, [], ◌∷◌, ◌++◌, get_or}
+use Rattle.std.specs.Prelude as std
 use Rattle.std.proofs.Math.Option.{Option, none, some}
 use Rattle.layout.specs.declared.Part.{Part}
 use Rattle.layout.specs.declared.Part.TheVariants.{Head, Body, Tail}
@@ -16,8 +17,6 @@ use Rattle.volume.specs.declared.HolderAnswer.{HolderAnswer}
 use Rattle.volume.specs.Answers.{calls_told, block_copied, part_copied, part_told, block_told}
 use Rattle.scene_load.specs.declared.Load.{Load}
 use Rattle.scene_load.specs.Loads.{place_told}
-use Rattle.move_table.specs.declared.Place.{Place}
-use Rattle.move_table.specs.declared.Place.TheVariants.{At, NoMark}
 use Rattle.move_table.specs.Entries.{entries}
 use Rattle.shelves.specs.declared.ViewAnswer.{ViewAnswer}
 use Rattle.shelves.specs.declared.ViewAnswer.TheVariants as view
@@ -82,6 +81,6 @@ abbrev pub load_figures : (load : Load) → List ℕ
 load_figures load = place_told load.answer ∷ load.served
 
 -- of the table of moves: the offset of a mark's entry and its disk, which is not 0; or 0 for both where there is no such mark
-unfoldable pub table_move_figures : (place : Place) → List ℕ
-table_move_figures (At at) = at ∷ get_or entries at 0 ∷ []
-table_move_figures NoMark = 0 ∷ 0 ∷ []
+unfoldable pub table_move_figures : (place : std.Option ℕ) → List ℕ
+table_move_figures (std.Some at) = at ∷ get_or entries at 0 ∷ []
+table_move_figures std.None = 0 ∷ 0 ∷ []

@@ -5,14 +5,13 @@ ghost use Rattle.capi.specs.Figures.{table_move_figures};
 
 use super::handed::put;
 use super::{TABLE_MOVE_FIGURES, WRONG_LENGTH};
-use move_table::Place;
 
-fn table_move_figures(place: Place) -> [usize; 2]
+fn table_move_figures(place: Option<usize>) -> [usize; 2]
     ensures { result ≡ table_move_figures place }
 {
     match place {
-        Place::At(at) => [at, move_table::disk_at(at)],
-        Place::NoMark => [0, 0],
+        Some(at) => [at, move_table::disk_at(at)],
+        None => [0, 0],
     }
 }
 

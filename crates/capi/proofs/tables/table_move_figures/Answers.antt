@@ -2,10 +2,10 @@
 use Rattle.capi.specs.Figures.{table_move_figures}
 use Rattle.capi.proofs.tables.table_move_figures.Goals as goal
 
-pub returns-in-At : goal.returns-in-At
+pub returns-in-Some : goal.returns-in-Some
 unfolding table_move_figures
-returns-in-At c = rw (c.in-At.is, c.disk_at.ensures)
+returns-in-Some c = rw (c.in-Some.is, c.disk_at.ensures)
 
-pub returns-in-NoMark : goal.returns-in-NoMark
+pub returns-in-None : goal.returns-in-None
 unfolding table_move_figures
-returns-in-NoMark c = rw c.in-NoMark.is
+returns-in-None c = rw c.in-None.is
