@@ -1,7 +1,6 @@
 // Address and holder, of one block or spot, and of many blocks; and the table of moves.
 use super::answers::{show_address, show_holder};
 use layout::{Block, Part, Reason, Row, Spot};
-use move_table::Place;
 use printing::{labelled, next_number, text};
 use std::io;
 use std::io::Write;
@@ -101,12 +100,11 @@ pub fn moves(out: &mut impl Write, v: Volume, end: usize) -> io::Result<()> {
 
 // The table's entry for a mark of the growth from m disks by n.
 pub fn table_move(out: &mut impl Write, m: usize, n: usize, mark: usize) -> io::Result<()> {
-    let place = move_table::offset(m, n, mark);
-    match place {
-        Place::At(at) => {
+    match move_table::offset(m, n, mark) {
+        Some(at) => {
             labelled(out, b": offset", at)?;
             labelled(out, b", disk", move_table::disk_at(at))
         }
-        Place::NoMark => text(out, b": no such mark"),
+        None => text(out, b": no such mark"),
     }
 }
