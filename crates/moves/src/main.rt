@@ -2,15 +2,14 @@
 // line. Order is m + n rising, then m rising, then mark rising. What it must print is in the file stdout.
 #![tactic(auto)]
 
-use printing::{number, text};
+use move_table::{ENTRY_COUNT, disk_at};
 use std::io;
 use std::io::{BufWriter, Write};
 
 fn main(rt: HostRuntime) -> io::Result<()> {
     let mut out = BufWriter::new(rt.alloc(), io::writer(&rt))?;
-    for at in 0..move_table::ENTRY_COUNT {
-        number(&mut out, move_table::disk_at(at))?;
-        text(&mut out, b"\n")?;
+    for at in 0..ENTRY_COUNT {
+        writeln!(out, "{}", disk_at(at))?;
     }
     out.flush()
 }
