@@ -2,7 +2,6 @@
 // number alone.
 #![tactic(auto)]
 
-use printing::{number, text};
 use std::io;
 use std::io::{BufWriter, Read, Write};
 use wall_chart::ChartAnswer;
@@ -14,11 +13,8 @@ fn main(rt: HostRuntime) -> io::Result<()> {
     let answer = wall_chart::put_chart_of_record(&mut page, &sector);
     let mut out = BufWriter::new(rt.alloc(), io::writer(&rt))?;
     match answer {
-        ChartAnswer::Refused(k) => {
-            number(&mut out, k)?;
-            text(&mut out, b"\n")?;
-        }
-        ChartAnswer::Used(used) => text(&mut out, &page[..used])?,
+        ChartAnswer::Refused(k) => writeln!(out, "{k}")?,
+        ChartAnswer::Used(used) => out.write_all(&page[..used])?,
     }
     out.flush()
 }

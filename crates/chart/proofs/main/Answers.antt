@@ -13,5 +13,5 @@ used_within c =
 pub slice_bounds-page-end : goal.slice_bounds-page-end
 slice_bounds-page-end c = used_within (goal.at.slice_bounds-page-end c).In-Used
 
-pub slice_bounds-text-end-in-Used : goal.slice_bounds-text-end-in-Used
-slice_bounds-text-end-in-Used c = sym (length-take-le _ _ (used_within (goal.at.slice_bounds-text-end-in-Used c).In-Used))
+pub slice_bounds-write_all-end : goal.slice_bounds-write_all-end
+slice_bounds-write_all-end c = sym (length-take-le _ _ (used_within (goal.at.slice_bounds-write_all-end c).In-Used))
