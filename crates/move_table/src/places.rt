@@ -1,10 +1,9 @@
 // The entries of the table, and their places.
 ghost use Rattle.std.specs.Prelude.{◌≡◌, get_or};
-ghost use Rattle.layout.specs.Limits.{Grows};
 ghost use Rattle.move_table.specs.Entries.{entries, offset, place_of};
 
 use super::table::MOVES;
-use volume::Volume;
+use layout::GrowthDisks;
 
 // The entry at a place, which is a disk; 0, which no entry is, where the table has ended.
 pub fn disk_at(at: usize) -> usize
@@ -13,33 +12,22 @@ pub fn disk_at(at: usize) -> usize
     usize::from(MOVES.get(at).copied().unwrap_or(0))
 }
 
-// The place of the first entry of the pair m, n.
-fn first_of_pair(m: usize, n: usize) -> usize
-    requires { Grows m n }
-    ensures { result ≡ offset m n 0 }
+// The place of the first entry of a growth's pair m, n.
+fn first_of_pair(growth: GrowthDisks) -> usize
+    ensures { result ≡ offset growth.old growth.added 0 }
 {
+    let GrowthDisks { old: m, added: n } = growth;
     let k = m + n;
     (k + 1) * k * (k - 1) * (k - 2) / 24 + m * (m - 1) * (m + 3 * n + 1) / 6
 }
 
-// The place of the entry of mark j of the growth from m disks by n.
+// The place of the entry of mark j of the growth from m disks by n, if there is such a mark.
 pub fn offset(m: usize, n: usize, j: usize) -> Option<usize>
     ensures { result ≡ place_of m n j }
 {
-    if m < 1 {
+    let growth = GrowthDisks::new(m, n)?;
+    if growth.old * growth.added <= j {
         return None;
     }
-    if n < 1 {
-        return None;
-    }
-    if Volume::MOST_DISKS <= m {
-        return None;
-    }
-    if Volume::MOST_DISKS - m < n {
-        return None;
-    }
-    if m * n <= j {
-        return None;
-    }
-    Some(first_of_pair(m, n) + j)
+    Some(first_of_pair(growth) + j)
 }

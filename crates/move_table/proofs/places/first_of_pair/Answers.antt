@@ -6,4 +6,4 @@ use Rattle.move_table.proofs.places.first_of_pair.Goals as goal
 
 pub returns : goal.returns
 unfolding offset_formula
-returns c = omega (arith, formula_start _ _ c.requires)
+returns c = omega (arith, formula_start _ _ c.args.growth.within_limits)
