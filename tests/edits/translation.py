@@ -6,7 +6,7 @@ import re
 
 from edits import functions_of
 
-GHOST = re.compile(r'^ghost use [^;]*;\n', re.M)
+GHOST = re.compile(r'^[ \t]*ghost use [^;]*;\n', re.M)
 CLAUSE = re.compile(r'^[ \t]*(?:requires|ensures)\b[^{\n]*(?=\{)', re.M)
 ATTRIBUTE = re.compile(r'^[ \t]*#!?\[(?:tactic|cycle|unsafe\(no_mangle)\b[^\]]*\]\n+', re.M)
 GHOST_MEMBER = re.compile(r'^[ \t]*(?:pub )?ghost \w+(?:: | = )(?=\{)', re.M)
