@@ -1,20 +1,27 @@
 -- What the code of the lines needs.
-use Prim.Native.Nat.{ℕ, ◌-◌, ◌≤◌}
+use Prim.Native.Nat.{ℕ, ◌+◌, ◌-◌, ◌≤◌}
 use mathlib.Core.Path.{◌≡◌, sym, ◌∙◌}
 use mathlib.Core.List.{List, [], ◌∷◌, ◌++◌}
 use native.Mathlib.Omega.{arith}
-use lib.ListN.{length, drop, set}
+use lib.ListN.{length, take, drop, set}
 use lib.Seq.{sets, length-sets}
 use Rattle.base.specs.Below.{joined}
-use Rattle.base.proofs.Lists.{sets_append, front_stored, whole_stored, length_joined}
+use Rattle.base.proofs.Lists.{sets_append, front_stored, joined_back, whole_stored, length_joined}
 use Rattle.record.specs.Decimal.{column_width}
 use Rattle.record.specs.Sector.{line_feed}
 use Rattle.wall_chart.specs.Chart.{heading, row_width, text_bytes, line_bytes, line}
 use Rattle.wall_chart.proofs.Lengths.{length_heading, length_line}
 
--- the heading, copied
-pub heading_stored : (m : List ℕ) → 6 ≤ length m → heading ++ drop 6 m ≡ sets m 0 heading
-heading_stored m h = rw length_heading at (front_stored m heading (rw length_heading h))
+-- a line's first six bytes
+pub start_stored : (m l start : List ℕ) → length start ≡ row_width → row_width ≤ length m → l ≡ start → l ++ drop row_width m ≡ sets m 0 start
+start_stored m l start six h put = rw put (rw six at (front_stored m start (rw six h)))
+
+-- one column more, by its part of the line
+pub column_put : (column_of : ℕ → List ℕ) → ((i : ℕ) → length (column_of i) ≡ column_width) → (m l part : List ℕ) (i at : ℕ) → at ≡ text_bytes i
+    → at + column_width ≤ length l → l ≡ sets m row_width (joined column_of i) → part ≡ column_of i
+    → take at l ++ (part ++ drop (at + column_width - at) (drop at l)) ≡ sets m row_width (joined column_of (i + 1))
+column_put column_of each m l part i at here room stored put =
+    rw here (joined_back column_of column_width each m l part row_width i (rw (← here) room) stored put).0
 
 -- a line from its three parts
 pub line_parts : (m start : List ℕ) (column_of : ℕ → List ℕ) (count : ℕ) → length m ≡ line_bytes count → length start ≡ row_width

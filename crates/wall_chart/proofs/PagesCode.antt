@@ -1,5 +1,5 @@
 -- What the code of the pages needs.
-use Prim.Native.Nat.{ℕ, suc, ◌+◌, ◌-◌, ◌*◌, ◌≤◌, ◌<◌}
+use Prim.Native.Nat.{ℕ, suc, ◌+◌, ◌*◌, ◌≤◌, ◌<◌}
 use mathlib.Core.Path.{◌≡◌, refl, sym, ap, ◌∙◌}
 use mathlib.Core.Bool.{true}
 use mathlib.Core.List.{List, [], ◌∷◌, ◌++◌}
@@ -8,12 +8,12 @@ use native.Mathlib.Nat.{zero-add, suc-mul, mul-le-mul, mul-le-mul_right}
 use native.Mathlib.Numerals.{add-one}
 use native.Mathlib.Omega.{arith}
 use lib.Dec.{ltb}
-use lib.ListN.{length, take, drop}
+use lib.ListN.{length, drop}
 use lib.Seq.{sets, length-sets}
 use borrow.Author.Tests.{ltb-false}
 use Rattle.base.specs.Below.{joined}
 use Rattle.base.specs.Refusals.{refusal}
-use Rattle.base.proofs.Lists.{sets_append, part_back_law}
+use Rattle.base.proofs.Lists.{sets_append, front_stored}
 use Rattle.base.proofs.Refusals.{passed, held, refused_first, passed_first}
 use Rattle.layout.specs.Limits.{most_disks, most_rows}
 use Rattle.medium.specs.Medium.{record_bytes, observe}
@@ -48,10 +48,10 @@ first_room rows w len k = omega (arith, one_row_more rows w)
 
 -- a page with its first part brought back
 abbrev first_back : (m first : List ℕ) (w : ℕ) → List ℕ
-first_back m first w = take 0 m ++ (first ++ drop (w - 0) (drop 0 m))
+first_back m first w = first ++ drop w m
 
 first_stored : (m first : List ℕ) (w : ℕ) → length first ≡ w → w ≤ length m → first_back m first w ≡ sets m 0 first
-first_stored m first w l room = part_back_law m first 0 w (omega arith) room (omega arith)
+first_stored m first w l room = rw l at (front_stored m first (omega arith))
 
 pub first_length : (m first : List ℕ) (n w : ℕ) → first ≡ heading_line n → w ≡ line_bytes n → w ≤ length m
     → length m ≡ length (first_back m first w)

@@ -9,12 +9,24 @@ ghost use Rattle.wall_chart.specs.Chart.{heading, cell, cell_at, text_bytes, lin
 use layout::{Row, Spot};
 use volume::{HolderAnswer, Volume};
 
+const ROW_WIDTH: usize = 6;
+
+const COLUMN_WIDTH: usize = 10;
+
+// The bytes of a line before its line feed; so many disks come before the columns of the next one.
+pub(crate) fn text_bytes(disks: usize) -> usize
+    requires { disks ≤ most_disks }
+    ensures { result ≡ text_bytes disks }
+{
+    ROW_WIDTH + disks * COLUMN_WIDTH
+}
+
 // Puts the heading at the start of a line.
 fn put_heading(line: &mut [u8])
     requires { 6 ≤ length line.old }
     ensures { line.new ≡ sets line.old 0 heading }
 {
-    line[0..6].copy_from_slice(b"   row");
+    line[..ROW_WIDTH].copy_from_slice(b"   row");
 }
 
 // Puts the disk numbers into a line, from byte 6 on.
@@ -23,12 +35,9 @@ fn put_disks(line: &mut [u8], disks: usize)
     requires room { text_bytes disks ≤ length line.old }
     ensures { line.new ≡ sets line.old 6 (joined (decimal 10) disks) }
 {
-    let mut d = 0;
-    while d < disks {
-        let at = 6 + d * 10;
-        let end = at + 10;
-        record::put_number(&mut line[at..end], d);
-        d += 1;
+    for d in 0..disks {
+        let at = text_bytes(d);
+        record::put_number(&mut line[at..at + COLUMN_WIDTH], d);
     }
 }
 
@@ -62,14 +71,10 @@ fn put_cells(line: &mut [u8], v: Volume, disks: usize, b: usize)
     requires room { text_bytes disks ≤ length line.old }
     ensures { line.new ≡ sets line.old 6 (joined (cell_at v b) disks) }
 {
-    let mut disk = 0;
-    while disk < disks {
-        let at = 6 + disk * 10;
-        let end = at + 10;
-        let reply = v.holder(Spot { disk, row: Row(b) });
-        let says = reply.answer;
-        put_cell(&mut line[at..end], says);
-        disk += 1;
+    for disk in 0..disks {
+        let at = text_bytes(disk);
+        let says = v.holder(Spot { disk, row: Row(b) }).answer;
+        put_cell(&mut line[at..at + COLUMN_WIDTH], says);
     }
 }
 
@@ -79,7 +84,7 @@ pub(crate) fn put_row_line(line: &mut [u8], v: Volume, disks: usize, b: usize)
     requires line_len { length line.old ≡ line_bytes disks }
     ensures { line.new ≡ row_line v disks b }
 {
-    record::put_number(&mut line[0..6], b);
+    record::put_number(&mut line[..ROW_WIDTH], b);
     put_cells(line, v, disks, b);
     let last = line.len() - 1;
     line[last] = b'\n';

@@ -5,20 +5,12 @@ ghost use Rattle.base.specs.Below.{joined};
 ghost use Rattle.base.specs.Refusals.{refusal};
 ghost use Rattle.layout.specs.Limits.{most_disks, most_rows};
 ghost use Rattle.volume.specs.Sound.{sound};
-ghost use Rattle.wall_chart.specs.Chart.{text_bytes, line_bytes, row_line, chart};
+ghost use Rattle.wall_chart.specs.Chart.{line_bytes, row_line, chart};
 ghost use Rattle.wall_chart.specs.Pages.{chart_table, charted, record_charted};
 
 use super::ChartAnswer;
-use super::lines::{put_heading_line, put_row_line};
+use super::lines::{put_heading_line, put_row_line, text_bytes};
 use volume::{Answer, Volume};
-
-// The bytes of a line before its line feed.
-fn text_bytes(disks: usize) -> usize
-    requires { disks ≤ most_disks }
-    ensures { result ≡ text_bytes disks }
-{
-    6 + disks * 10
-}
 
 // The bytes of a chart: a line for each row, and the first one.
 fn chart_bytes(rows: usize, disks: usize) -> usize
@@ -38,12 +30,9 @@ fn put_rows(page: &mut [u8], v: Volume, disks: usize)
 {
     let width = text_bytes(disks) + 1;
     let rows = v.rows;
-    let mut b = 0;
-    while b < rows {
+    for b in 0..rows {
         let at = width + b * width;
-        let end = at + width;
-        put_row_line(&mut page[at..end], v, disks, b);
-        b += 1;
+        put_row_line(&mut page[at..at + width], v, disks, b);
     }
 }
 
@@ -56,7 +45,7 @@ fn put_lines(page: &mut [u8], v: Volume) -> usize
 {
     let disks = v.disk_count();
     let width = text_bytes(disks) + 1;
-    put_heading_line(&mut page[0..width], disks);
+    put_heading_line(&mut page[..width], disks);
     put_rows(page, v, disks);
     chart_bytes(v.rows, disks)
 }

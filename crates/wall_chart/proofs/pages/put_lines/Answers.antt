@@ -2,7 +2,7 @@
 use Prim.Native.Nat.{◌+◌, ◌*◌, ◌≤◌}
 use mathlib.Core.Path.{◌≡◌, sym, ◌∙◌}
 use native.Mathlib.Omega.{arith}
-use lib.ListN.{length, length-take, length-drop}
+use lib.ListN.{length, length-take}
 use Rattle.layout.specs.Limits.{most_disks, most_rows}
 use Rattle.volume.proofs.CallsCode.{disks_most}
 use Rattle.volume.proofs.SoundLaws.{sound_facts}
@@ -30,12 +30,15 @@ first c = rw (width c) (first_room c.args.v.rows (6 + c.disk_count-disks.result 
 pub slice_bounds-put_heading_line-end : goal.slice_bounds-put_heading_line-end
 slice_bounds-put_heading_line-end c = first (goal.at.slice_bounds-put_heading_line-end c).After-text_bytes-width
 
+pub slice_bounds-put_heading_line-end-2 : goal.slice_bounds-put_heading_line-end-2
+slice_bounds-put_heading_line-end-2 c = simp length-take (omega (arith, first (goal.at.slice_bounds-put_heading_line-end-2 c).After-text_bytes-width))
+
 pub put_heading_line-requires : goal.put_heading_line-requires
 put_heading_line-requires c =
     let at = (goal.at.put_heading_line-requires c).After-text_bytes-width in
     record {
       disks_le_most_disks = (few (goal.at.put_heading_line-requires c).After-disk_count-disks).1;
-      line_len = simp (length-take, length-drop) (omega (arith, first at, width at));
+      line_len = simp length-take (omega (arith, first at, width at));
     }
 
 pub put_rows-requires : goal.put_rows-requires

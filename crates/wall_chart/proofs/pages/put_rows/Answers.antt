@@ -13,7 +13,7 @@ use Rattle.wall_chart.proofs.pages.put_rows.Goals.{In-loop-b}
 
 pub loop-b-init : goal.loop-b-init
 unfolding joined
-loop-b-init c = (omega arith, (refl, refl))
+loop-b-init c = refl
 
 -- the line of row b lies in the page
 room : (c : In-loop-b)
@@ -24,7 +24,7 @@ room c =
     let w = c.text_bytes-width.result + 1 in
     let e : w ≡ 6 + a.disks * 10 + 1 = omega arith in
     let all : (a.v.rows + 1) * w ≤ length a.page.now = rw e c.requires.room in
-    rw c.loop-b.invariant.1.1 (row_room c.loop-b.b a.v.rows w (length a.page.now) c.loop-b-test.true all)
+    rw c.loop-b.auto.page (row_room c.loop-b.b a.v.rows w (length a.page.now) c.loop-b-test.true all)
 
 pub overflow_mul-at : goal.overflow_mul-at
 overflow_mul-at c = omega (arith, room (goal.at.overflow_mul-at c).In-loop-b)
@@ -32,8 +32,8 @@ overflow_mul-at c = omega (arith, room (goal.at.overflow_mul-at c).In-loop-b)
 pub overflow_add-at : goal.overflow_add-at
 overflow_add-at c = omega (arith, room (goal.at.overflow_add-at c).In-loop-b)
 
-pub overflow_add-end : goal.overflow_add-end
-overflow_add-end c = omega (arith, room (goal.at.overflow_add-end c).In-loop-b)
+pub overflow_add-at-in-loop-b : goal.overflow_add-at-in-loop-b
+overflow_add-at-in-loop-b c = omega (arith, room (goal.at.overflow_add-at-in-loop-b c).In-loop-b)
 
 pub slice_bounds-put_row_line-end : goal.slice_bounds-put_row_line-end
 slice_bounds-put_row_line-end c = room (goal.at.slice_bounds-put_row_line-end c).In-loop-b
@@ -50,10 +50,10 @@ loop-b-preserved c =
     let a = c.args in
     let w = c.text_bytes-width.result + 1 in
     let e : w ≡ 6 + a.disks * 10 + 1 = omega arith in
-    (omega arith, joined_back (row_line a.v a.disks) w (λ i. length_row_line a.v a.disks i ∙ sym e) a.page.now lp.page _ w lp.b (room (goal.at.loop-b-preserved c).In-loop-b) lp.invariant.1.0 c.put_row_line.ensures)
+    (joined_back (row_line a.v a.disks) w (λ i. length_row_line a.v a.disks i ∙ sym e) a.page.now lp.page _ w lp.b (room (goal.at.loop-b-preserved c).In-loop-b) lp.invariant c.put_row_line.ensures).0
 
 pub returns : goal.returns
 returns c =
     let e : c.loop-b.b ≡ c.args.v.rows = omega arith in
     let w : c.text_bytes-width.result + 1 ≡ 6 + c.args.disks * 10 + 1 = omega arith in
-    rw w at (rw e at c.loop-b.invariant.1.0)
+    rw w at (rw e at c.loop-b.invariant)

@@ -1,13 +1,8 @@
-use Prim.Native.Nat.{◌-◌, ◌≤◌}
 use mathlib.Core.Path.{◌≡◌}
-use lib.ListN.{length}
 use lib.Seq.{sets}
 use Rattle.base.specs.Below.{joined}
 use Rattle.wall_chart.specs.Chart.{row_line}
 use Rattle.wall_chart.proofs.pages.put_rows.Given as goal
 
 abbrev pub invariant-loop-b : goal.invariant-loop-b
-invariant-loop-b l = (l.b ≤ l.rows) × ((l.page ≡ sets l.initial.page l.width (joined (row_line l.v l.disks) l.b)) × (length l.page ≡ length l.initial.page))
-
-abbrev pub decreases-loop-b : goal.decreases-loop-b
-decreases-loop-b l = l.rows - l.b
+invariant-loop-b l = l.page ≡ sets l.initial.page l.width (joined (row_line l.v l.disks) l.b)
