@@ -7,7 +7,7 @@ use mathlib.Core.Logic.{◌≢◌}
 use native.Mathlib.Nat.{add-zero}
 use native.Mathlib.Omega.{arith}
 use lib.Dec.{eqb, ltb}
-use lib.ListN.{length, get_or, set, replicate}
+use lib.ListN.{length, get_or, set}
 use borrow.Author.Tests.{le-leb, lt-leb, lt-ltb, eq-eqb, ne_eqb}
 use Rattle.base.specs.Below.{count}
 use Rattle.base.proofs.Booleans.{same_order}
@@ -20,12 +20,9 @@ use Rattle.volume.specs.declared.Volume.{Volume}
 use Rattle.volume.specs.Sound.{sound}
 use Rattle.volume.specs.States.{tally_of}
 use Rattle.volume.proofs.CallsCode.{disks_most}
-use Rattle.scene_load.specs.declared.Load.{Load}
-use Rattle.scene_load.specs.declared.LoadAnswer.{LoadAnswer}
-use Rattle.scene_load.specs.declared.LoadAnswer.TheVariants.{Refused, SceneRefused, Counted}
 use Rattle.scene_load.specs.declared.Scene.{Scene}
-use Rattle.scene_load.specs.Loads.{names, served_of_scene, most_scenes, reaches_past, is_refused, refused_with}
-use Rattle.scene_load.specs.Steps.{is_counted, with_blocks, with_scene, Usable, NoneWraps}
+use Rattle.scene_load.specs.Loads.{names, served_of_scene, most_scenes, reaches_past, is_refused}
+use Rattle.scene_load.specs.Steps.{with_blocks, Usable, NoneWraps}
 use Rattle.scene_load.proofs.Refusing.{place_allowed, few_blocks}
 use Rattle.scene_load.proofs.Serving.{names_live, live_disk}
 
@@ -44,16 +41,15 @@ module _ (blocks place first count : ℕ) where
     unfolding is_refused reaches_past
     empty_allowed e = rw (lt-leb most_scenes place early, eq-eqb count 0 e)
 
-    module _ (some : count ≢ 0) where
-      by_end : ltb blocks (first + count) ≡ refuses
-      unfolding is_refused reaches_past
-      by_end = rw (lt-leb most_scenes place early, ne_eqb count 0 some)
+    by_end : count ≢ 0 → ltb blocks (first + count) ≡ refuses
+    unfolding is_refused reaches_past
+    by_end some = rw (lt-leb most_scenes place early, ne_eqb count 0 some)
 
-      pub many_refused : blocks < count → true ≡ refuses
-      many_refused h = sym (lt-ltb blocks (first + count) (omega arith)) ∙ by_end
+    pub many_refused : blocks < count → true ≡ refuses
+    many_refused h = sym (lt-ltb blocks (first + count) (omega arith)) ∙ by_end (λ z. absurd (omega arith))
 
-      pub end_tested : count ≤ blocks → ltb (blocks - count) first ≡ refuses
-      end_tested h = same_order (blocks - count) first blocks (first + count) (λ l. omega arith) (λ l. omega arith) ∙ by_end
+    pub end_tested : count ≢ 0 → count ≤ blocks → ltb (blocks - count) first ≡ refuses
+    end_tested some h = same_order (blocks - count) first blocks (first + count) (λ l. omega arith) (λ l. omega arith) ∙ by_end some
 
 -- ---- the blocks of a scene, one after another
 
@@ -101,39 +97,10 @@ disk_small v e x p h at = rw at (omega (arith, live_disk v e x h, disks_most v e
 
 -- ---- a load with one scene more
 
--- what is known where the answer is not `Counted`
-pub not_counted : (a : LoadAnswer) → a ≢ Counted → is_counted a ≡ false
-unfolding is_counted
-not_counted (Refused k) n = refl
-not_counted (SceneRefused place) n = refl
-not_counted Counted n = absurd (n refl)
-
-pub counted_sound : (v : Volume) (load : Load) (place : ℕ) → load.answer ≡ Counted → Usable v load place → sound v ≡ true
-unfolding is_counted
-counted_sound v load place c usable = usable.is_sound (rw c)
-
-module _ (v : Volume) (load : Load) (place : ℕ) (scene : Scene) where
-  pub stays_refused : is_counted load.answer ≡ false → load ≡ with_scene v load place scene
-  unfolding with_scene
-  stays_refused e = rw e
-
-  module _ (c : load.answer ≡ Counted) where
-    abbrev refused_now : Bool
-    refused_now = is_refused (open_blocks (tally_of v)) place scene
-
-    pub refused_now_law : refused_now ≡ true → record { answer = SceneRefused place; served = replicate most_disks 0 } ≡ with_scene v load place scene
-    unfolding with_scene is_counted refused_with
-    refused_now_law e = rw (c, e)
-
-    pub counted_now : refused_now ≡ false → (served : List ℕ) → served ≡ with_blocks v load.served scene
-        → record { answer = Counted; served = served } ≡ with_scene v load place scene
-    unfolding with_scene is_counted
-    counted_now e served h = rw (c, e, h)
-
-    pub none_wraps : Usable v load place → refused_now ≡ false → NoneWraps load.served scene.count
-    unfolding is_counted
-    none_wraps usable e d h =
-        let before : get_or load.served d 0 ≤ place * 16_000_000 = usable.no_more (rw c) d h in
-        let early = place_allowed (open_blocks (tally_of v)) place scene e in
-        let few = few_blocks v (counted_sound v load place c usable) place scene e in
-        omega arith
+module _ (v : Volume) (served : List ℕ) (place : ℕ) (scene : Scene) (usable : Usable v served place) where
+  pub none_wraps : is_refused (open_blocks (tally_of v)) place scene ≡ false → NoneWraps served scene.count
+  none_wraps e d h =
+      let before : get_or served d 0 ≤ place * 16_000_000 = usable.no_more d h in
+      let early = place_allowed (open_blocks (tally_of v)) place scene e in
+      let few = few_blocks v usable.is_sound place scene e in
+      omega arith

@@ -8,7 +8,8 @@ use native.Mathlib.Decide.{dec_lt, ℕ_discrete}
 use native.Mathlib.Omega.{arith}
 use lib.Dec.{eqb, leb, ltb}
 use lib.ListN.{length, replicate}
-use borrow.Author.Tests.{ltb-true, ltb-false, lt-ltb, le-ltb, leb-false, le-leb, eqb-true, ne_eqb}
+use borrow.Author.Tests.{ltb-true, ltb-false, lt-ltb, le-ltb, leb-false, le-leb, eqb-true, eqb-false, ne_eqb}
+use Rattle.std.specs.Prelude.{Ok}
 use Rattle.base.specs.Below.{first}
 use Rattle.base.specs.Refusals.{refusal}
 use Rattle.base.proofs.Booleans.{neither, clash, by_test}
@@ -21,9 +22,7 @@ use Rattle.volume.specs.Sound.{sound}
 use Rattle.volume.specs.States.{tally_of}
 use Rattle.volume.proofs.LiveCode.{open_most}
 use Rattle.scene_load.specs.declared.Scene.{Scene}
-use Rattle.scene_load.specs.declared.Load.{Load}
-use Rattle.scene_load.specs.declared.LoadAnswer.TheVariants.{Counted}
-use Rattle.scene_load.specs.Loads.{load_number, place_told, reaches_past, is_refused, refused_at, most_scenes, refused_place, load_table, refused_with, refused_load, load_of_first, load_of}
+use Rattle.scene_load.specs.Loads.{Load, load_refusal_number, load_number, place_told, served_told, reaches_past, is_refused, refused_at, most_scenes, refused_place, load_table, refused_load, load_of_first, load_of}
 use Rattle.scene_load.specs.Laws.{refusal_of, LoadRefuses, FirstRefused}
 
 -- ---- one scene
@@ -77,27 +76,38 @@ module _ (v : Volume) (scenes : List Scene) (n : ℕ) where
 
 -- ---- the answer
 
+-- the number that refuses a list is 1 or 17
+told_refused : (v : Volume) (scenes : List Scene) (n : ℕ) → refusal (load_table v scenes n) ≢ 0 → refusal (load_table v scenes n) ≢ 17
+    → refusal (load_table v scenes n) ≡ 1
+unfolding load_table refusal
+told_refused v scenes n some other = one (sound v) (ltb (refused_place v scenes n) n) some other
+  where
+    one : (a b : Bool) → refusal ((1, not a) ∷ (17, b) ∷ []) ≢ 0 → refusal ((1, not a) ∷ (17, b) ∷ []) ≢ 17 → refusal ((1, not a) ∷ (17, b) ∷ []) ≡ 1
+    one true true h k = absurd (k refl)
+    one true false h k = absurd (h refl)
+    one false b h k = refl
+
 -- what a load tells, by the number that refuses it
-module _ (place k : ℕ) (counted : Load) (e : counted.answer ≡ Counted) where
+module _ (place k : ℕ) (served : List ℕ) where
   abbrev told : Load
-  told = cond (eqb k 0) counted (refused_load place k)
+  told = cond (eqb k 0) (Ok served) (refused_load place k)
 
-  number_is_law : load_number told.answer ≡ k
-  unfolding load_number refused_load refused_with
-  number_is_law =
-      by_test (eqb k 0) (λ t. rw (t, e) (sym (eqb-true k 0 t)))
-      (λ t. by_test (eqb k 17) (λ u. rw (t, u) (sym (eqb-true k 17 u))) (λ u. rw (t, u)))
+  number_is_law : (k ≢ 0 → k ≢ 17 → k ≡ 1) → load_number told ≡ k
+  unfolding load_number load_refusal_number refused_load
+  number_is_law one =
+      by_test (eqb k 0) (λ t. rw t (sym (eqb-true k 0 t)))
+      (λ t. by_test (eqb k 17) (λ u. rw (t, u) (sym (eqb-true k 17 u))) (λ u. rw (t, u) (sym (one (eqb-false k 0 t) (eqb-false k 17 u)))))
 
-  numbers_none : k ≢ 0 → told.served ≡ replicate most_disks 0
-  unfolding refused_load refused_with
+  numbers_none : k ≢ 0 → served_told told ≡ replicate most_disks 0
+  unfolding served_told refused_load
   numbers_none h = rw (ne_eqb k 0 h)
 
-  place_none : k ≢ 17 → place_told told.answer ≡ 0
-  unfolding place_told refused_load refused_with
-  place_none h = by_test (eqb k 0) (λ t. rw (t, e)) (λ t. rw (t, ne_eqb k 17 h))
+  place_none : k ≢ 17 → place_told told ≡ 0
+  unfolding place_told refused_load
+  place_none h = by_test (eqb k 0) (λ t. rw t) (λ t. rw (t, ne_eqb k 17 h))
 
-  place_is : k ≡ 17 → place_told told.answer ≡ place
-  unfolding place_told refused_load refused_with
+  place_is : k ≡ 17 → place_told told ≡ place
+  unfolding place_told refused_load
   place_is h = rw h
 
 module _ (v : Volume) (scenes : List Scene) where
@@ -105,16 +115,16 @@ module _ (v : Volume) (scenes : List Scene) where
   unfolding load_of load_of_first
   load_refuses =
       record {
-        number_told = number_is_law (refused_place v scenes (length scenes)) (refusal_of v scenes) _ refl;
-        no_numbers = numbers_none (refused_place v scenes (length scenes)) (refusal_of v scenes) _ refl;
-        no_place = place_none (refused_place v scenes (length scenes)) (refusal_of v scenes) _ refl;
+        number_told = number_is_law (refused_place v scenes (length scenes)) (refusal_of v scenes) _ (told_refused v scenes (length scenes));
+        no_numbers = numbers_none (refused_place v scenes (length scenes)) (refusal_of v scenes) _;
+        no_place = place_none (refused_place v scenes (length scenes)) (refusal_of v scenes) _;
       }
 
-  place_of_first : refusal_of v scenes ≡ 17 → place_told (load_of v scenes).answer ≡ refused_place v scenes (length scenes)
+  place_of_first : refusal_of v scenes ≡ 17 → place_told (load_of v scenes) ≡ refused_place v scenes (length scenes)
   unfolding load_of load_of_first
-  place_of_first e = place_is (refused_place v scenes (length scenes)) (refusal_of v scenes) _ refl e
+  place_of_first e = place_is (refused_place v scenes (length scenes)) (refusal_of v scenes) _ e
 
-  pub first_refused : refusal_of v scenes ≡ 17 → FirstRefused v scenes (place_told (load_of v scenes).answer)
+  pub first_refused : refusal_of v scenes ≡ 17 → FirstRefused v scenes (place_told (load_of v scenes))
   unfolding refused_place
   first_refused e =
       let below = refused_below v scenes (length scenes) e in

@@ -15,7 +15,7 @@ use Rattle.volume.specs.declared.Volume.{Volume}
 use Rattle.volume.specs.States.{tally_of}
 use Rattle.scene_load.specs.declared.Scene.{Scene}
 use Rattle.scene_load.specs.Cases.{LastScenes}
-use Rattle.scene_load.specs.Loads.{scene_at, served_of_scene, served_of_first, reaches_past, is_refused, load_of_first, load_of, AllOpen}
+use Rattle.scene_load.specs.Loads.{served_told, scene_at, served_of_scene, served_of_first, reaches_past, is_refused, load_of_first, load_of, AllOpen}
 use Rattle.scene_load.specs.Laws.{refusal_of, served_of, Counts, LoadLaws}
 use Rattle.scene_load.proofs.Refusing.{block_within, accepted_sound, accepted_all, load_refuses, first_refused, some_refused, unsound_first, all_accepted, few_scenes}
 use Rattle.scene_load.proofs.Serving.{names_live, no_disk, sum_of_disks}
@@ -47,8 +47,8 @@ module _ (v : Volume) (scenes : List Scene) (e : refusal_of v scenes ≡ 0) wher
   blocks_open : (place : ℕ) → place < length scenes → AllOpen v (scene_at scenes place)
   blocks_open place h = block_within (open_blocks (tally_of v)) place (scene_at scenes place) (accepted_all v scenes (length scenes) e place h)
 
-  number_of_disk : (d : ℕ) → d < most_disks → get_or (load_of v scenes).served d 0 ≡ served_of v scenes d
-  unfolding load_of load_of_first
+  number_of_disk : (d : ℕ) → d < most_disks → get_or (served_told (load_of v scenes)) d 0 ≡ served_of v scenes d
+  unfolding load_of load_of_first served_told
   number_of_disk d h = rw e (get_d_table 0 (served_of_first v scenes (length scenes)) most_disks d h)
 
   load_counts : Counts v scenes

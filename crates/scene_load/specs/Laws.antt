@@ -9,7 +9,7 @@ use Rattle.volume.specs.Sound.{sound}
 use Rattle.volume.specs.States.{disks, tally_of}
 use Rattle.scene_load.specs.declared.Scene.{Scene}
 use Rattle.scene_load.specs.Cases.{LastScenes}
-use Rattle.scene_load.specs.Loads.{load_number, place_told, scene_at, names, served_of_scene, served_of_first, reaches_past, refused_at, most_scenes, load_table, load_of, AllOpen}
+use Rattle.scene_load.specs.Loads.{load_number, place_told, served_told, scene_at, names, served_of_scene, served_of_first, reaches_past, refused_at, most_scenes, load_table, load_of, AllOpen}
 
 -- the number that refuses a list, 0 where none does
 abbrev pub refusal_of : (v : Volume) (scenes : List Scene) → ℕ
@@ -21,9 +21,9 @@ served_of v scenes d = served_of_first v scenes (length scenes) d
 
 -- a refusal: the table's number; 0 for every disk; a place with 17 alone
 pub record LoadRefuses (v : Volume) (scenes : List Scene) : Type 0 where
-  pub number_told : load_number (load_of v scenes).answer ≡ refusal_of v scenes
-  pub no_numbers : refusal_of v scenes ≢ 0 → (load_of v scenes).served ≡ replicate most_disks 0
-  pub no_place : refusal_of v scenes ≢ 17 → place_told (load_of v scenes).answer ≡ 0
+  pub number_told : load_number (load_of v scenes) ≡ refusal_of v scenes
+  pub no_numbers : refusal_of v scenes ≢ 0 → served_told (load_of v scenes) ≡ replicate most_disks 0
+  pub no_place : refusal_of v scenes ≢ 17 → place_told (load_of v scenes) ≡ 0
 
 -- a list refused with 17: the place told is that of the first scene that is refused
 pub record FirstRefused (v : Volume) (scenes : List Scene) (place : ℕ) : Type 0 where
@@ -40,7 +40,7 @@ pub record Counts (v : Volume) (scenes : List Scene) : Type 0 where
   pub live_disk : (d place j : ℕ) → place < length scenes → j < (scene_at scenes place).count
       → names v d ((scene_at scenes place).first + j) ≡ eqb (live_spot_of (tally_of v) ((scene_at scenes place).first + j)).disk d
   -- "each disk's number is the count of listed blocks whose address names that disk"
-  pub number_of_disk : (d : ℕ) → d < most_disks → get_or (load_of v scenes).served d 0 ≡ served_of v scenes d
+  pub number_of_disk : (d : ℕ) → d < most_disks → get_or (served_told (load_of v scenes)) d 0 ≡ served_of v scenes d
   -- numbers of disks that are not there are 0
   pub no_disk : (d : ℕ) → disks v ≤ d → served_of v scenes d ≡ 0
   -- "The sum over disks equals the sum of the counts"
@@ -55,7 +55,7 @@ pub record LoadLaws : Type 0 where
   pub reaches_open : (blocks first count : ℕ) → reaches_past blocks (record { first = first; count = count + 1 }) ≡ false → first + count < blocks
   -- refusals
   pub load_refuses : (v : Volume) (scenes : List Scene) → LoadRefuses v scenes
-  pub first_refused : (v : Volume) (scenes : List Scene) → refusal_of v scenes ≡ 17 → FirstRefused v scenes (place_told (load_of v scenes).answer)
+  pub first_refused : (v : Volume) (scenes : List Scene) → refusal_of v scenes ≡ 17 → FirstRefused v scenes (place_told (load_of v scenes))
   pub some_refused : (v : Volume) (scenes : List Scene) (place : ℕ) → sound v ≡ true → place < length scenes
       → refused_at v scenes place ≡ true → refusal_of v scenes ≡ 17
   pub last_scenes : LastScenes

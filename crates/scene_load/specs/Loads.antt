@@ -1,6 +1,6 @@
 -- Document 02, W2: the load of a scene list. "I hold a lent list of scenes, each a first block and a count, and want to know how many of its
 -- blocks each disk serves."
-use Rattle.std.specs.Prelude.{ℕ, ◌+◌, ◌<◌, Bool, cond, not, ◌&&◌, ◌||◌, List, [], ◌∷◌, eqb, leb, ltb, length, get_or, replicate}
+use Rattle.std.specs.Prelude.{ℕ, ◌+◌, ◌<◌, Bool, cond, not, ◌&&◌, ◌||◌, List, [], ◌∷◌, eqb, leb, ltb, length, get_or, replicate, Result, Ok, Err}
 use Rattle.base.specs.Below.{count, sum, table, first}
 use Rattle.layout.specs.Limits.{most_disks}
 use Rattle.layout.specs.Tally.{open_blocks}
@@ -10,20 +10,32 @@ use Rattle.volume.specs.Calls.{judged, address_reply}
 use Rattle.volume.specs.Sound.{sound}
 use Rattle.volume.specs.States.{tally_of}
 use Rattle.scene_load.specs.declared.Scene.{Scene}
-use Rattle.scene_load.specs.declared.Load.{Load}
-use Rattle.scene_load.specs.declared.LoadAnswer.{LoadAnswer}
-use Rattle.scene_load.specs.declared.LoadAnswer.TheVariants.{Refused, SceneRefused, Counted}
+use Rattle.scene_load.specs.declared.LoadRefusal.{LoadRefusal}
+use Rattle.scene_load.specs.declared.LoadRefusal.TheVariants.{NotSound, NoSuchScene}
 
--- The number that each case of an answer stands for, and its one figure: "the place of the first such scene, counted from 0".
-unfoldable pub load_number : (a : LoadAnswer) → ℕ
-load_number (Refused k) = k
-load_number (SceneRefused place) = 17
-load_number Counted = 0
+-- how many listed blocks each disk serves, or why none is counted
+abbrev pub Load : Type 0
+Load = Result (List ℕ) LoadRefusal
 
-unfoldable pub place_told : (a : LoadAnswer) → ℕ
-place_told (Refused k) = 0
-place_told (SceneRefused place) = place
-place_told Counted = 0
+-- The number of a refusal.
+unfoldable pub load_refusal_number : (r : LoadRefusal) → ℕ
+load_refusal_number NotSound = 1
+load_refusal_number (NoSuchScene place) = 17
+
+-- What an answer tells: its number; its one figure, "the place of the first such scene, counted from 0"; how many listed blocks each disk serves,
+-- "with 0 for every disk" on a refusal.
+unfoldable pub load_number : (load : Load) → ℕ
+load_number (Ok served) = 0
+load_number (Err r) = load_refusal_number r
+
+unfoldable pub place_told : (load : Load) → ℕ
+place_told (Ok served) = 0
+place_told (Err NotSound) = 0
+place_told (Err (NoSuchScene place)) = place
+
+unfoldable pub served_told : (load : Load) → List ℕ
+served_told (Ok served) = served
+served_told (Err r) = replicate most_disks 0
 
 -- the scene at a place of a list
 abbrev pub scene_at : (scenes : List Scene) (place : ℕ) → Scene
@@ -73,18 +85,13 @@ refused_place v scenes n = first (refused_at v scenes) n
 unfoldable pub load_table : (v : Volume) (scenes : List Scene) (n : ℕ) → List (ℕ × Bool)
 load_table v scenes n = (1, not (sound v)) ∷ (17, ltb (refused_place v scenes n) n) ∷ []
 
--- "with 0 for every disk"
-unfoldable pub refused_with : (answer : LoadAnswer) → Load
-refused_with answer = record { answer = answer; served = replicate most_disks 0 }
-
 unfoldable pub refused_load : (place k : ℕ) → Load
-refused_load place k = refused_with (cond (eqb k 17) (SceneRefused place) (Refused k))
+refused_load place k = Err (cond (eqb k 17) (NoSuchScene place) NotSound)
 
 -- of the first n scenes of a list, and of all
 unfoldable pub load_of_first : (v : Volume) (scenes : List Scene) (n : ℕ) → Load
 load_of_first v scenes n =
-    judged (load_table v scenes n) (refused_load (refused_place v scenes n))
-    (record { answer = Counted; served = table (served_of_first v scenes n) most_disks })
+    judged (load_table v scenes n) (refused_load (refused_place v scenes n)) (Ok (table (served_of_first v scenes n) most_disks))
 
 unfoldable pub load_of : (v : Volume) (scenes : List Scene) → Load
 load_of v scenes = load_of_first v scenes (length scenes)

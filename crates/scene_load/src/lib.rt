@@ -3,9 +3,13 @@
 // `load_of` is offered to others and takes any input. What has a `requires` is seen in this crate alone.
 #![tactic(auto)]
 
+ghost use Rattle.std.specs.Prelude.{◌≡◌};
+ghost use Rattle.scene_load.specs.Loads.{load_refusal_number};
+
 mod blocks;
 mod scenes;
 
+use base::Refusal;
 pub use scenes::load_of;
 
 // A scene: a first block and a count of blocks.
@@ -16,17 +20,23 @@ pub struct Scene {
     pub count: usize,
 }
 
-// The answer: refused with a number; refused with 17, with the place of the first scene that is refused, counted from 0; or counted.
-#[derive(Clone, Copy)]
-pub enum LoadAnswer {
-    Refused(usize),
-    SceneRefused(usize),
-    Counted,
+// Why a list is refused.
+#[derive(Clone, Copy, PartialEq, Eq, Debug)]
+pub enum LoadRefusal {
+    // The state is not sound.
+    NotSound,
+    // A scene reaches past the open blocks, or stands too far back: the place of the first such scene, counted from 0.
+    NoSuchScene(usize),
 }
 
-// The answer, and how many listed blocks each disk serves: 0 for every disk on a refusal.
-#[derive(Clone, Copy)]
-pub struct Load {
-    pub answer: LoadAnswer,
-    pub served: [usize; 16],
+impl LoadRefusal {
+    // Its number in document 02.
+    pub fn number(self) -> usize
+        ensures { result ≡ load_refusal_number self }
+    {
+        match self {
+            LoadRefusal::NotSound => Refusal::NotSound.number(),
+            LoadRefusal::NoSuchScene(_) => Refusal::NoSuchScene.number(),
+        }
+    }
 }

@@ -11,7 +11,7 @@ use Rattle.scene_load.proofs.blocks.with_blocks.Goals as goal
 use Rattle.scene_load.proofs.blocks.with_blocks.Goals.{After-live_spot-spot}
 
 pub loop-j-init : goal.loop-j-init
-loop-j-init c = (omega arith, none_added _ _ _ (search rules))
+loop-j-init c = none_added _ _ _ (search rules)
 
 pub overflow_add-first : goal.overflow_add-first
 overflow_add-first c =
@@ -25,30 +25,30 @@ small : (c : After-live_spot-spot) → c.live_spot-spot.result.disk < most_disks
 small c =
     disk_small _ c.requires.sound_state _ _ (c.requires.all_open _ (omega (arith, c.loop-j-test.true))) c.live_spot-spot.ensures
 
-pub offset_bounds-sum-disk : goal.offset_bounds-sum-disk
-offset_bounds-sum-disk c = omega (arith, small (goal.at.offset_bounds-sum-disk c).After-live_spot-spot)
+pub offset_bounds-served-spot : goal.offset_bounds-served-spot
+offset_bounds-served-spot c = omega (arith, small (goal.at.offset_bounds-served-spot c).After-live_spot-spot)
 
-pub bounds-sum-disk : goal.bounds-sum-disk
-bounds-sum-disk c = small (goal.at.bounds-sum-disk c).After-live_spot-spot
+pub bounds-served-spot : goal.bounds-served-spot
+bounds-served-spot c = small (goal.at.bounds-served-spot c).After-live_spot-spot
 
-pub overflow_add-sum : goal.overflow_add-sum
-overflow_add-sum c =
+pub overflow_add-served : goal.overflow_add-served
+overflow_add-served c =
     let l = c.loop-j in
-    let most = rw (← l.invariant.1) at (number_most c.args.v c.args.served c.args.first l.j c.live_spot-spot.result.disk (small (goal.at.overflow_add-sum c).After-live_spot-spot)) in
-    omega (arith, most, c.requires.none_wraps c.live_spot-spot.result.disk (small (goal.at.overflow_add-sum c).After-live_spot-spot), c.loop-j-test.true)
+    let most = rw (← l.invariant) at (number_most c.args.v c.args.served c.args.first l.j c.live_spot-spot.result.disk (small (goal.at.overflow_add-served c).After-live_spot-spot)) in
+    omega (arith, most, c.requires.none_wraps c.live_spot-spot.result.disk (small (goal.at.overflow_add-served c).After-live_spot-spot), c.loop-j-test.true)
 
-pub bounds-sum-disk-in-loop-j : goal.bounds-sum-disk-in-loop-j
-bounds-sum-disk-in-loop-j c = small (goal.at.bounds-sum-disk-in-loop-j c).After-live_spot-spot
+pub bounds-served-spot-in-loop-j : goal.bounds-served-spot-in-loop-j
+bounds-served-spot-in-loop-j c = small (goal.at.bounds-served-spot-in-loop-j c).After-live_spot-spot
 
 pub loop-j-preserved : goal.loop-j-preserved
 loop-j-preserved c =
     let l = c.loop-j in
     let block = c.requires.all_open l.j c.loop-j-test.true in
     let disk = ap (λ (p : Spot). p.disk) c.live_spot-spot.ensures in
-    (omega (arith, c.loop-j-test.true), rw (← l.invariant.1) at (block_added c.args.v c.args.served c.args.first c.requires.sound_state l.j _ block disk (small (goal.at.loop-j-preserved c).After-live_spot-spot)))
+    rw (← l.invariant) at (block_added c.args.v c.args.served c.args.first c.requires.sound_state l.j _ block disk (small (goal.at.loop-j-preserved c).After-live_spot-spot))
 
 pub returns : goal.returns
 returns c =
     let l = c.loop-j in
-    let e : l.j ≡ c.args.count = omega (arith, l.invariant.0, c.loop-j-test.false) in
-    rw e at l.invariant.1
+    let e : l.j ≡ c.args.count = omega (arith, c.loop-j-test.false) in
+    rw e at l.invariant

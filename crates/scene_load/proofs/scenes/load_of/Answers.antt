@@ -1,24 +1,35 @@
 -- `load_of` meets its contract. All that it knows of `empty_load` and `with_scene` is that each meets its contract.
 use mathlib.Core.Path.{◌≡◌, ◌∙◌}
-use native.Mathlib.Numerals.{add-one}
 use native.Mathlib.Omega.{arith}
 use lib.ListN.{length}
+use Rattle.std.proofs.lemmas.Result.{err_from_is_err_and}
 use Rattle.scene_load.specs.Loads.{load_of}
-use Rattle.scene_load.proofs.ScenesCode.{none_taken, next_load, load_usable}
+use Rattle.scene_load.proofs.ScenesCode.{none_taken, next_load, load_usable, stays_refused}
 use Rattle.scene_load.proofs.scenes.load_of.Goals as goal
 
-pub loop-i-init : goal.loop-i-init
-loop-i-init c = (omega arith, c.empty_load-load.ensures ∙ none_taken _ _)
+pub returns-in_err-served : goal.returns-in_err-served
+unfolding load_of
+returns-in_err-served c =
+    let p = err_from_is_err_and c.from_residual.result c.from_residual.ensures.1 in
+    rw (p.1, p.2) (stays_refused _ _ 0 _ _ (omega arith) (c.in_err-served.ensures ∙ none_taken _ _))
 
-pub with_scene-load-requires : goal.with_scene-load-requires
-with_scene-load-requires c = rw c.loop-i.invariant.1 (load_usable _ _ _)
+pub loop-place-init : goal.loop-place-init
+loop-place-init c = c.in_ok-served.ensures ∙ none_taken _ _
 
-pub loop-i-preserved : goal.loop-i-preserved
-loop-i-preserved c =
-    (omega (arith, c.loop-i-test.true), rw add-one (rw c.loop-i.invariant.1 at c.with_scene-load.ensures ∙ next_load _ _ _))
+pub with_scene-requires : goal.with_scene-requires
+with_scene-requires c = load_usable _ _ _ _ c.loop-place.invariant
+
+pub returns-in_err-served-2 : goal.returns-in_err-served-2
+unfolding load_of
+returns-in_err-served-2 c =
+    let p = err_from_is_err_and c.from_residual-in_err-served-2.result c.from_residual-in_err-served-2.ensures.1 in
+    rw (p.1, p.2) (stays_refused _ _ _ _ _ (omega arith) (c.in_err-served-2.ensures ∙ next_load _ _ _ _ c.loop-place.invariant))
+
+pub loop-place-preserved : goal.loop-place-preserved
+loop-place-preserved c = c.in_ok-served-2.ensures ∙ next_load _ _ _ _ c.loop-place.invariant
 
 pub returns : goal.returns
 unfolding load_of
 returns c =
-    let e : c.loop-i.i ≡ length c.args.scenes.now = omega (arith, c.loop-i.invariant.0, c.loop-i-test.false) in
-    rw e at c.loop-i.invariant.1
+    let e : c.loop-place.place ≡ length c.args.scenes.now = omega arith in
+    rw e at c.loop-place.invariant
