@@ -4,9 +4,13 @@ use mathlib.Core.Path.{◌≡◌, refl, sym, ◌∙◌}
 use mathlib.Core.Bool.{true}
 use mathlib.Core.Logic.{◌≢◌}
 use native.Mathlib.Omega.{arith}
-use Rattle.base.specs.Refusals.{refusal}
+use borrow.Author.Tests.{ne_eqb}
+use Rattle.std.specs.Prelude.{Ok, Err}
+use Rattle.base.specs.declared.Refusal.{Refusal}
+use Rattle.base.specs.declared.Refusal.TheVariants.{BlockNotOpen}
+use Rattle.base.specs.Refusals.{refusal, refusal_number, checked}
+use Rattle.base.proofs.Refusals.{checked_refused, checked_passed}
 use Rattle.layout.specs.declared.Spot.{Spot}
-use Rattle.layout.specs.History.{spot_of}
 use Rattle.layout.specs.Tally.{open_blocks, live_spot_of}
 use Rattle.medium.specs.declared.Geometry.{Geometry}
 use Rattle.medium.specs.Medium.{place, bytes_needed}
@@ -15,14 +19,13 @@ use Rattle.volume.specs.declared.Volume.{Volume}
 use Rattle.volume.specs.Sound.{sound}
 use Rattle.volume.specs.States.{geometry, disks, tally_of}
 use Rattle.volume.proofs.CallsCode.{disks_most}
-use Rattle.volume.proofs.Judged.{refused_when, accepted_when}
-use Rattle.volume.proofs.LiveCode.{counts_before, counts_old, bytes_asked, old_in_growth}
+use Rattle.volume.proofs.LiveCode.{bytes_asked}
 use Rattle.volume.proofs.LookUpLaws.{live_inside}
-use Rattle.shelves.specs.declared.ViewAnswer.{ViewAnswer}
-use Rattle.shelves.specs.declared.ViewAnswer.TheVariants.{Refused}
+use Rattle.shelves.specs.declared.ViewStart.{ViewStart}
 use Rattle.shelves.specs.Shelves.{start_on_shelf}
 use Rattle.shelves.specs.Views.{shelves_table, view_table, view_answer}
-use Rattle.shelves.proofs.Tests.{shelves_fit, shelves_first, not_open, none_refuses}
+use Rattle.shelves.proofs.Judged.{Tells, tells, tells_before}
+use Rattle.shelves.proofs.Tests.{shelves_fit, not_open, none_refuses, answer_found}
 
 -- so many of the disks: blocks on them, and their bytes
 module _ (v : Volume) (e : sound v ≡ true) (n : ℕ) (h : n ≤ disks v) where
@@ -37,40 +40,37 @@ module _ (v : Volume) (e : sound v ≡ true) (n : ℕ) (h : n ≤ disks v) where
   unfolding bytes_needed geometry
   rows_fit = let a = needs_asked (geometry v) refl in factor_fits (n * v.rows) v.size a.0 a.1
 
--- the spot before the growth under way, which the code finds after t - 1 growths
-pub old_found : (v : Volume) → sound v ≡ true → v.growing ≢ 0 → (x : ℕ) (p : Spot) → p ≡ spot_of v.rows (counts_before v) x
-    → p ≡ spot_of v.rows (counts_old v) x
-old_found v e g x p f = rw (old_in_growth v e g) f
+-- a byte of the disks, so of an open block's live spot, is counted in 64 bits
+pub start_asked : (v : Volume) → sound v ≡ true → (x : ℕ) → x < open_blocks (tally_of v) → (g : Geometry) → g ≡ geometry v
+    → (p : Spot) → p ≡ live_spot_of (tally_of v) x → (0 < g.size) × (place g p < 2 ^ 64)
+start_asked v e x o g same p q =
+    let b = bytes_asked v e (geometry v) refl (disks v) (disks_most v e) in
+    let i = live_inside v x (bytes_needed (geometry v) (disks v)) e o (omega arith) in
+    rw (same, q) (b.0, omega (arith, b.1, i.fits))
 
--- a state that the tests of the shelves pass
-pub state_sound : (v : Volume) (first second k n : ℕ) → n ≡ refusal (shelves_table v first second k) → n ≡ 0 → sound v ≡ true
-state_sound v first second k n e h = (shelves_fit v first second k (sym e ∙ h)).0
-
--- the answer as the code finds it, where n is the number of these tests
-module _ (v : Volume) (first second k x n : ℕ) (e : n ≡ refusal (shelves_table v first second k)) where
-  pub shelves_refused : n ≢ 0 → Refused n ≡ view_answer v first second k x
+-- the answer as the code finds it
+module _ (v : Volume) (first second k x : ℕ) where
+  pub view_refused : (r : Refusal) → Tells (refusal (view_table v first second k x)) r → Err r ≡ view_answer v first second k x
   unfolding view_answer
-  shelves_refused h =
-      let told = e ∙ sym (shelves_first v first second k x (λ z. h (e ∙ z))) in
-      sym (refused_when (view_table v first second k x) Refused _ n told h)
+  view_refused r f = rw (ne_eqb (refusal (view_table v first second k x)) 0 f.0, f.1)
 
-  module _ (h : n ≡ 0) where
-    pub block_refused : (blocks : ℕ) → blocks ≡ open_blocks (tally_of v) → blocks ≤ x → Refused 3 ≡ view_answer v first second k x
-    unfolding view_answer
-    block_refused blocks same o =
-        sym (refused_when (view_table v first second k x) Refused _ 3 (not_open v first second k x (sym e ∙ h) (rw same at o)) (λ z. omega (arith, z)))
+  pub shelves_refused : (r : Refusal) → Err r ≡ checked (refusal (shelves_table v first second k)) → Err r ≡ view_answer v first second k x
+  unfolding view_table
+  shelves_refused r e = view_refused r (tells_before (shelves_table v first second k) _ r (checked_refused _ r (sym e)))
 
-    -- an open block: its live spot, and the byte of it
-    module _ (o : x < open_blocks (tally_of v)) (p : Spot) (q : p ≡ live_spot_of (tally_of v) x) where
-      pub start_asked : (g : Geometry) → g ≡ geometry v → (0 < g.size) × (place g p < 2 ^ 64)
-      start_asked g same =
-          let f = state_sound v first second k n e h in
-          let b = bytes_asked v f (geometry v) refl (disks v) (disks_most v f) in
-          let i = live_inside v x (bytes_needed (geometry v) (disks v)) f o (omega arith) in
-          rw (same, q) (b.0, omega (arith, b.1, i.fits))
+  module _ (u : Unit {0}) (e : Ok u ≡ checked (refusal (shelves_table v first second k))) where
+    passed_shelves : refusal (shelves_table v first second k) ≡ 0
+    passed_shelves = checked_passed _ u (sym e)
 
-      pub view_found : (a : ViewAnswer) (g : Geometry) → g ≡ geometry v → a ≡ start_on_shelf g k p → a ≡ view_answer v first second k x
-      unfolding view_answer
-      view_found a g same made =
-          rw (accepted_when (view_table v first second k x) Refused _ 0 (none_refuses v first second k x (sym e ∙ h) o) refl)
-          (rw (same, q) at made)
+    -- a state that the tests of the shelves pass
+    pub state_sound : sound v ≡ true
+    state_sound = (shelves_fit v first second k passed_shelves).0
+
+    pub block_refused : open_blocks (tally_of v) ≤ x → Err BlockNotOpen ≡ view_answer v first second k x
+    unfolding refusal_number
+    block_refused o = view_refused BlockNotOpen (tells _ BlockNotOpen (not_open v first second k x passed_shelves o))
+
+    pub view_found : x < open_blocks (tally_of v) → (p : Spot) → p ≡ live_spot_of (tally_of v) x → (start : ViewStart) (g : Geometry) → g ≡ geometry v
+        → start ≡ start_on_shelf g k p → Ok start ≡ view_answer v first second k x
+    view_found o p q start g same made =
+        rw (answer_found v first second k x (sym (none_refuses v first second k x passed_shelves o)), rw (same, q) at made)

@@ -9,6 +9,7 @@ use lib.Dec.{ltb}
 use lib.ListN.{length, take, drop, length-append, length-take, length-drop, take-append-drop}
 use lib.Seq.{length-take-le, take-append-le, drop-append-le, drop-append-add}
 use borrow.Author.Tests.{le-ltb, eq-eqb, ne_eqb, ltb-true, ltb-false}
+use Rattle.std.specs.Prelude.{Ok, Err}
 use Rattle.base.specs.Refusals.{refusal}
 use Rattle.base.proofs.Booleans.{cond_cases}
 use Rattle.layout.specs.declared.Spot.{Spot}
@@ -22,15 +23,15 @@ use Rattle.volume.specs.States.{geometry, disks, tally_of}
 use Rattle.volume.proofs.Judged.{accepted_when}
 use Rattle.volume.proofs.SoundLaws.{sound_facts}
 use Rattle.volume.proofs.Theorems.{volume_laws}
-use Rattle.shelves.specs.declared.ViewAnswer.{ViewAnswer}
-use Rattle.shelves.specs.declared.ViewAnswer.TheVariants.{Refused, First, Second}
+use Rattle.shelves.specs.declared.ViewStart.{ViewStart}
+use Rattle.shelves.specs.declared.ViewStart.TheVariants.{First, Second}
 use Rattle.shelves.specs.Laws.{Fitting, Stands, Shows, joined_of}
 use Rattle.shelves.specs.Shelves.{first_needs, second_needs, joined, place_on_second, start_on_shelf}
-use Rattle.shelves.specs.Views.{shelves_table, view_table, view_answer, view_number, part_shown, view_of}
+use Rattle.shelves.specs.Views.{ViewAnswer, shelves_table, view_table, view_answer, view_number, part_shown, view_of}
 use Rattle.shelves.proofs.Places.{both_need, second_place, first_holds, second_holds}
 use Rattle.shelves.proofs.Refusing.{view_told}
 use Rattle.shelves.proofs.Standing.{live_within, answer_stands}
-use Rattle.shelves.proofs.Tests.{ViewFacts, view_accepted}
+use Rattle.shelves.proofs.Tests.{ViewFacts, view_accepted, answer_found}
 
 -- ---- parts of lists
 
@@ -54,25 +55,25 @@ module _ (v : Volume) (first second : List ℕ) (k x : ℕ) where
   -- one block long
   shown_length : (a : ViewAnswer) → StandsHere a → view_number a ≡ 0 → length (part_shown v.size first second a) ≡ v.size
   unfolding Stands part_shown view_number
-  shown_length (Refused n) s h = absurd (s h)
-  shown_length (First at) s h = length-take-le v.size (drop at first) (simp length-drop (omega (arith, s.1, s.2)))
-  shown_length (Second at) s h = length-take-le v.size (drop at second) (simp length-drop (omega (arith, s.1, s.2)))
+  shown_length (Err r) s h = absurd (s h)
+  shown_length (Ok (First at)) s h = length-take-le v.size (drop at first) (simp length-drop (omega (arith, s.1, s.2)))
+  shown_length (Ok (Second at)) s h = length-take-le v.size (drop at second) (simp length-drop (omega (arith, s.1, s.2)))
 
   -- the same out of shelves cut to their needs
   pub shown_cut : (a : ViewAnswer) → StandsHere a
       → part_shown v.size (take (first_needs (geometry v) k) first) (take (second_needs (geometry v) (disks v) k) second) a
       ≡ part_shown v.size first second a
   unfolding Stands part_shown
-  shown_cut (Refused n) s = refl
-  shown_cut (First at) s = part_of_front first (first_needs (geometry v) k) at v.size s.2 s.1
-  shown_cut (Second at) s = part_of_front second (second_needs (geometry v) (disks v) k) at v.size s.2 s.1
+  shown_cut (Err r) s = refl
+  shown_cut (Ok (First at)) s = part_of_front first (first_needs (geometry v) k) at v.size s.2 s.1
+  shown_cut (Ok (Second at)) s = part_of_front second (second_needs (geometry v) (disks v) k) at v.size s.2 s.1
 
 -- a refusal shows nothing
 pub shown_empty : (z : ℕ) (first second : List ℕ) (a : ViewAnswer) → view_number a ≢ 0 → part_shown z first second a ≡ []
 unfolding part_shown view_number
-shown_empty z first second (Refused n) h = refl
-shown_empty z first second (First at) h = absurd (h refl)
-shown_empty z first second (Second at) h = absurd (h refl)
+shown_empty z first second (Err r) h = refl
+shown_empty z first second (Ok (First at)) h = absurd (h refl)
+shown_empty z first second (Ok (Second at)) h = absurd (h refl)
 
 -- ---- the bytes of a spot, on the two joined
 
@@ -102,10 +103,10 @@ module _ (g : Geometry) (n k : ℕ) (first second : List ℕ) (a : first_needs g
 
   -- the part that a start shows
   start_shows : (p : Spot) → p.disk < n → p.row.0 < g.rows
-      → part_shown g.size first second (start_on_shelf g k p) ≡ (observe (joined g n k first second)).bytes_at g p
+      → part_shown g.size first second (Ok (start_on_shelf g k p)) ≡ (observe (joined g n k first second)).bytes_at g p
   unfolding start_on_shelf part_shown
   start_shows p d r =
-      cond_cases (λ (a : ViewAnswer). part_shown g.size first second a ≡ (observe (joined g n k first second)).bytes_at g p) (ltb p.disk k)
+      cond_cases (λ (a : ViewStart). part_shown g.size first second (Ok a) ≡ (observe (joined g n k first second)).bytes_at g p) (ltb p.disk k)
       (λ t. sym (first_bytes p (ltb-true p.disk k t) r)) (λ t. sym (second_bytes p (ltb-false p.disk k t) d r))
 
 -- ---- an accepted view
@@ -156,10 +157,10 @@ module _ (v : Volume) (first second : List ℕ) (k x : ℕ) where
     facts = view_accepted v (length first) (length second) k x accepted
 
     pub equals_read : view_of v first second k x ≡ (read_effect v x (observe all)).piece
-    unfolding view_of view_answer read_effect doing geometry
+    unfolding view_of read_effect doing geometry
     equals_read =
         let w = live_within v x facts.is_sound facts.block_open in
-        rw (accepted_when (view_table v (length first) (length second) k x) Refused (start_on_shelf (geometry v) k (live_spot_of (tally_of v) x)) 0 (sym accepted) refl)
+        rw (answer_found v (length first) (length second) k x accepted)
         (start_shows (geometry v) (disks v) k first second facts.fitting.first_long facts.fitting.second_long (live_spot_of (tally_of v) x) w.0 w.1)
 
     pub read_done : (piece : List ℕ) → length piece ≡ v.size → read_outcome v x piece (observe all) ≡ read_effect v x (observe all)

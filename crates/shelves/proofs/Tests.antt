@@ -7,16 +7,17 @@ use mathlib.Core.Logic.{◌≢◌}
 use native.Mathlib.Omega.{arith}
 use lib.Dec.{eqb, leb, ltb}
 use borrow.Author.Tests.{lt-ltb, le-ltb, le-leb, lt-leb, eq-eqb, ne_eqb, eqb-false, ltb-false, leb-false}
+use Rattle.std.specs.Prelude.{Ok}
 use Rattle.base.specs.Refusals.{refusal}
 use Rattle.base.proofs.Booleans.{by_test}
 use Rattle.base.proofs.Refusals.{passed, held, refused_first, passed_first}
-use Rattle.layout.specs.Tally.{open_blocks}
+use Rattle.layout.specs.Tally.{open_blocks, live_spot_of}
 use Rattle.volume.specs.declared.Volume.{Volume}
 use Rattle.volume.specs.Sound.{sound}
 use Rattle.volume.specs.States.{geometry, disks, tally_of}
 use Rattle.shelves.specs.Laws.{Fitting}
-use Rattle.shelves.specs.Shelves.{first_needs, second_needs}
-use Rattle.shelves.specs.Views.{shelves_table, view_table}
+use Rattle.shelves.specs.Shelves.{first_needs, second_needs, start_on_shelf}
+use Rattle.shelves.specs.Views.{shelves_table, view_table, view_answer}
 
 -- ---- the state and the shelves
 
@@ -100,6 +101,12 @@ module _ (v : Volume) (first second k x : ℕ) where
     pub none_refuses : x < open_blocks (tally_of v) → 0 ≡ refusal (view_table v first second k x)
     unfolding refusal
     none_refuses o = rw block_last (rw (lt-leb (open_blocks (tally_of v)) x o))
+
+-- where the block starts, where none refuses
+pub answer_found : (v : Volume) (first second k x : ℕ) → refusal (view_table v first second k x) ≡ 0
+    → view_answer v first second k x ≡ Ok (start_on_shelf (geometry v) k (live_spot_of (tally_of v) x))
+unfolding view_answer
+answer_found v first second k x e = rw e
 
 pub record ViewFacts (v : Volume) (first second k x : ℕ) : Type 0 where
   pub is_sound : sound v ≡ true

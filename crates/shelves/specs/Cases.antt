@@ -1,10 +1,10 @@
 -- Views worked out by hand, as one table: blocks of 512 bytes and 5 rows, from 3 disks to 5, as in document 01's L1 to L7. `proofs/Cases.antt` has
 -- its one proof.
-use Rattle.std.specs.Prelude.{ℕ, ◌≡◌, Bool, true, false, List, [], ◌∷◌, map}
+use Rattle.std.specs.Prelude.{ℕ, ◌≡◌, Bool, true, false, List, [], ◌∷◌, map, Ok, Err}
+use Rattle.base.specs.Refusals.{refusal_with}
 use Rattle.volume.specs.declared.Volume.{Volume}
-use Rattle.shelves.specs.declared.ViewAnswer.{ViewAnswer}
-use Rattle.shelves.specs.declared.ViewAnswer.TheVariants.{Refused, First, Second}
-use Rattle.shelves.specs.Views.{view_answer}
+use Rattle.shelves.specs.declared.ViewStart.TheVariants.{First, Second}
+use Rattle.shelves.specs.Views.{ViewAnswer, view_answer}
 
 -- while the growth runs or after it, with these words of recorded and copied marks of window 0, and stores pending or not
 abbrev pub volume : (growing recorded copied : ℕ) (pending : Bool) → Volume
@@ -41,25 +41,34 @@ pub record ViewCase : Type 0 where
 abbrev pub viewed : (state : Volume) (first second k x : ℕ) (answer : ViewAnswer) → ViewCase
 viewed state first second k x answer = record { state = state; first = first; second = second; k = k; x = x; answer = answer }
 
+abbrev pub on_first : (at : ℕ) → ViewAnswer
+on_first at = Ok (First at)
+
+abbrev pub on_second : (at : ℕ) → ViewAnswer
+on_second at = Ok (Second at)
+
+abbrev pub refused : (number : ℕ) → ViewAnswer
+refused number = Err (refusal_with number)
+
 abbrev pub table : List ViewCase
 table =
-    viewed grown 8_192 5_120 3 12 (First 2_560)  -- block 12 stays at disk 0, row 4
-    ∷ viewed grown 8_192 5_120 3 0 (Second 0)  -- block 0 is moved to disk 3, row 0
-    ∷ viewed grown 8_192 5_120 3 4 (Second 3_072)  -- block 4 to disk 4, row 1
-    ∷ viewed grown 10_752 2_560 4 0 (First 8_192)  -- with disk 3 on the first shelf
-    ∷ viewed grown 13_312 0 5 4 (First 11_264)  -- all disks are on the first shelf
-    ∷ viewed grown 13_312 9_999 3 4 (Second 3_072)  -- spare bytes on both
-    ∷ viewed (growing 0 0) 8_192 5_120 3 0 (First 512)  -- not copied yet
-    ∷ viewed (growing 0 1) 8_192 5_120 3 0 (First 512)  -- copied, not recorded
-    ∷ viewed (growing 1 1) 8_192 5_120 3 0 (Second 0)  -- recorded
-    ∷ viewed (growing 1 0) 0 0 0 99 (Refused 1)  -- recorded and not copied: not sound
-    ∷ viewed grown 0 0 0 99 (Refused 8)
-    ∷ viewed grown 0 0 6 99 (Refused 8)
-    ∷ viewed (growing 1 1) 13_312 0 6 0 (Refused 8)  -- N[t] is 5 while the growth runs
-    ∷ viewed grown 8_191 5_120 3 99 (Refused 2)
-    ∷ viewed grown 8_192 5_119 3 99 (Refused 2)
-    ∷ viewed grown 8_192 5_120 3 25 (Refused 3)
-    ∷ viewed (growing 1 1) 8_192 5_120 3 15 (Refused 3)  -- an added block
+    viewed grown 8_192 5_120 3 12 (on_first 2_560)  -- block 12 stays at disk 0, row 4
+    ∷ viewed grown 8_192 5_120 3 0 (on_second 0)  -- block 0 is moved to disk 3, row 0
+    ∷ viewed grown 8_192 5_120 3 4 (on_second 3_072)  -- block 4 to disk 4, row 1
+    ∷ viewed grown 10_752 2_560 4 0 (on_first 8_192)  -- with disk 3 on the first shelf
+    ∷ viewed grown 13_312 0 5 4 (on_first 11_264)  -- all disks are on the first shelf
+    ∷ viewed grown 13_312 9_999 3 4 (on_second 3_072)  -- spare bytes on both
+    ∷ viewed (growing 0 0) 8_192 5_120 3 0 (on_first 512)  -- not copied yet
+    ∷ viewed (growing 0 1) 8_192 5_120 3 0 (on_first 512)  -- copied, not recorded
+    ∷ viewed (growing 1 1) 8_192 5_120 3 0 (on_second 0)  -- recorded
+    ∷ viewed (growing 1 0) 0 0 0 99 (refused 1)  -- recorded and not copied: not sound
+    ∷ viewed grown 0 0 0 99 (refused 8)
+    ∷ viewed grown 0 0 6 99 (refused 8)
+    ∷ viewed (growing 1 1) 13_312 0 6 0 (refused 8)  -- N[t] is 5 while the growth runs
+    ∷ viewed grown 8_191 5_120 3 99 (refused 2)
+    ∷ viewed grown 8_192 5_119 3 99 (refused 2)
+    ∷ viewed grown 8_192 5_120 3 25 (refused 3)
+    ∷ viewed (growing 1 1) 8_192 5_120 3 15 (refused 3)  -- an added block
     ∷ []
 
 -- a case with its answer worked out from the definition

@@ -1,6 +1,6 @@
 -- What is proved of views: `ViewLaws`. `proofs/Theorems.antt` has the proof.
-use Rattle.std.specs.Prelude.{ℕ, ◌+◌, ◌≤◌, ◌<◌, ◌≡◌, true, false, List, [], ◌≢◌, ◌⊎◌, length, take, drop}
-use Rattle.base.specs.Refusals.{refusal}
+use Rattle.std.specs.Prelude.{ℕ, ◌+◌, ◌≤◌, ◌<◌, ◌≡◌, true, false, List, [], ◌≢◌, ◌⊎◌, length, take, drop, Ok, Err}
+use Rattle.base.specs.Refusals.{refusal, refusal_number}
 use Rattle.layout.specs.Tally.{open_blocks, live_spot_of}
 use Rattle.medium.specs.Medium.{bytes_needed, observe}
 use Rattle.volume.specs.declared.Pending.{Pending}
@@ -9,11 +9,10 @@ use Rattle.volume.specs.Answers.{number}
 use Rattle.volume.specs.Calls.{read_table, read_effect, read_outcome}
 use Rattle.volume.specs.Sound.{sound}
 use Rattle.volume.specs.States.{geometry, disks, tally_of, with_pending}
-use Rattle.shelves.specs.declared.ViewAnswer.{ViewAnswer}
-use Rattle.shelves.specs.declared.ViewAnswer.TheVariants.{Refused, First, Second}
+use Rattle.shelves.specs.declared.ViewStart.TheVariants.{First, Second}
 use Rattle.shelves.specs.Cases.{TableHolds}
 use Rattle.shelves.specs.Shelves.{first_needs, second_needs, joined}
-use Rattle.shelves.specs.Views.{view_table, view_answer, view_number, view_of}
+use Rattle.shelves.specs.Views.{ViewAnswer, view_table, view_answer, view_number, view_of}
 
 -- k from 1 to N[t], and shelves of so many bytes that are long enough
 pub record Fitting (v : Volume) (first second k : ℕ) : Type 0 where
@@ -34,10 +33,10 @@ pub record ViewRefuses (v : Volume) (first second k x told : ℕ) : Type 0 where
 
 -- where the block stands: on "the one shelf that has its spot", in the bytes that this shelf needs, and these are there
 unfoldable pub Stands : (v : Volume) (first second k x : ℕ) (a : ViewAnswer) → Type 0
-Stands v first second k x (Refused n) = n ≢ 0
-Stands v first second k x (First at) =
+Stands v first second k x (Err r) = refusal_number r ≢ 0
+Stands v first second k x (Ok (First at)) =
     ((live_spot_of (tally_of v) x).disk < k) × (at + v.size ≤ first_needs (geometry v) k) × (first_needs (geometry v) k ≤ first)
-Stands v first second k x (Second at) =
+Stands v first second k x (Ok (Second at)) =
     (k ≤ (live_spot_of (tally_of v) x).disk) × (at + v.size ≤ second_needs (geometry v) (disks v) k) × (second_needs (geometry v) (disks v) k ≤ second)
 
 -- the two shelves of a volume joined

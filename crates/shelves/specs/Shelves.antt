@@ -4,8 +4,8 @@ use Rattle.std.specs.Prelude.{ℕ, ◌+◌, ◌-◌, ◌*◌, cond, List, ◌++�
 use Rattle.layout.specs.declared.Spot.{Spot}
 use Rattle.medium.specs.declared.Geometry.{Geometry}
 use Rattle.medium.specs.Medium.{place, bytes_needed}
-use Rattle.shelves.specs.declared.ViewAnswer.{ViewAnswer}
-use Rattle.shelves.specs.declared.ViewAnswer.TheVariants.{First, Second}
+use Rattle.shelves.specs.declared.ViewStart.{ViewStart}
+use Rattle.shelves.specs.declared.ViewStart.TheVariants.{First, Second}
 
 -- 512 + k·s·Z and (n-k)·s·Z
 abbrev pub first_needs : (g : Geometry) (k : ℕ) → ℕ
@@ -23,5 +23,5 @@ joined g n k first second = take (first_needs g k) first ++ take (second_needs g
 unfoldable pub place_on_second : (g : Geometry) (k : ℕ) (p : Spot) → ℕ
 place_on_second g k p = ((p.disk - k) * g.rows + p.row.0) * g.size
 
-unfoldable pub start_on_shelf : (g : Geometry) (k : ℕ) (p : Spot) → ViewAnswer
+unfoldable pub start_on_shelf : (g : Geometry) (k : ℕ) (p : Spot) → ViewStart
 start_on_shelf g k p = cond (ltb p.disk k) (First (place g p)) (Second (place_on_second g k p))

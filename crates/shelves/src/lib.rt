@@ -10,11 +10,9 @@ mod views;
 pub use answers::view_answer;
 pub use views::view;
 
-// What a view tells, on plain numbers: refused with a number, or the byte of the first shelf, or of the second, at which
-// the block starts.
-#[derive(Clone, Copy)]
-pub enum ViewAnswer {
-    Refused(usize),
+// Where a block starts: at this byte of the first shelf, or of the second.
+#[derive(Clone, Copy, PartialEq, Eq, Debug)]
+pub enum ViewStart {
     First(usize),
     Second(usize),
 }

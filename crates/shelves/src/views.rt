@@ -2,7 +2,7 @@
 ghost use Rattle.std.specs.Prelude.{◌≡◌, ◌+◌, ◌≤◌, length, take, drop};
 ghost use Rattle.shelves.specs.Views.{view_of};
 
-use super::ViewAnswer;
+use super::ViewStart;
 use super::answers::view_answer;
 use layout::Block;
 use volume::Volume;
@@ -19,10 +19,9 @@ fn part_at<'a>(shelf: &'a [u8], at: usize, size: usize) -> &'a [u8]
 pub fn view<'a>(v: Volume, first: &'a [u8], second: &'a [u8], k: usize, x: Block) -> &'a [u8]
     ensures { result.now ≡ view_of v first.now second.now k x.0 }
 {
-    let answer = view_answer(v, first.len(), second.len(), k, x);
-    match answer {
-        ViewAnswer::Refused(_) => part_at(first, 0, 0),
-        ViewAnswer::First(at) => part_at(first, at, v.size),
-        ViewAnswer::Second(at) => part_at(second, at, v.size),
+    match view_answer(v, first.len(), second.len(), k, x) {
+        Err(_) => part_at(first, 0, 0),
+        Ok(ViewStart::First(at)) => part_at(first, at, v.size),
+        Ok(ViewStart::Second(at)) => part_at(second, at, v.size),
     }
 }

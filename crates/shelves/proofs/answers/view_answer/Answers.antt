@@ -2,84 +2,68 @@
 use Prim.Native.Nat.{◌<◌}
 use mathlib.Core.Path.{◌≡◌, refl, ◌∙◌}
 use mathlib.Core.Bool.{true}
+use Rattle.std.proofs.lemmas.Result.{err_from_is_err_and}
 use Rattle.layout.specs.Tally.{open_blocks, live_spot_of}
 use Rattle.volume.specs.Sound.{sound}
 use Rattle.volume.specs.States.{geometry, tally_of}
-use Rattle.volume.proofs.LiveCode.{rest_asks, rest_spot, has_growth, asks_before, spot_known, live_told}
-use Rattle.shelves.proofs.AnswersCode.{shelves_refused, state_sound, block_refused, old_found, start_asked, view_found}
+use Rattle.volume.proofs.LiveCode.{rest_asks, rest_spot}
+use Rattle.shelves.proofs.AnswersCode.{shelves_refused, state_sound, block_refused, start_asked, view_found}
 use Rattle.shelves.proofs.answers.view_answer.Goals as goal
-use Rattle.shelves.proofs.answers.view_answer.Goals.{After-live_spot-p, After-spot_of-p, Else-open_blocks_by-x, Else-open_blocks_by-x-2, Else-refusal-ne0}
+use Rattle.shelves.proofs.answers.view_answer.Goals.{After-spot_of-p, Else-open_blocks-x, In_ok-check_shelves}
 
-pub returns-then-refusal-ne0 : goal.returns-then-refusal-ne0
-returns-then-refusal-ne0 c = shelves_refused _ _ _ _ _ _ c.shelves_refusal-refusal.ensures c.if-refusal-ne0.true
+pub returns-in_err-check_shelves : goal.returns-in_err-check_shelves
+returns-in_err-check_shelves c =
+    let p = err_from_is_err_and c.from_residual.result c.from_residual.ensures.1 in
+    rw (p.1, p.2) (shelves_refused _ _ _ _ _ _ c.in_err-check_shelves.ensures)
 
-is_sound : (c : Else-refusal-ne0) → sound c.args.v ≡ true
-is_sound c = state_sound _ _ _ _ _ c.shelves_refusal-refusal.ensures c.if-refusal-ne0.false
+is_sound : (c : In_ok-check_shelves) → sound c.args.v ≡ true
+is_sound c = state_sound _ _ _ _ c.args.x.0 _ c.in_ok-check_shelves.ensures
+
+pub open_blocks-requires : goal.open_blocks-requires
+open_blocks-requires c = is_sound (goal.at.open_blocks-requires c).In_ok-check_shelves
+
+pub returns-then-open_blocks-x : goal.returns-then-open_blocks-x
+returns-then-open_blocks-x c = block_refused _ _ _ _ _ _ c.in_ok-check_shelves.ensures (rw c.open_blocks.ensures at c.if-open_blocks-x.true)
+
+is_open : (c : Else-open_blocks-x) → c.args.x.0 < open_blocks (tally_of c.args.v)
+is_open c = rw c.open_blocks.ensures at c.if-open_blocks-x.false
 
 -- ---- at rest
-pub open_blocks_by-requires : goal.open_blocks_by-requires
-open_blocks_by-requires c = record { sound_state = is_sound (goal.at.open_blocks_by-requires c).Else-refusal-ne0; counts_same = refl }
-
-pub returns-then-open_blocks_by-x : goal.returns-then-open_blocks_by-x
-returns-then-open_blocks_by-x c = block_refused _ _ _ _ _ _ c.shelves_refusal-refusal.ensures c.if-refusal-ne0.false _ c.open_blocks_by.ensures c.if-open_blocks_by-x.true
-
-is_open : (c : Else-open_blocks_by-x) → let a = c.args in a.x.0 < open_blocks (tally_of a.v)
-is_open c = rw c.open_blocks_by.ensures at c.if-open_blocks_by-x.false
 
 pub spot_of-p-requires : goal.spot_of-p-requires
 spot_of-p-requires c =
-    let asked = rest_asks _ c.if-v-eq0.true _ (is_sound (goal.at.spot_of-p-requires c).Else-refusal-ne0) (is_open (goal.at.spot_of-p-requires c).Else-open_blocks_by-x) in
+    let asked = rest_asks _ c.if-v-eq0.true _ (is_sound (goal.at.spot_of-p-requires c).In_ok-check_shelves) (is_open (goal.at.spot_of-p-requires c).Else-open_blocks-x) in
     record { limits = asked.0; x_bound = asked.1 }
 
-live_at_rest : (c : After-spot_of-p) → let a = c.args in c.spot_of-p.result ≡ live_spot_of (tally_of a.v) a.x.0
-live_at_rest c = c.spot_of-p.ensures ∙ rest_spot _ c.if-v-eq0.true _
+only_spot : (c : After-spot_of-p) → c.spot_of-p.result ≡ live_spot_of (tally_of c.args.v) c.args.x.0
+only_spot c = c.spot_of-p.ensures ∙ rest_spot _ c.if-v-eq0.true _
 
 pub start_on_shelf-requires : goal.start_on_shelf-requires
 unfolding geometry
 start_on_shelf-requires c =
-    let asked = start_asked _ _ _ _ _ _ c.shelves_refusal-refusal.ensures c.if-refusal-ne0.false (is_open (goal.at.start_on_shelf-requires c).Else-open_blocks_by-x) _ (live_at_rest (goal.at.start_on_shelf-requires c).After-spot_of-p) _ refl in
+    let asked = start_asked _ (is_sound (goal.at.start_on_shelf-requires c).In_ok-check_shelves) _ (is_open (goal.at.start_on_shelf-requires c).Else-open_blocks-x) _ refl _ (only_spot (goal.at.start_on_shelf-requires c).After-spot_of-p) in
     record { size_nonzero = asked.0; p_bound = asked.1 }
 
 pub returns-then-v-eq0 : goal.returns-then-v-eq0
 unfolding geometry
 returns-then-v-eq0 c =
-    view_found _ _ _ _ _ _ c.shelves_refusal-refusal.ensures c.if-refusal-ne0.false (is_open (goal.at.returns-then-v-eq0 c).Else-open_blocks_by-x) _ (live_at_rest (goal.at.returns-then-v-eq0 c).After-spot_of-p) _ _ refl c.start_on_shelf.ensures
+    view_found _ _ _ _ _ _ c.in_ok-check_shelves.ensures (is_open (goal.at.returns-then-v-eq0 c).Else-open_blocks-x) _ (only_spot (goal.at.returns-then-v-eq0 c).After-spot_of-p) _ _ refl c.start_on_shelf.ensures
 
 -- ---- while a growth runs
-pub open_blocks_by-requires-2 : goal.open_blocks_by-requires-2
-open_blocks_by-requires-2 c = record { sound_state = is_sound (goal.at.open_blocks_by-requires-2 c).Else-refusal-ne0; counts_same = refl }
-
-pub returns-then-open_blocks_by-x-2 : goal.returns-then-open_blocks_by-x-2
-returns-then-open_blocks_by-x-2 c = block_refused _ _ _ _ _ _ c.shelves_refusal-refusal.ensures c.if-refusal-ne0.false _ c.open_blocks_by-2.ensures c.if-open_blocks_by-x-2.true
-
-is_old : (c : Else-open_blocks_by-x-2) → let a = c.args in a.x.0 < open_blocks (tally_of a.v)
-is_old c = rw c.open_blocks_by-2.ensures at c.if-open_blocks_by-x-2.false
-
-pub overflow_sub-t : goal.overflow_sub-t
-overflow_sub-t c = has_growth _ c.if-v-eq0.false (is_sound (goal.at.overflow_sub-t c).Else-refusal-ne0)
-
-pub spot_of-old-requires : goal.spot_of-old-requires
-spot_of-old-requires c =
-    let asked = asks_before _ c.if-v-eq0.false (is_sound (goal.at.spot_of-old-requires c).Else-refusal-ne0) _ (is_old (goal.at.spot_of-old-requires c).Else-open_blocks_by-x-2) in
-    record { limits = asked.0; x_bound = asked.1 }
 
 pub live_spot-p-requires : goal.live_spot-p-requires
 live_spot-p-requires c =
-    let e = is_sound (goal.at.live_spot-p-requires c).Else-refusal-ne0 in
-    let asked = spot_known _ e _ (is_old (goal.at.live_spot-p-requires c).Else-open_blocks_by-x-2) _ (old_found _ e c.if-v-eq0.false _ _ c.spot_of-old.ensures) in
-    record { limits = asked.0; while_growing = asked.1 }
-
-live_in_growth : (c : After-live_spot-p) → let a = c.args in sound a.v ≡ true → a.x.0 < open_blocks (tally_of a.v)
-    → c.live_spot-p.result ≡ live_spot_of (tally_of a.v) a.x.0
-live_in_growth c e old = live_told _ e _ old _ (old_found _ e c.if-v-eq0.false _ _ c.spot_of-old.ensures) _ c.live_spot-p.ensures
+    record {
+      sound_state = is_sound (goal.at.live_spot-p-requires c).In_ok-check_shelves;
+      x_bound = is_open (goal.at.live_spot-p-requires c).Else-open_blocks-x;
+    }
 
 pub start_on_shelf-requires-2 : goal.start_on_shelf-requires-2
 unfolding geometry
 start_on_shelf-requires-2 c =
-    let asked = start_asked _ _ _ _ _ _ c.shelves_refusal-refusal.ensures c.if-refusal-ne0.false (is_old (goal.at.start_on_shelf-requires-2 c).Else-open_blocks_by-x-2) _ (live_in_growth (goal.at.start_on_shelf-requires-2 c).After-live_spot-p (is_sound (goal.at.start_on_shelf-requires-2 c).Else-refusal-ne0) (is_old (goal.at.start_on_shelf-requires-2 c).Else-open_blocks_by-x-2)) _ refl in
+    let asked = start_asked _ (is_sound (goal.at.start_on_shelf-requires-2 c).In_ok-check_shelves) _ (is_open (goal.at.start_on_shelf-requires-2 c).Else-open_blocks-x) _ refl _ c.live_spot-p.ensures in
     record { size_nonzero = asked.0; p_bound = asked.1 }
 
 pub returns : goal.returns
 unfolding geometry
-returns c =
-    view_found _ _ _ _ _ _ c.shelves_refusal-refusal.ensures c.if-refusal-ne0.false (is_old (goal.at.returns c).Else-open_blocks_by-x-2) _ (live_in_growth (goal.at.returns c).After-live_spot-p (is_sound (goal.at.returns c).Else-refusal-ne0) (is_old (goal.at.returns c).Else-open_blocks_by-x-2)) _ _ refl c.start_on_shelf-2.ensures
+returns c = view_found _ _ _ _ _ _ c.in_ok-check_shelves.ensures (is_open (goal.at.returns c).Else-open_blocks-x) _ c.live_spot-p.ensures _ _ refl c.start_on_shelf-2.ensures
