@@ -91,7 +91,7 @@ module _ (sure : Bool) (g : Geometry) (v : Volume) (d : Drives) (k : CachedModel
       → StoreFits g (length (seen d)) out.store → Comes c (seen d) out
   unfolding model_after following
   judged_live c s out (is_refused n piece f) fits =
-      unfold refused accepted number reported later also_pending in rw (s, ne_eqb n 0 f) i
+      unfold refused accepted reported later also_pending in rw s i
   judged_live c s out (has_effect e) fits =
       rw (e.is_accepted_law, s, i.up.same_geometry)
       (after_call sure g v d k told i (step_of c k.current.tally) out.reply.state out.store e.by_store fits _
@@ -110,7 +110,7 @@ module _ (sure : Bool) (g : Geometry) (v : Volume) (d : Drives) (k : CachedModel
 
   pub flushed_found : flushed_outcome v ≡ flushed_effect v
   unfolding flushed_outcome
-  flushed_found = accepted_when (flushed_table v) (λ n. refused v n []) (flushed_effect v) 0 (sym passes) refl
+  flushed_found = accepted_when (flushed_table v) (λ n. refused v n []) (flushed_effect v) passes
     where
       passes : refusal (flushed_table v) ≡ 0
       passes = unfold refusal flushed_table in rw i.up.consistent.is_sound refl

@@ -20,6 +20,7 @@ use Rattle.promise.specs.Lists.{call_outcome, Event, runs, cut, Drives, System, 
 use Rattle.promise.specs.Model.{grown_tally, leaving, recording, step_of, CachedModel, model_after, modelled}
 use Rattle.promise.specs.Promise.{Start, formatted, begin, system_after}
 use Rattle.promise.specs.ExactReports.{Grows, a_grow, a_grow_beyond_doubling, growth_runs, ExactReport, ExactReports}
+use Rattle.volume.proofs.Judged.{accepted_number}
 use Rattle.promise.proofs.CallsCounted.{in_window, left_positive}
 use Rattle.promise.proofs.PendingStores.{seen, Live}
 use Rattle.promise.proofs.StateTallies.{running_of}
@@ -34,9 +35,8 @@ flushed_tally : (s : System) (k : CachedModel) → (model_after (fed call_outcom
 flushed_tally s k = (quiet_by call_outcome s flushed (unfold is_advance in refl) (λ t. unfold step_of leaving in refl)).tally_kept k
 
 accepted_growing : (v : Volume) (o : Observations) → accepted (advance_outcome v o).reply.answer ≡ true → v.growing ≢ 0
-unfolding accepted
 accepted_growing v o ok =
-    let passes = sym (volume_laws.advance_refuses v o).number_told ∙ eqb-true (number (advance_outcome v o).reply.answer) 0 ok in
+    let passes = sym (volume_laws.advance_refuses v o).number_told ∙ accepted_number (advance_outcome v o).reply.answer ok in
     (advance_accepted v o.byte_count passes).0.is_growing
 
 live_growing : (g : Geometry) (v : Volume) (d : Drives) (k : CachedModel) (told : Option ℕ) → Live true g v d k told → is_accepted call_outcome advance (up v d) ≡ true

@@ -28,6 +28,7 @@ use Rattle.promise.specs.WithoutCache.{ends, flushed_after, from_format}
 use Rattle.promise.specs.SavesKept.{Saves, a_write, a_flushed, made, KeptButWritten}
 use Rattle.promise.specs.CoveredLists.{CallsOnly, no_call, one_more}
 use Rattle.promise.specs.FlushedSaves.{Spares, AllSpare, saved_and_flushed, GivesPiece, FlushedSaves, SavesWithoutCache}
+use Rattle.volume.proofs.Judged.{accepted_number}
 use Rattle.promise.proofs.Tallies.{Stage, running, resting, open_growing}
 use Rattle.promise.proofs.StateTallies.{stage_of}
 use Rattle.promise.proofs.PendingStores.{seen, Live}
@@ -269,8 +270,7 @@ module _ (x : ℕ) (piece : List ℕ) where
   -- ---- the save
 
   passes : (v : Volume) (o : Observations) → accepted (write_outcome v x piece o).reply.answer ≡ true → refusal (write_table v x (length piece) o.byte_count) ≡ 0
-  unfolding accepted
-  passes v o ok = sym (volume_laws.write_refuses v x piece o).number_told ∙ eqb-true (number (write_outcome v x piece o).reply.answer) 0 ok
+  passes v o ok = sym (volume_laws.write_refuses v x piece o).number_told ∙ accepted_number (write_outcome v x piece o).reply.answer ok
 
   saved_holds : (g : Geometry) (v : Volume) (d : Drives) (k : CachedModel) (told : Option ℕ) → Live false g v d k told → is_accepted call_outcome (write x piece) (up v d) ≡ true
       → Next g k told false (up v d) (runs (write x piece)) → Holds x piece (model_after (fed call_outcome (up v d) (runs (write x piece))) k).current

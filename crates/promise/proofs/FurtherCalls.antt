@@ -126,7 +126,7 @@ module _ {g : Geometry} {v : Volume} {o : Observations} {k : Model} {told : Opti
       (judged_cases (λ (out : Outcome). accepted out.reply.answer ≡ true → told_finished out.reply.answer ≡ (advance_step (next_block (tally_of v)) (tally_of v)).finishes)
       (advance_table v o.byte_count) (λ n. refused v n []) _
       (λ _ _. advancing_told v o state_grows (next_block (tally_of v)))
-      (λ f e. absurd (f (eqb-true _ 0 (unfold refused accepted number in e)))))
+      (λ f e. unfold refused accepted in cc))
 
 pub one_told : {l rest : List Bool} {b : Bool} → l ≡ b ∷ rest → length l ≡ 0 → ⊥
 one_told {rest = rest} e z = let k : suc (length rest) ≡ 0 = rw e at z in omega arith

@@ -144,7 +144,7 @@ judgement {g = g} {v = v} {o = o} {k = k} {told = told} {step = step} table piec
 
 pub effect_of : {g : Geometry} {v : Volume} {o : Observations} {k : Model} {told : Option ℕ} {step : Step} (out : Outcome) → Judgement g v o k told step out
     → accepted out.reply.answer ≡ true → Effect g v o k told step out
-effect_of out (is_refused n piece f) a = unfold refused accepted number in clash a (ne_eqb n 0 f)
+effect_of out (is_refused n piece f) a = unfold refused accepted in cc
 effect_of out (has_effect e) a = e
 
 -- ---- restart: it is accepted on any medium that agrees with the state that its record holds
@@ -168,7 +168,7 @@ module _ {g : Geometry} {o : Observations} {k : Model} (d : Down g o k) where
   pub restart_found : restart_outcome o ≡ reporting found no_store
   unfolding restart_outcome restart_effect
   restart_found =
-      accepted_when (restart_table o) (λ n. refused zeros n []) (reporting (state_read o.sector) no_store) 0 (sym restart_passes) refl
+      accepted_when (restart_table o) (λ n. refused zeros n []) (reporting (state_read o.sector) no_store) restart_passes
       ∙ ap (λ (w : Volume). reporting w no_store) restart_reads.1
 
   pub restart_up : (told : Option ℕ) → Up g found o (accepting restart k) (later told (some (calls_left_of (tally_of found))))

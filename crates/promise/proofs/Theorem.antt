@@ -123,7 +123,7 @@ module _ (a : Start) where
             }) _;
         safe = not_yet refl refl;
       })
-      (λ f fits ok. absurd (f (eqb-true _ 0 ok)))
+      (λ f fits ok. cc)
 
   pub start : accepted (formatted a).reply.answer ≡ true
       → Live false start_geometry (formatted a).reply.state (record { landed = a.medium; pending = placed (geometry (formatted a).reply.state) (formatted a).store ∷ [] }) (nothing_pending (start_model a.rows a.disks)) none

@@ -1,7 +1,7 @@
 -- An outcome that a table judges: refused with the table's number, or accepted; and what a test answers in the code.
 use Prim.Native.Nat.{ℕ}
-use mathlib.Core.Path.{◌≡◌, sym, ap, ◌∙◌}
-use mathlib.Core.Bool.{Bool, cond}
+use mathlib.Core.Path.{◌≡◌, refl, sym, ap, ◌∙◌}
+use mathlib.Core.Bool.{Bool, true, cond, false≢true}
 use mathlib.Core.List.{List, ◌++◌}
 use mathlib.Core.Logic.{◌≢◌}
 use lib.Dec.{eqb}
@@ -16,6 +16,7 @@ use Rattle.base.proofs.Refusals.{refusal_back, number_told, checked_refused, che
 use Rattle.medium.specs.declared.Geometry.{Geometry}
 use Rattle.medium.specs.Medium.{apply}
 use Rattle.volume.specs.declared.Volume.{Volume}
+use Rattle.volume.specs.Answers.{number, accepted}
 use Rattle.volume.specs.declared.Reply.{Reply}
 use Rattle.volume.specs.declared.Told.{Told}
 use Rattle.volume.specs.Calls.{Outcome, refused, judged, found_at}
@@ -132,3 +133,9 @@ module _ (table : List (ℕ × Bool)) (v : Volume) (piece : List ℕ) (accepted 
 
   pub accepted_piece : (after : List ℕ) → after ≡ accepted.piece → after ≡ accepting.piece
   accepted_piece after made = rw (accepted_when table (λ k. refused v k piece) accepted e) made
+
+-- an accepted call's number is 0
+pub accepted_number : (a : Result Told Refusal) → accepted a ≡ true → number a ≡ 0
+unfolding accepted number
+accepted_number (Err r) e = absurd (false≢true e)
+accepted_number (Ok t) e = refl

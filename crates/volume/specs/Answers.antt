@@ -29,7 +29,8 @@ calls_told (Ok (told.Advanced did n)) = n
 
 -- whether the call was accepted; the number that it reported, if it was one that reports; whether it told finished
 unfoldable pub accepted : (a : Result Told Refusal) → Bool
-accepted a = eqb (number a) 0
+accepted (Err r) = false
+accepted (Ok t) = true
 
 unfoldable pub reported : (a : Result Told Refusal) → Option ℕ
 reported (Err r) = none
