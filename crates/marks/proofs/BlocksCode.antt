@@ -1,5 +1,6 @@
 -- What the code that looks for a block of a growth under way meets.
 use Prim.Native.Nat.{ℕ, zero, suc, ◌+◌, ◌-◌, ◌*◌, ◌/◌, ◌≤◌, ◌<◌}
+use Rattle.std.specs.Prelude.{Some, None}
 use mathlib.Core.Path.{◌≡◌, refl, sym, ◌∙◌, ap}
 use mathlib.Core.Bool.{Bool, true, false, not, ◌&&◌, ◌||◌}
 use mathlib.Core.List.{List}
@@ -25,7 +26,6 @@ use Rattle.layout.proofs.MarkSpots.{mark_below}
 use Rattle.layout.proofs.NewestCode.{old_is, added_is, newest_grows}
 use Rattle.layout.proofs.Theorems.{disks_sum, spots_and_blocks, spot_after_newest, reason_after_newest}
 use Rattle.layout.proofs.WindowsCode.{marks_most}
-use Rattle.marks.specs.declared.LiveBlock.TheVariants.{Lives, Nothing}
 use Rattle.marks.specs.Marks.{mark_count, moves_at, marked_at, moved_at, live_from, moved_address, address_from, as_live_block, difference}
 use Rattle.marks.proofs.MarkWords.{difference_at}
 
@@ -264,21 +264,21 @@ added_unmoved s h moved x k = rw (le-ltb _ _ k)
 -- at a spot of the old disks lives its block of before the growth, unless that is at its new spot
 module _ (s t : ℕ) (l : List ℕ) (o : 0 < t) (moved : ℕ → Bool) (p : Spot) (x : Block) (h : p.disk < old_count (history t l))
     (e : x.0 ≡ block_at s (history (t - 1) l) p) (r : Bool) (f : r ≡ at_new_spot s (history t l) moved x.0) where
-  pub gone_from_old : r ≡ true → Nothing ≡ as_live_block (live_block s (history t l) moved p)
+  pub gone_from_old : r ≡ true → None ≡ as_live_block (live_block s (history t l) moved p)
   unfolding live_block as_live_block
   gone_from_old q = rw (lt-ltb _ _ h, ← history_before t l o, ← e, ← f, q)
 
-  pub lives_on_old : r ≡ false → Lives x ≡ as_live_block (live_block s (history t l) moved p)
+  pub lives_on_old : r ≡ false → Some x ≡ as_live_block (live_block s (history t l) moved p)
   unfolding live_block as_live_block
   lives_on_old q = rw (lt-ltb _ _ h, ← history_before t l o, ← e, ← f, q)
 
 -- at one of the added disks lives its block of after the growth, if that is at its new spot
 module _ (s : ℕ) (h : List ℕ) (moved : ℕ → Bool) (p : Spot) (x : Block) (k : old_count h ≤ p.disk) (e : x.0 ≡ block_at s h p)
     (r : Bool) (f : r ≡ at_new_spot s h moved x.0) where
-  pub lives_on_added : r ≡ true → Lives x ≡ as_live_block (live_block s h moved p)
+  pub lives_on_added : r ≡ true → Some x ≡ as_live_block (live_block s h moved p)
   unfolding live_block as_live_block
   lives_on_added q = rw (le-ltb _ _ k, ← e, ← f, q)
 
-  pub not_yet_on_added : r ≡ false → Nothing ≡ as_live_block (live_block s h moved p)
+  pub not_yet_on_added : r ≡ false → None ≡ as_live_block (live_block s h moved p)
   unfolding live_block as_live_block
   not_yet_on_added q = rw (le-ltb _ _ k, ← e, ← f, q)

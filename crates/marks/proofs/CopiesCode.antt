@@ -1,5 +1,6 @@
 -- What the code that looks for what is left to copy meets.
 use Prim.Native.Nat.{ℕ, ◌+◌, ◌-◌, ◌*◌, ◌%◌, ◌≤◌, ◌<◌}
+use Rattle.std.specs.Prelude.{Some, None}
 use mathlib.Core.Path.{◌≡◌, sym, ◌∙◌, ap}
 use mathlib.Core.Bool.{Bool, true, false, not}
 use mathlib.Core.List.{List}
@@ -23,7 +24,6 @@ use Rattle.layout.proofs.MarkSpots.{mark_spot_disk}
 use Rattle.layout.proofs.NextBlocks.{left_at, moving_in_old}
 use Rattle.layout.proofs.Theorems.{some_added, spots_and_blocks}
 use Rattle.layout.proofs.WindowsCode.{marks_most, windows_most}
-use Rattle.marks.specs.declared.NextCopy.TheVariants.{CopyOf, AllCopied}
 use Rattle.marks.specs.Marks.{mark_count, within, moving_marks, first_unmarked, as_next_copy}
 use Rattle.marks.proofs.BlocksCode.{ReadGrowth, history_before, disks_before, limits_before, some_old, old_read, added_read, grows_read}
 use Rattle.marks.proofs.MarkSets.{marks_law, all_by_marks}
@@ -119,7 +119,7 @@ module _ {s t : ℕ} {l : List ℕ} {g : GrowthDisks} (r : ReadGrowth s t l g) w
 
   -- no mark is left
   pub none_told : (w : ℕ) (marks : List Bool) (j : ℕ) → j ≡ first_unmarked g.old g.added s w marks → j ≡ g.old * g.added
-      → AllCopied ≡ as_next_copy s (history t l) (next_of_window s (history t l) w (marked_blocks s (history t l) w marks))
+      → None ≡ as_next_copy s (history t l) (next_of_window s (history t l) w (marked_blocks s (history t l) w marks))
   unfolding as_next_copy
   none_told w marks j e f =
       let k : first_unmarked g.old g.added s w marks ≡ g.old * g.added = sym e ∙ f in
@@ -186,7 +186,8 @@ module _ {s t : ℕ} {l : List ℕ} {g : GrowthDisks} {w : ℕ} {marks : List Bo
 
     pub next_told : (x : Block) (part : Part) → x.0 ≡ block_at s (history (t - 1) l) p
         → part ≡ part_of g.old g.added (p.row.0 % (g.old + g.added))
-        → CopyOf x part p j ≡ as_next_copy s (history t l) (next_of_window s (history t l) w (marked_blocks s (history t l) w marks))
+        → as_next_copy s (history t l) (next_of_window s (history t l) w (marked_blocks s (history t l) w marks))
+        ≡ Some (record { block = x; part = part; from = p; mark = j })
     unfolding as_next_copy part_moved
     next_told x part k q =
         rw (f.next, ← its_block x.0 k, its_old_spot x.0 k, its_mark_is x.0 k, ← old_read f.read, ← added_read f.read, q)

@@ -2,14 +2,18 @@
 use Prim.Native.Nat.{ℕ, suc, ◌+◌, ◌-◌, ◌*◌, ◌/◌, ◌%◌, ◌^◌, ◌≤◌, ◌<◌}
 use mathlib.Core.Path.{◌≡◌, refl, sym, ap, ◌∙◌}
 use mathlib.Core.Bool.{Bool, true, false, cond, not, ◌&&◌}
-use mathlib.Core.List.{List, ◌∷◌}
+use mathlib.Core.List.{List, [], ◌∷◌}
 use native.Mathlib.Nat.{lt_of_le_of_lt, div-lt_iff_lt-mul, mod-lt}
 use native.Mathlib.Omega.{arith}
 use lib.Dec.{eqb, ltb}
 use lib.Count.{ones, count_trailing_zeros}
-use lib.ListN.{length, drop, get_or, length-drop, drop_of_length-le}
+use lib.ListN.{length, take, drop, get_or, length-append, length-drop, drop_of_length-le}
 use lib.Pow.{pow_mono, ones_split, ones_lt, high}
-use lib.Seq.{ext_get_or, drop-cons}
+use lib.Seq.{ext_get_or, drop-cons, take_all}
+use Rattle.std.specs.List.{push}
+use Rattle.std.specs.Int.{from_bool}
+use Rattle.std.proofs.lemmas.List.{length-take, take-take, get_or-take}
+use Rattle.std.proofs.Math.Seq.{get_or-append_seam, take-append_seam}
 use lib.Bits.{bit_and, and_le_l}
 use borrow.Author.Tests.{eqb-true, eq-eqb, ltb-true, ltb-false, lt-ltb, le-ltb}
 use Rattle.base.proofs.Booleans.{and_right, same_test, by_test, clash}
@@ -81,6 +85,47 @@ word_next marks j word bit e l h w b =
     let i : j - 1 < length marks = omega (arith, e) in
     let d : drop (j - 1) marks ≡ get_or marks (j - 1) false ∷ drop j marks = rw k at (drop-cons marks (j - 1) false i) in
     rw d (omega (arith, w, b))
+
+-- what a loop over the marks from the last on meets: the marks left are the first ones, and the word is that of the others
+pub record Passed (marks left : List Bool) (word : ℕ) : Type 0 where
+  pub left_is : left ≡ take (length left) marks
+  pub word_is : word ≡ word_of (drop (length left) marks)
+
+pub passed_none : (marks left : List Bool) → left ≡ marks → Passed marks left 0
+passed_none marks left e =
+    rw e (record { left_is = sym (take_all (length marks) marks (omega arith)); word_is = word_none marks (length marks) (omega arith) })
+
+from_mark : (mark : Bool) → from_bool mark ≡ cond mark 1 0
+from_mark true = refl
+from_mark false = refl
+
+module _ (marks left rest : List Bool) (mark : Bool) (word : ℕ) (e : length marks ≡ 64) (p : Passed marks left word) (f : left ≡ push rest mark) where
+  one_more : length left ≡ length rest + 1
+  one_more = ap length f ∙ simp length-append (omega arith)
+
+  left_most : length left ≤ 64
+  left_most = omega (arith, ap length p.left_is ∙ length-take (length left) marks)
+
+  mark_is : get_or marks (length rest) false ≡ mark
+  mark_is =
+      sym (get_or-take (length left) marks (length rest) false (omega (arith, one_more)))
+      ∙ rw (← p.left_is, f) (get_or-append_seam rest mark [] false)
+
+  rest_is : rest ≡ take (length rest) marks
+  rest_is =
+      sym (take-append_seam rest (mark ∷ [])) ∙ rw (sym f) (ap (take (length rest)) p.left_is ∙ take-take (length rest) (length left) marks (omega (arith, one_more)))
+
+  word_then : word * 2 + from_bool mark ≡ word_of (drop (length rest) marks)
+  word_then =
+      let k : length left - 1 ≡ length rest = omega (arith, one_more) in
+      let b : from_bool mark ≡ cond (get_or marks (length left - 1) false) 1 0 = rw (k, mark_is) (from_mark mark) in
+      rw k at (word_next marks (length left) word (from_bool mark) e (omega (arith, one_more)) left_most p.word_is b)
+
+  pub passed_next : Passed marks rest (word * 2 + from_bool mark)
+  passed_next = record { left_is = rest_is; word_is = word_then }
+
+  pub passed_fits : word * 2 + from_bool mark < 2 ^ 64
+  passed_fits = rw word_then (word_fits marks (length rest) e)
 
 -- ---- a whole window
 

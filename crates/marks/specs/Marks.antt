@@ -1,17 +1,16 @@
 -- Document 01, "Medium, state, record": sets of 64 marks, the counts after N[t], and the stages of a sound state.
-use Rattle.std.specs.Prelude.{ℕ, ◌+◌, ◌*◌, Bool, false, cond, not, ◌&&◌, ◌||◌, List, eqb, leb, ltb, get_or, replicate}
-use Rattle.std.proofs.Math.Option.{Option, none, some}
+use Rattle.std.specs.Prelude.{ℕ, ◌+◌, ◌*◌, Bool, false, cond, not, ◌&&◌, ◌||◌, List, Option, Some, None, eqb, leb, ltb, get_or, replicate}
+use Rattle.std.proofs.Math.Option as maybe
+use Rattle.std.proofs.Math.Option.{none, some}
 use Rattle.base.specs.Below.{every, first, table}
 use Rattle.layout.specs.declared.Address.{Address}
+use Rattle.layout.specs.declared.Block.{Block}
 use Rattle.layout.specs.declared.Reason.TheVariants.{MovedBy}
 use Rattle.layout.specs.declared.Spot.{Spot}
 use Rattle.layout.specs.Growth.{part_of, row_in_window, moves_from, spot_after}
 use Rattle.layout.specs.History.{old_count, added_count}
 use Rattle.layout.specs.Windows.{windows, window_of_row, mark_of_spot, row_exists, old_spot, mark_of, part_moved}
-use Rattle.marks.specs.declared.LiveBlock.{LiveBlock}
-use Rattle.marks.specs.declared.LiveBlock.TheVariants.{Lives, Nothing}
 use Rattle.marks.specs.declared.NextCopy.{NextCopy}
-use Rattle.marks.specs.declared.NextCopy.TheVariants.{CopyOf, AllCopied}
 
 -- "two sets of 64 marks"
 abbrev pub mark_count : ℕ
@@ -88,15 +87,16 @@ address_from m n s k w recorded x old = cond (moved_at m n w recorded old.spot) 
 -- ---- what the code answers
 
 -- a block that lives at a spot, or none, as the code answers it
-unfoldable pub as_live_block : (found : Option ℕ) → LiveBlock
-as_live_block none = Nothing
-as_live_block (some x) = Lives (record { 0 = x })
+unfoldable pub as_live_block : (found : maybe.Option ℕ) → Option Block
+as_live_block none = None
+as_live_block (some x) = Some (record { 0 = x })
 
 -- "the lowest unset copied mark of window w", or m·n
 unfoldable pub first_unmarked : (m n s w : ℕ) (marks : List Bool) → ℕ
 first_unmarked m n s w marks = first (λ j. row_exists m n s w j && not (get_or marks j false)) (m * n)
 
 -- the block to copy next with its part, its old spot and its mark, or none, as the code answers it
-unfoldable pub as_next_copy : (s : ℕ) (h : List ℕ) (found : Option ℕ) → NextCopy
-as_next_copy s h none = AllCopied
-as_next_copy s h (some x) = CopyOf (record { 0 = x }) (part_moved s h x) (old_spot s h x) (mark_of s h x)
+unfoldable pub as_next_copy : (s : ℕ) (h : List ℕ) (found : maybe.Option ℕ) → Option NextCopy
+as_next_copy s h none = None
+as_next_copy s h (some x) =
+    Some (record { block = record { 0 = x }; part = part_moved s h x; from = old_spot s h x; mark = mark_of s h x })

@@ -10,7 +10,6 @@ ghost use Rattle.layout.specs.Windows.{mark_of_spot, marked_blocks};
 ghost use Rattle.marks.specs.Marks.{marked_at, moved_at, live_from, moved_address, address_from, as_live_block};
 ghost use Rattle.marks.specs.Words.{marks_of};
 
-use super::LiveBlock;
 use super::words::{has_mark, without};
 use layout::{Address, Block, Reason, Spot};
 
@@ -141,7 +140,7 @@ pub fn address_from(
     moved_address(m, n, s, k, x, old)
 }
 
-// The block that lives at p.
+// The block that lives at p, if one does.
 pub fn live_block(
     counts: &[usize; 8],
     t: usize,
@@ -149,7 +148,7 @@ pub fn live_block(
     w: usize,
     recorded: usize,
     p: Spot,
-) -> LiveBlock
+) -> Option<Block>
     requires limits { Limits s (history t counts.now) }
     requires t_nonzero { (0 < t) × Within s (history t counts.now) p }
     ensures { result ≡ as_live_block (live_block s (history t counts.now) (recorded_by s (history t counts.now) w (marked_blocks s (history t counts.now) w (marks_of recorded))) p) }
@@ -159,18 +158,18 @@ pub fn live_block(
     let n = g.added;
     if p.disk < m {
         if at_new_spot(m, n, w, recorded, p) {
-            return LiveBlock::Nothing;
+            return None;
         }
-        return LiveBlock::Lives(layout::block_at(counts, t - 1, s, p));
+        return Some(layout::block_at(counts, t - 1, s, p));
     }
     let row = p.row;
     // A block that the growth adds is not open.
     if layout::added_index(m, n, p.disk, row.0) < n {
-        return LiveBlock::Nothing;
+        return None;
     }
     let old = layout::spot_before(m, n, p);
     if at_new_spot(m, n, w, recorded, old) {
-        return LiveBlock::Lives(layout::block_at(counts, t - 1, s, old));
+        return Some(layout::block_at(counts, t - 1, s, old));
     }
-    LiveBlock::Nothing
+    None
 }

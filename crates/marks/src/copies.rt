@@ -58,8 +58,14 @@ fn first_unmarked(m: usize, n: usize, s: usize, w: usize, marks: usize) -> usize
     usize::trailing_zeros(left) as usize
 }
 
-// The block of window w with the lowest mark that is not set.
-pub fn next_copy(counts: &[usize; 8], t: usize, s: usize, w: usize, copied: usize) -> NextCopy
+// The block of window w with the lowest mark that is not set; none where all are copied.
+pub fn next_copy(
+    counts: &[usize; 8],
+    t: usize,
+    s: usize,
+    w: usize,
+    copied: usize,
+) -> Option<NextCopy>
     requires limits { Limits s (history t counts.now) }
     requires t_nonzero { (0 < t) × (w < windows (old_count (history t counts.now)) (added_count (history t counts.now)) s) }
     ensures { result ≡ as_next_copy s (history t counts.now) (next_of_window s (history t counts.now) w (marked_blocks s (history t counts.now) w (marks_of copied))) }
@@ -69,13 +75,18 @@ pub fn next_copy(counts: &[usize; 8], t: usize, s: usize, w: usize, copied: usiz
     let n = g.added;
     let j = first_unmarked(m, n, s, w, copied);
     if j == m * n {
-        return NextCopy::AllCopied;
+        return None;
     }
     let p = window::spot_of_mark(m, n, w, j);
     let row = p.row;
     let part = layout::part_of(m, n, row.0 % (m + n));
-    let x = layout::block_at(counts, t - 1, s, p);
-    NextCopy::CopyOf(x, part, p, j)
+    let block = layout::block_at(counts, t - 1, s, p);
+    Some(NextCopy {
+        block,
+        part,
+        from: p,
+        mark: j,
+    })
 }
 
 // The moving blocks of window w without a mark.

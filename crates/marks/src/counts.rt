@@ -9,17 +9,7 @@ pub fn counts_rise(counts: &[usize; 8], t: usize) -> bool
     requires { t ≤ most_growths }
     ensures { result ≡ rising (history t counts.now) }
 {
-    let mut last = 0;
-    let mut k = 0;
-    while k <= t {
-        let count = counts[k];
-        if count <= last {
-            return false;
-        }
-        last = count;
-        k += 1;
-    }
-    true
+    counts[0] != 0 && counts[..t + 1].is_sorted_by(|a, b| *a < *b)
 }
 
 // Are the counts after N[t] zero?
@@ -27,12 +17,5 @@ pub fn zeros_after(counts: &[usize; 8], t: usize) -> bool
     requires { t ≤ most_growths }
     ensures { result ≡ zeros_after counts.now t }
 {
-    let mut i = t + 1;
-    while i < 8 {
-        if counts[i] != 0 {
-            return false;
-        }
-        i += 1;
-    }
-    true
+    counts[t + 1..].iter().all(|count| *count == 0)
 }

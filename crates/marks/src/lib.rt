@@ -18,16 +18,11 @@ use layout::{Block, Part, Spot};
 pub use stages::{at_rest, in_growth};
 pub use words::{has_mark, marks_of, with_mark, word_of};
 
-// The block that lives at a spot, or that none does.
+// The block of a window to copy next, its part, the old spot that it is copied from, and its mark.
 #[derive(Clone, Copy)]
-pub enum LiveBlock {
-    Lives(Block),
-    Nothing,
-}
-
-// The block of window w to copy next, with its part, its old spot and its mark, or that all are copied.
-#[derive(Clone, Copy)]
-pub enum NextCopy {
-    CopyOf(Block, Part, Spot, usize),
-    AllCopied,
+pub struct NextCopy {
+    pub block: Block,
+    pub part: Part,
+    pub from: Spot,
+    pub mark: usize,
 }

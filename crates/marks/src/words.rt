@@ -41,9 +41,8 @@ fn disk_marks(n: usize, rows: usize, d: usize) -> usize
     requires { n ≤ most_disks }
     ensures { result + 1 ≡ 2 ^ min n (rows - d) }
 {
-    let left = window::excess(rows, d);
-    let k = if n < left { n } else { left };
-    (1usize << k) - 1
+    let left = rows.saturating_sub(d);
+    (1usize << n.min(left)) - 1
 }
 
 // The marks of a window that is cut off, disk by disk, the highest disk first.
@@ -52,11 +51,9 @@ fn cut_marks(m: usize, n: usize, s: usize, w: usize) -> usize
     requires w_le_most_rows { w ≤ most_rows }
     ensures { result ≡ word_of (moving_marks m n s w) }
 {
-    let rows = window::excess(s, w * (m + n));
+    let rows = s.saturating_sub(w * (m + n));
     let mut word = 0;
-    let mut d = m;
-    while 0 < d {
-        d -= 1;
+    for d in (0..m).rev() {
         word = word * (1usize << n) + disk_marks(n, rows, d);
     }
     word
@@ -81,15 +78,13 @@ pub fn marks_of(word: usize) -> [bool; 64]
 {
     let mut marks = [false; 64];
     let mut rest = word;
-    let mut j = 0;
-    while j < 64 {
+    for mark in marks.iter_mut() {
         // No further marks: none at all while no growth runs.
         if rest == 0 {
-            return marks;
+            break;
         }
-        marks[j] = rest % 2 == 1;
-        rest = rest / 2;
-        j += 1;
+        *mark = rest % 2 == 1;
+        rest /= 2;
     }
     marks
 }
@@ -99,11 +94,8 @@ pub fn word_of(marks: [bool; 64]) -> usize
     ensures { result ≡ word_of marks }
 {
     let mut word = 0;
-    let mut j = 64;
-    while 0 < j {
-        j -= 1;
-        let bit = if marks[j] { 1 } else { 0 };
-        word = word * 2 + bit;
+    for mark in marks.iter().rev() {
+        word = word * 2 + usize::from(*mark);
     }
     word
 }

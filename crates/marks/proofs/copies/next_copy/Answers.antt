@@ -1,4 +1,5 @@
 -- `next_copy` meets its contract.
+use mathlib.Core.Path.{sym}
 use native.Mathlib.Omega.{arith}
 use Rattle.layout.proofs.NewestCode.{newest_asks}
 use Rattle.layout.proofs.WindowsCode.{marks_most}
@@ -40,11 +41,11 @@ nonzero_rem-row c = omega (arith, (grows_read (found (goal.at.nonzero_rem-row c)
 pub part_of-part-requires : goal.part_of-part-requires
 part_of-part-requires c = grows_read (found (goal.at.part_of-part-requires c).Else-j-m).read
 
-pub block_at-x-requires : goal.block_at-x-requires
-block_at-x-requires c =
-    let k = next_asks (found (goal.at.block_at-x-requires c).Else-j-m) _ c.spot_of_mark-p.ensures in
+pub block_at-block-requires : goal.block_at-block-requires
+block_at-block-requires c =
+    let k = next_asks (found (goal.at.block_at-block-requires c).Else-j-m) _ c.spot_of_mark-p.ensures in
     record { limits = k.0; within = k.1 }
 
 pub returns : goal.returns
 returns c =
-    next_told (found (goal.at.returns c).Else-j-m) _ c.spot_of_mark-p.ensures _ _ c.block_at-x.ensures c.part_of-part.ensures
+    sym (next_told (found (goal.at.returns c).Else-j-m) _ c.spot_of_mark-p.ensures _ _ c.block_at-block.ensures c.part_of-part.ensures)

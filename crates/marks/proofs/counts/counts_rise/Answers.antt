@@ -1,34 +1,15 @@
--- `counts_rise` meets its contract. The loop's invariant: the counts passed rise.
-use native.Mathlib.Omega.{arith}
-use Rattle.marks.proofs.CountsCode.{risen_none, risen_next, not_risen, risen_all}
+-- `counts_rise` meets its contract.
+use Rattle.std.proofs.Common.{arith, rules, sym}
+use Rattle.std.specs.Prelude.{nat_lt}
+use Rattle.std.proofs.lemmas.List.Sorted.{answers_always}
+use Rattle.layout.proofs.HistoryCode.{not_rising_first, not_rising_later}
+use Rattle.marks.proofs.CountsCode.{rising_told}
 use Rattle.marks.proofs.counts.counts_rise.Goals as goal
 
-pub loop-k-init : goal.loop-k-init
-loop-k-init c = (omega arith, risen_none _)
+pub returns-then-counts-ne0 : goal.returns-then-counts-ne0
+returns-then-counts-ne0 c = rising_told _ _ (search rules) c.if-counts-ne0.true _ (c.is_sorted_by.ensures.cases nat_lt (answers_always _ _ _ (λ f a r g called. search rules)))
 
-pub offset_bounds-counts-k : goal.offset_bounds-counts-k
-offset_bounds-counts-k c = omega arith
-
-pub bounds-counts-k : goal.bounds-counts-k
-bounds-counts-k c = omega arith
-
-pub returns-then-count-last : goal.returns-then-count-last
-returns-then-count-last c =
-    let l = c.loop-k in
-    not_risen l.k l.last _ _ l.invariant.1 c.loop-k-test.true c.if-count-last.true
-
-pub overflow_add-k : goal.overflow_add-k
-overflow_add-k c = omega arith
-
-pub loop-k-smaller : goal.loop-k-smaller
-loop-k-smaller c = omega arith
-
-pub loop-k-preserved : goal.loop-k-preserved
-loop-k-preserved c =
-    let l = c.loop-k in
-    (omega arith, risen_next l.k l.last _ l.invariant.1 c.if-count-last.false)
-
-pub returns : goal.returns
-returns c =
-    let l = c.loop-k in
-    risen_all l.k l.last _ _ l.invariant.1 (omega arith)
+pub returns-else-counts-ne0 : goal.returns-else-counts-ne0
+returns-else-counts-ne0 c =
+    let h = c.if-counts-ne0.false in
+    rw h (sym (not_rising_later 0 c.args.t c.args.counts.now (omega arith) (not_rising_first c.args.counts.now (omega arith))))

@@ -1,12 +1,8 @@
-use Prim.Native.Nat.{◌*◌, ◌≤◌}
-use mathlib.Core.Path.{◌≡◌}
-use lib.ListN.{drop}
+use Rattle.std.proofs.Common.{◌≡◌, ◌*◌, drop}
 use Rattle.base.specs.Bits.{word_of}
 use Rattle.marks.specs.Marks.{moving_marks}
 use Rattle.marks.proofs.words.cut_marks.Given as goal
 
+-- the word is that of the marks from disk d on
 abbrev pub invariant-loop-d : goal.invariant-loop-d
-invariant-loop-d l = (l.d ≤ l.m) × (l.word ≡ word_of (drop (l.d * l.n) (moving_marks l.m l.n l.s l.w)))
-
-abbrev pub decreases-loop-d : goal.decreases-loop-d
-decreases-loop-d l = l.d
+invariant-loop-d l = l.word ≡ word_of (drop (l.d * l.n) (moving_marks l.m l.n l.s l.w))

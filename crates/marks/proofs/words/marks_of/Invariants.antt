@@ -1,16 +1,10 @@
-use Prim.Native.Nat.{◌-◌, ◌≤◌}
-use mathlib.Core.Path.{◌≡◌}
-use mathlib.Core.Bool.{false}
-use mathlib.Core.List.{◌++◌}
-use lib.ListN.{length, take, drop, replicate}
+use Rattle.std.proofs.Common.{◌≡◌, ◌-◌, ◌++◌, false, take, drop, replicate}
 use Rattle.base.specs.Bits.{bits}
 use Rattle.marks.proofs.words.marks_of.Given as goal
 
--- the first j marks are stored, the others are those of the rest and not set yet
-abbrev pub invariant-loop-j : goal.invariant-loop-j
-invariant-loop-j l =
-    (l.j ≤ 64)
-    × ((length l.marks ≡ 64) × ((bits 64 l.word ≡ take l.j l.marks ++ bits (64 - l.j) l.rest) × (drop l.j l.marks ≡ replicate (64 - l.j) false)))
-
-abbrev pub decreases-loop-j : goal.decreases-loop-j
-decreases-loop-j l = 64 - l.j
+-- the marks passed are stored, the others are those of the rest and not set yet
+abbrev pub invariant-loop-mark : goal.invariant-loop-mark
+invariant-loop-mark l = record {
+  stored : bits 64 l.word ≡ take l.mark-index l.mark-items ++ bits (64 - l.mark-index) l.rest;
+  unset : drop l.mark-index l.mark-items ≡ replicate (64 - l.mark-index) false;
+}
