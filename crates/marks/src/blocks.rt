@@ -14,29 +14,23 @@ use super::words::{has_mark, without};
 use layout::{Address, Block, Reason, Spot};
 
 // Is the moving block at the old spot p one of window w with its mark set?
+#[tactic(auto, using(crate::proofs::BlocksCode::mark_fits))]
 fn is_marked_at(m: usize, n: usize, w: usize, marks: usize, p: Spot) -> bool
     requires grows { Grows m n }
     requires disk_lt_m { (p.disk < m) × (moves_from m n p ≡ true) }
     ensures { result ≡ (eqb (p.row.0 / (m + n)) w && get_or (marks_of marks) (mark_of_spot m n p) false) }
 {
-    let row = p.row;
-    if row.0 / (m + n) != w {
-        return false;
-    }
-    let j = window::mark_of_spot(m, n, p);
-    has_mark(marks, j)
+    p.row.0 / (m + n) == w && has_mark(marks, window::mark_of_spot(m, n, p))
 }
 
 // Is the block at the old spot p a moving block of window w with its mark set?
+#[tactic(auto, unfolding(crate::specs::Marks::marked_at, crate::specs::Marks::moves_at, layout::specs::Windows::window_of_row))]
 fn is_marked(m: usize, n: usize, w: usize, marks: usize, p: Spot) -> bool
     requires grows { Grows m n }
     requires disk_lt_m { p.disk < m }
     ensures { result ≡ marked_at m n w (marks_of marks) p }
 {
-    if !layout::moves_from(m, n, p) {
-        return false;
-    }
-    is_marked_at(m, n, w, marks, p)
+    layout::moves_from(m, n, p) && is_marked_at(m, n, w, marks, p)
 }
 
 // Is the block at the old spot p copied but not recorded?
@@ -45,27 +39,21 @@ pub fn is_waiting(m: usize, n: usize, w: usize, recorded: usize, copied: usize, 
     requires disk_lt_m { p.disk < m }
     ensures { result ≡ (marked_at m n w (marks_of copied) p && not (marked_at m n w (marks_of recorded) p)) }
 {
-    let waiting = without(copied, recorded);
-    is_marked(m, n, w, waiting, p)
+    is_marked(m, n, w, without(copied, recorded), p)
 }
 
 // Has the block with the old spot p moved to its new one?
+#[tactic(auto, unfolding(crate::specs::Marks::moved_at, crate::specs::Marks::marked_at, crate::specs::Marks::moves_at, layout::specs::Windows::window_of_row))]
 fn at_new_spot(m: usize, n: usize, w: usize, recorded: usize, p: Spot) -> bool
     requires grows { Grows m n }
     requires disk_lt_m { p.disk < m }
     ensures { result ≡ moved_at m n w (marks_of recorded) p }
 {
-    if !layout::moves_from(m, n, p) {
-        return false;
-    }
-    let row = p.row;
-    if row.0 / (m + n) < w {
-        return true;
-    }
-    is_marked_at(m, n, w, recorded, p)
+    layout::moves_from(m, n, p) && (p.row.0 / (m + n) < w || is_marked_at(m, n, w, recorded, p))
 }
 
 // The live spot of block x in a growth under way, where p is its old spot.
+#[tactic(auto, unfolding(crate::specs::Marks::live_from))]
 fn live_from(m: usize, n: usize, s: usize, w: usize, recorded: usize, x: Block, p: Spot) -> Spot
     requires grows { Grows m n }
     requires s_le_most_rows { (s ≤ most_rows) × (p.disk < m) }
@@ -101,6 +89,7 @@ pub fn live_spot(
 
 // The new spot of block x, which growth k has moved, why it is there and by how many growths it was moved, where `old`
 // has these from before the growth.
+#[tactic(auto, unfolding(crate::specs::Marks::moved_address))]
 fn moved_address(m: usize, n: usize, s: usize, k: usize, x: Block, old: Address) -> Address
     requires grows { Grows m n }
     requires s_le_most_rows { (s ≤ most_rows) × (old.spot.disk < m) × (old.moves ≤ most_growths) }
@@ -119,6 +108,7 @@ fn moved_address(m: usize, n: usize, s: usize, k: usize, x: Block, old: Address)
 
 // The live spot of block x in growth k, why it is there and by how many growths it was moved, where `old` has these
 // from before the growth.
+#[tactic(auto, unfolding(crate::specs::Marks::address_from))]
 pub fn address_from(
     m: usize,
     n: usize,

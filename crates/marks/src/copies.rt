@@ -1,5 +1,5 @@
 // What is left to copy in window w of a growth under way.
-ghost use Rattle.std.specs.Prelude.{◌≡◌, false, cond, not, ◌&&◌, ◌⊎◌, ◌<◌, ◌≤◌, ◌*◌, eqb, get_or};
+ghost use Rattle.std.specs.Prelude.{◌≡◌, false, cond, not, ◌&&◌, ◌⊎◌, ◌<◌, ◌≤◌, ◌*◌, eqb, get_or, IfNone, IfSome};
 ghost use Rattle.base.specs.Below.{count};
 ghost use Rattle.layout.specs.History.{history, old_count, added_count};
 ghost use Rattle.layout.specs.Limits.{Limits, Grows, most_rows};
@@ -12,16 +12,13 @@ use super::words::{is_within, moving_marks, without};
 use layout::Spot;
 
 // Is the block at the old spot p a moving block of window w?
+#[tactic(auto, unfolding(crate::specs::Marks::moves_at, layout::specs::Windows::window_of_row))]
 pub fn moves_now(m: usize, n: usize, w: usize, p: Spot) -> bool
     requires grows { Grows m n }
     requires disk_lt_m { p.disk < m }
     ensures { result ≡ moves_at m n w p }
 {
-    if !layout::moves_from(m, n, p) {
-        return false;
-    }
-    let row = p.row;
-    row.0 / (m + n) == w
+    layout::moves_from(m, n, p) && p.row.0 / (m + n) == w
 }
 
 // Are all moving blocks of window w copied?
@@ -45,17 +42,18 @@ fn unset_marks(m: usize, n: usize, s: usize, w: usize, marks: usize) -> usize
     without(moving, marks)
 }
 
-// The lowest mark of window w that is not set and whose row exists, or m·n.
-fn first_unmarked(m: usize, n: usize, s: usize, w: usize, marks: usize) -> usize
+// The lowest mark of window w that is not set and whose row exists, if there is one.
+fn first_unmarked(m: usize, n: usize, s: usize, w: usize, marks: usize) -> Option<usize>
     requires grows { Grows m n }
     requires w_le_most_rows { w ≤ most_rows }
-    ensures { result ≡ first_unmarked m n s w (marks_of marks) }
+    ensures none { IfNone result (first_unmarked m n s w (marks_of marks) ≡ m * n) }
+    ensures lowest { IfSome result (λ j. (j ≡ first_unmarked m n s w (marks_of marks)) × (j < m * n)) }
 {
     let left = unset_marks(m, n, s, w, marks);
     if left == 0 {
-        return m * n;
+        return None;
     }
-    usize::trailing_zeros(left) as usize
+    Some(left.trailing_zeros() as usize)
 }
 
 // The block of window w with the lowest mark that is not set; none where all are copied.
@@ -73,19 +71,13 @@ pub fn next_copy(
     let g = layout::newest_growth(counts, t);
     let m = g.old;
     let n = g.added;
-    let j = first_unmarked(m, n, s, w, copied);
-    if j == m * n {
-        return None;
-    }
-    let p = window::spot_of_mark(m, n, w, j);
-    let row = p.row;
-    let part = layout::part_of(m, n, row.0 % (m + n));
-    let block = layout::block_at(counts, t - 1, s, p);
+    let mark = first_unmarked(m, n, s, w, copied)?;
+    let from = window::spot_of_mark(m, n, w, mark);
     Some(NextCopy {
-        block,
-        part,
-        from: p,
-        mark: j,
+        block: layout::block_at(counts, t - 1, s, from),
+        part: layout::part_of(m, n, from.row.0 % (m + n)),
+        from,
+        mark,
     })
 }
 
@@ -96,7 +88,7 @@ fn unmarked(m: usize, n: usize, s: usize, w: usize, marks: usize) -> usize
     ensures { result ≡ count (λ j. row_exists m n s w j && not (get_or (marks_of marks) j false)) (m * n) }
 {
     let left = unset_marks(m, n, s, w, marks);
-    usize::count_ones(left) as usize
+    left.count_ones() as usize
 }
 
 // U + R - w of the growth from m disks by n, from the marks of the copied blocks of window w.

@@ -8,16 +8,11 @@ ghost use Rattle.marks.specs.Words.{marks_of};
 use super::words::{is_within, moving_marks};
 
 // Not growing: no window and no marks.
+#[tactic(auto, using(crate::proofs::MarkWords::no_marks_law), unfolding(crate::specs::Marks::at_rest))]
 pub fn at_rest(w: usize, recorded: usize, copied: usize) -> bool
     ensures { result ≡ at_rest w (marks_of recorded) (marks_of copied) }
 {
-    if w != 0 {
-        return false;
-    }
-    if !is_within(recorded, 0) {
-        return false;
-    }
-    is_within(copied, 0)
+    w == 0 && is_within(recorded, 0) && is_within(copied, 0)
 }
 
 // Growing: a window, and marks that fit it.
@@ -39,12 +34,6 @@ pub fn in_growth(
     if window::window_count(g.old, g.added, s) <= w {
         return false;
     }
-    if !is_within(recorded, copied) {
-        return false;
-    }
     let moving = moving_marks(g.old, g.added, s, w);
-    if !is_within(copied, moving) {
-        return false;
-    }
-    !is_within(moving, recorded)
+    is_within(recorded, copied) && is_within(copied, moving) && !is_within(moving, recorded)
 }

@@ -67,7 +67,7 @@ pub fn moving_marks(m: usize, n: usize, s: usize, w: usize) -> usize
 {
     // The last row with a moving block is m + n - 2 rows into the window.
     if w * (m + n) + (m + n - 1) <= s {
-        return 0xffff_ffff_ffff_ffffusize >> (64 - m * n);
+        return usize::MAX >> (64 - m * n);
     }
     cut_marks(m, n, s, w)
 }
