@@ -11,10 +11,10 @@ use borrow.Author.Tests.{lt-ltb, le-ltb}
 use Rattle.base.proofs.Booleans.{and_right, by_test}
 use Rattle.layout.specs.declared.Address.{Address}
 use Rattle.layout.specs.declared.Block.{Block}
-use Rattle.layout.specs.declared.GrowthDisks.{GrowthDisks}
+use Rattle.layout.specs.declared.growth.GrowthDisks.{GrowthDisks}
 use Rattle.layout.specs.declared.Spot.{Spot}
 use Rattle.layout.specs.Growth.{moves_from, change_of, added_index, spot_before}
-use Rattle.layout.specs.History.{Within, history, disk_count, earlier, old_count, added_count, newest_growth, rising, spot_of, block_at}
+use Rattle.layout.specs.History.{Within, history, disk_count, earlier, old_count, added_count, rising, spot_of, block_at}
 use Rattle.layout.specs.Limits.{Limits, Grows}
 use Rattle.layout.specs.Live.{at_new_spot, live_spot, live_block}
 use Rattle.layout.specs.Reasons.{reason_after, address_of}
@@ -23,7 +23,6 @@ use Rattle.layout.specs.Windows.{window_of_row, mark_of_spot, old_spot, moving, 
 use Rattle.layout.proofs.HistoryCode.{history_disks, limits_at, newest_old, back_added, back_older}
 use Rattle.layout.proofs.LiveMoves.{moved_more, moves_there}
 use Rattle.layout.proofs.MarkSpots.{mark_below}
-use Rattle.layout.proofs.NewestCode.{old_is, added_is, newest_grows}
 use Rattle.layout.proofs.Theorems.{disks_sum, spots_and_blocks, spot_after_newest, reason_after_newest}
 use Rattle.layout.proofs.WindowsCode.{marks_most}
 use Rattle.marks.specs.Marks.{mark_count, moves_at, marked_at, moved_at, live_from, moved_address, address_from, as_live_block, difference}
@@ -60,28 +59,17 @@ module _ (s t : ℕ) (l : List ℕ) (a : Limits s (history t l)) (o : 0 < t) whe
 pub record ReadGrowth (s t : ℕ) (l : List ℕ) (g : GrowthDisks) : Type 0 where
   pub limits : Limits s (history t l)
   pub grown : 0 < t
-  pub growth : g ≡ newest_growth (history t l)
-
-pub read_growth : {s t : ℕ} (l : List ℕ) {g : GrowthDisks} → Limits s (history t l) → 0 < t → g ≡ newest_growth (history t l) → ReadGrowth s t l g
-read_growth l a o e = record { limits = a; grown = o; growth = e }
+  pub old_read : g.old ≡ old_count (history t l)
+  pub added_read : g.added ≡ added_count (history t l)
 
 module _ {s t : ℕ} {l : List ℕ} {g : GrowthDisks} (r : ReadGrowth s t l g) where
   pub some_old : 0 < old_count (history t l)
   some_old = newest_old s t l r.grown r.limits
 
-  pub old_read : g.old ≡ old_count (history t l)
-  old_read = old_is s (history t l) r.limits some_old g r.growth
-
-  pub added_read : g.added ≡ added_count (history t l)
-  added_read = added_is s (history t l) r.limits some_old g r.growth
-
-  pub grows_read : Grows g.old g.added
-  grows_read = newest_grows s (history t l) r.limits some_old g r.growth
-
   -- what finding the old spot of block x asks
   pub spot_asks : {x : ℕ} → x < g.old * s → Limits s (history (t - 1) l) × (x < disk_count (history (t - 1) l) * s)
   spot_asks h =
-      (limits_before s t l r.limits r.grown, block_before s t l r.limits r.grown _ (rw old_read at h))
+      (limits_before s t l r.limits r.grown, block_before s t l r.limits r.grown _ (rw r.old_read at h))
 
 -- ---- the old spot of block x, which the code has found
 
@@ -91,37 +79,13 @@ module _ {s t : ℕ} {l : List ℕ} {g : GrowthDisks} (r : ReadGrowth s t l g) {
   on_old_disk =
       let a = spot_asks r h in
       let w = (spots_and_blocks s (history (t - 1) l) a.0.rise).spot_within x a.1 in
-      rw (e, old_read r, ← disks_before s t l r.limits r.grown) w.disk
+      rw (e, r.old_read, ← disks_before s t l r.limits r.grown) w.disk
 
   pub spot_found : p ≡ old_spot s (history t l) x
   unfolding old_spot
   spot_found = e ∙ ap (λ (k : List ℕ). spot_of s k x) (history_before t l r.grown)
 
 -- ---- what marks say of an old block, read at its old spot p
-
-module _ (m n w : ℕ) (marks : List Bool) (p : Spot) where
-  pub unmoving_unmarked : moves_from m n p ≡ false → false ≡ marked_at m n w marks p
-  unfolding marked_at moves_at
-  unmoving_unmarked e = rw e
-
-  pub moving_marked : moves_from m n p ≡ true → (r : Bool) → r ≡ (eqb (p.row.0 / (m + n)) w && get_or marks (mark_of_spot m n p) false)
-      → r ≡ marked_at m n w marks p
-  unfolding marked_at moves_at window_of_row
-  moving_marked e r f = rw e f
-
-  pub unmoving_unmoved : moves_from m n p ≡ false → false ≡ moved_at m n w marks p
-  unfolding moved_at
-  unmoving_unmoved e = rw e
-
-  pub passed_moved : moves_from m n p ≡ true → p.row.0 / (m + n) < w → true ≡ moved_at m n w marks p
-  unfolding moved_at window_of_row
-  passed_moved e f = rw (e, lt-ltb _ _ f)
-
-  -- of a window not passed, those that are marked
-  pub marked_moved : moves_from m n p ≡ true → w ≤ p.row.0 / (m + n) → (r : Bool)
-      → r ≡ (eqb (p.row.0 / (m + n)) w && get_or marks (mark_of_spot m n p) false) → r ≡ moved_at m n w marks p
-  unfolding moved_at marked_at moves_at window_of_row
-  marked_moved e f r g = rw (e, le-ltb _ _ f) g
 
 -- copied and not recorded: one test of the marks that are in one set and not in the other
 both_told : (a b g : Bool) → (a && (b && not g)) ≡ ((a && b) && not (a && g))
@@ -223,38 +187,39 @@ module _ {s t : ℕ} {l : List ℕ} {g : GrowthDisks} (r : ReadGrowth s t l g) w
   left_told w marks p k =
       let a = r.limits in
       let o = r.grown in
-      rw (old_read r, added_read r)
+      rw (r.old_read, r.added_read)
       (rw (spot_of_old s t l a o p k) at (moved_at_spot s (history t l) w (block_at s (history (t - 1) l) p) (block_of_old s t l a o p k) marks))
 
   -- a spot after the growth, and one growth back
   old_then : g.old ≡ get_or l (t - 1) 0
-  old_then = old_read r ∙ sym (disks_before s t l r.limits r.grown) ∙ history_disks (t - 1) l
+  old_then = r.old_read ∙ sym (disks_before s t l r.limits r.grown) ∙ history_disks (t - 1) l
 
-  added_then : g.added ≡ get_or l t 0 - get_or l (t - 1) 0
+  added_then : g.added ≡ get_or l (t - 1 + 1) 0 - get_or l (t - 1) 0
   unfolding added_count
-  added_then = added_read r ∙ rw (history_disks t l, ← old_read r, old_then)
+  added_then =
+      let o = r.grown in
+      let k : t - 1 + 1 ≡ t = omega arith in
+      rw k (r.added_read ∙ rw (history_disks t l, ← r.old_read, old_then))
 
   module _ (p : Spot) (k : Within s (history t l) p) where
-    pub index_asks : Grows g.old g.added × (p.disk < g.old + g.added)
-    index_asks = (grows_read r, rw (old_read r, added_read r, disks_sum s (history t l) r.limits.rise (some_old r)) k.disk)
+    pub on_some_disk : p.disk < g.old + g.added
+    on_some_disk = rw (r.old_read, r.added_read, disks_sum s (history t l) r.limits.rise (some_old r)) k.disk
 
     module _ (i : ℕ) (e : i ≡ added_index g.old g.added p.disk p.row.0) where
-      index_then : i ≡ added_index (get_or l (t - 1) 0) (get_or l t 0 - get_or l (t - 1) 0) p.disk p.row.0
-      index_then = rw (old_then, added_then) at e
+      step : t ≡ suc (t - 1)
+      step = let o = r.grown in omega arith
 
       -- a block that the growth added, which is not open
       pub added_there : i < g.added → old_count (history t l) * s ≤ block_at s (history t l) p
       added_there h =
-          let o = r.grown in
-          let b = back_added s t (t - 1) t l r.limits (omega arith) (omega arith) p i p.row.0 refl index_then (rw added_then at h) in
-          rw (← old_read r, old_then) (omega (arith, b))
+          let b = back_added s t (t - 1) t l r.limits step (omega arith) g.old g.added old_then added_then p p.row.0 k refl i e h in
+          rw (← r.old_read) (omega (arith, b))
 
       -- an old one, at its spot before
       pub before_there : g.added ≤ i → (q : Spot) → q ≡ spot_before g.old g.added p
           → Within s (history (t - 1) l) q × (block_at s (history (t - 1) l) q ≡ block_at s (history t l) p)
       before_there h q f =
-          let o = r.grown in
-          let b = back_older s t (t - 1) t l r.limits (omega arith) (omega arith) p q i p.row.0 refl index_then (rw added_then at h) k (rw (old_then, added_then) at f) in
+          let b = back_older s t (t - 1) t l r.limits step (omega arith) g.old g.added old_then added_then p p.row.0 k refl i e q h f in
           (b.0, b.2)
 
 pub added_unmoved : (s : ℕ) (h : List ℕ) (moved : ℕ → Bool) (x : ℕ) → old_count h * s ≤ x → false ≡ at_new_spot s h moved x

@@ -12,20 +12,22 @@ use lib.ListN.{get_or}
 use borrow.Author.Tests.{ltb-true, eqb-true, eq-eqb, not-true}
 use Rattle.base.proofs.Booleans.{and_left, and_right, and_both, clash, by_test}
 use Rattle.base.proofs.Lowest.{first_most, first_before, first_passes, lowest_empty, lowest_is}
+use Rattle.window.specs.declared.Window.{Window}
 use Rattle.layout.specs.declared.Block.{Block}
-use Rattle.layout.specs.declared.GrowthDisks.{GrowthDisks}
+use Rattle.layout.specs.declared.growth.GrowthDisks.{GrowthDisks}
 use Rattle.layout.specs.declared.Part.{Part}
 use Rattle.layout.specs.declared.Spot.{Spot}
 use Rattle.layout.specs.Growth.{part_of}
 use Rattle.layout.specs.History.{Within, history, old_count, added_count, block_at}
 use Rattle.layout.specs.Limits.{Limits, most_rows}
-use Rattle.layout.specs.Windows.{windows, row_exists, spot_of_mark, old_spot, moving, window_of, moving_in, mark_of, block_of_mark, marked_blocks, part_moved, next_to_copy, next_of_window, all_copied}
+use Rattle.layout.specs.Windows.{windows, row_exists, spot_of_mark, old_spot, moving, window_of, moving_in, mark_of, block_of_mark, marked_blocks, part_moved, next_to_copy, next_of_window, all_copied, calls_left, calls_left_by_marks}
 use Rattle.layout.proofs.MarkSpots.{mark_spot_disk}
+use Rattle.layout.proofs.NewestCode.{calls_are}
 use Rattle.layout.proofs.NextBlocks.{left_at, moving_in_old}
 use Rattle.layout.proofs.Theorems.{some_added, spots_and_blocks}
 use Rattle.layout.proofs.WindowsCode.{marks_most, windows_most}
 use Rattle.marks.specs.Marks.{mark_count, within, moving_marks, first_unmarked, as_next_copy}
-use Rattle.marks.proofs.BlocksCode.{ReadGrowth, history_before, disks_before, limits_before, some_old, old_read, added_read, grows_read}
+use Rattle.marks.proofs.BlocksCode.{ReadGrowth, history_before, disks_before, limits_before, some_old}
 use Rattle.marks.proofs.MarkSets.{marks_law, all_by_marks}
 use Rattle.marks.proofs.MarkWords.{unmarked_at}
 
@@ -104,26 +106,43 @@ module _ (s : ℕ) (h : List ℕ) (l : Limits s h) (g : 0 < old_count h) (w : �
             | no k ↦ omega (arith, k)
           ]
 
--- ---- the newest growth, which the code has read
+-- ---- the window under way, which the code has read
 
-module _ {s t : ℕ} {l : List ℕ} {g : GrowthDisks} (r : ReadGrowth s t l g) where
-  pub window_most : (w : ℕ) → w < windows (old_count (history t l)) (added_count (history t l)) s → w ≤ most_rows
-  window_most w h =
-      let n = some_added s (history t l) r.limits.rise (some_old r) in
-      omega (arith, windows_most (old_count (history t l)) (added_count (history t l)) s n, r.limits.rows_most)
+-- a window of the newest growth is one of so many rows
+pub window_most : (s : ℕ) (h : List ℕ) (w : ℕ) → Limits s h → 0 < old_count h → w < windows (old_count h) (added_count h) s → w ≤ most_rows
+window_most s h w a o k =
+    let n = some_added s h a.rise o in
+    omega (arith, windows_most (old_count h) (added_count h) s n, a.rows_most)
 
-  pub all_told : (w : ℕ) (marks a : List Bool) (b : Bool) → a ≡ moving_marks g.old g.added s w → b ≡ within a marks
+pub record ReadWindow (s t : ℕ) (l : List ℕ) (w : ℕ) (v : Window) : Type 0 where
+  pub growth : ReadGrowth s t l v.growth
+  pub rows_read : v.rows ≡ s
+  pub number_read : v.number ≡ w
+
+pub read_window : {s t w : ℕ} (l : List ℕ) {v : Window} → Limits s (history t l) → 0 < t → v.growth.old ≡ old_count (history t l)
+    → v.growth.added ≡ added_count (history t l) → v.rows ≡ s → v.number ≡ w → ReadWindow s t l w v
+read_window l a o e f k n =
+    record { growth = record { limits = a; grown = o; old_read = e; added_read = f }; rows_read = k; number_read = n }
+
+module _ {s t : ℕ} {l : List ℕ} {w : ℕ} {v : Window} (r : ReadWindow s t l w v) where
+  pub all_told : (marks a : List Bool) (b : Bool) → a ≡ moving_marks v.growth.old v.growth.added v.rows v.number → b ≡ within a marks
       → b ≡ all_copied s (history t l) w (marked_blocks s (history t l) w marks)
-  all_told w marks a b e f =
-      f ∙ rw (e, old_read r, added_read r) (all_by_marks s (history t l) r.limits (some_old r) w marks)
+  all_told marks a b e f =
+      f ∙ rw (e, r.growth.old_read, r.growth.added_read, r.rows_read, r.number_read)
+      (all_by_marks s (history t l) r.growth.limits (some_old r.growth) w marks)
 
   -- no mark is left
-  pub none_told : (w : ℕ) (marks : List Bool) (j : ℕ) → j ≡ first_unmarked g.old g.added s w marks → j ≡ g.old * g.added
+  pub none_told : (marks : List Bool) → first_unmarked v.growth.old v.growth.added v.rows v.number marks ≡ v.growth.old * v.growth.added
       → None ≡ as_next_copy s (history t l) (next_of_window s (history t l) w (marked_blocks s (history t l) w marks))
   unfolding as_next_copy
-  none_told w marks j e f =
-      let k : first_unmarked g.old g.added s w marks ≡ g.old * g.added = sym e ∙ f in
-      rw (none_left s (history t l) r.limits (some_old r) w marks (rw (old_read r, added_read r) at k))
+  none_told marks e =
+      rw (none_left s (history t l) r.growth.limits (some_old r.growth) w marks
+      (rw (r.growth.old_read, r.growth.added_read, r.rows_read, r.number_read) at e))
+
+  pub left_told : (marks : List Bool) (c : ℕ) → c ≡ calls_left_by_marks v.growth.old v.growth.added v.rows v.number marks
+      → c ≡ calls_left s (history t l) w (marked_blocks s (history t l) w marks)
+  left_told marks c e =
+      rw (r.rows_read, r.number_read) at e ∙ calls_are s (history t l) r.growth.limits v.growth r.growth.old_read r.growth.added_read w marks
 
 -- ---- the lowest mark that is not set, which the code has found
 
@@ -133,24 +152,27 @@ pub record NextMark (s t : ℕ) (l : List ℕ) (g : GrowthDisks) (w : ℕ) (mark
   pub row : row_exists g.old g.added s w j ≡ true
   pub next : next_of_window s (history t l) w (marked_blocks s (history t l) w marks) ≡ some (block_of_mark s (history t l) w j)
 
-pub next_mark : {s t : ℕ} {l : List ℕ} {g : GrowthDisks} → ReadGrowth s t l g → (w : ℕ) (marks : List Bool) (j : ℕ)
-    → j ≡ first_unmarked g.old g.added s w marks → (j ≡ g.old * g.added → ⊥) → NextMark s t l g w marks j
+pub next_mark : {s t : ℕ} {l : List ℕ} {w : ℕ} {v : Window} → ReadWindow s t l w v → (marks : List Bool) (j : ℕ)
+    → (j ≡ first_unmarked v.growth.old v.growth.added v.rows v.number marks) × (j < v.growth.old * v.growth.added) → NextMark s t l v.growth w marks j
 unfolding first_unmarked
-next_mark {s} {t} {l} {g} r w marks j e f =
+next_mark {s} {t} {l} {w} {v} r marks j f =
+    let g = v.growth in
+    let h = history t l in
+    let e = rw (r.rows_read, r.number_read) at f.0 in
     let unset = unmarked_at g.old g.added s w marks in
-    let below : j < g.old * g.added = omega (arith, f, e, first_most unset (g.old * g.added)) in
-    let u : unset j ≡ true = rw e (first_passes unset (g.old * g.added) (rw (← e) below)) in
+    let u : unset j ≡ true = rw e (first_passes unset (g.old * g.added) (rw (← e) f.1)) in
+    let o = r.growth.old_read in
+    let a = r.growth.added_read in
     record {
-      read = r;
-      below = below;
+      read = r.growth;
+      below = f.1;
       row = and_left (row_exists g.old g.added s w j) (not (get_or marks j false)) u;
-      next = next_left s (history t l) r.limits (some_old r) w marks j (rw (old_read r, added_read r) at e)
-          (rw (old_read r, added_read r) at below) (rw (old_read r, added_read r) at u);
+      next = next_left s h r.growth.limits (some_old r.growth) w marks j (rw (o, a) at e) (rw (o, a) at f.1) (rw (o, a) at u);
     }
 
 module _ {s t : ℕ} {l : List ℕ} {g : GrowthDisks} {w : ℕ} {marks : List Bool} {j : ℕ} (f : NextMark s t l g w marks j) where
   pub next_small : j < mark_count
-  next_small = omega (arith, f.below, marks_most g.old g.added (grows_read f.read).most)
+  next_small = omega (arith, f.below, marks_most g.old g.added g.within_limits.most)
 
   -- its block
   module _ (p : Spot) (e : p ≡ spot_of_mark g.old g.added w j) where
@@ -158,11 +180,11 @@ module _ {s t : ℕ} {l : List ℕ} {g : GrowthDisks} {w : ℕ} {marks : List Bo
     unfolding row_exists
     next_asks =
         let r = f.read in
-        let o = grows_read r in
+        let o = g.within_limits in
         let b = limits_before s t l r.limits r.grown in (
           b,
           record {
-            disk = rw (e, disks_before s t l r.limits r.grown, ← old_read r)
+            disk = rw (e, disks_before s t l r.limits r.grown, ← r.old_read)
                 (mark_spot_disk g.old g.added o.old o.added w j f.below);
             row = rw e (ltb-true _ s f.row);
           },
@@ -175,13 +197,13 @@ module _ {s t : ℕ} {l : List ℕ} {g : GrowthDisks} {w : ℕ} {marks : List Bo
 
     its_block : (x : ℕ) → x ≡ block_at s (history (t - 1) l) p → x ≡ block_of_mark s (history t l) w j
     unfolding block_of_mark
-    its_block x k = k ∙ rw (e, history_before t l f.read.grown, old_read f.read, added_read f.read)
+    its_block x k = k ∙ rw (e, history_before t l f.read.grown, f.read.old_read, f.read.added_read)
 
     its_mark_is : (x : ℕ) → x ≡ block_at s (history (t - 1) l) p → mark_of s (history t l) x ≡ j
     its_mark_is x k =
         let r = f.read in
-        let below = rw (old_read r, added_read r) at f.below in
-        let row = rw (old_read r, added_read r) at f.row in
+        let below = rw (r.old_read, r.added_read) at f.below in
+        let row = rw (r.old_read, r.added_read) at f.row in
         rw (its_block x k) ((marks_law s (history t l) r.limits (some_old r)).mark_moves w j below row).2
 
     pub next_told : (x : Block) (part : Part) → x.0 ≡ block_at s (history (t - 1) l) p
@@ -190,4 +212,4 @@ module _ {s t : ℕ} {l : List ℕ} {g : GrowthDisks} {w : ℕ} {marks : List Bo
         ≡ Some (record { block = x; part = part; from = p; mark = j })
     unfolding as_next_copy part_moved
     next_told x part k q =
-        rw (f.next, ← its_block x.0 k, its_old_spot x.0 k, its_mark_is x.0 k, ← old_read f.read, ← added_read f.read, q)
+        rw (f.next, ← its_block x.0 k, its_old_spot x.0 k, its_mark_is x.0 k, ← f.read.old_read, ← f.read.added_read, q)

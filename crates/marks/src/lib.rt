@@ -11,15 +11,21 @@ mod counts;
 mod stages;
 mod words;
 
-pub use blocks::{address_from, is_waiting, live_block, live_spot};
-pub use copies::{all_copied, calls_left, moves_now, next_copy};
 pub use counts::{counts_rise, zeros_after};
 use layout::{Block, Part, Spot};
-pub use stages::{at_rest, in_growth};
 pub use words::{has_mark, marks_of, with_mark, word_of};
 
+// Document 01's growing, w and the two sets of marks of a state.
+#[derive(Clone, Copy, PartialEq, Eq, Debug)]
+pub struct Stage {
+    pub growing: usize,
+    pub window: usize,
+    pub recorded: usize,
+    pub copied: usize,
+}
+
 // The block of a window to copy next, its part, the old spot that it is copied from, and its mark.
-#[derive(Clone, Copy)]
+#[derive(Clone, Copy, PartialEq, Eq, Debug)]
 pub struct NextCopy {
     pub block: Block,
     pub part: Part,

@@ -1,9 +1,11 @@
 // Sets of 64 marks as words: mark j is bit j.
 ghost use Rattle.std.specs.Prelude.{◌≡◌, true, false, ◌+◌, ◌-◌, ◌^◌, ◌<◌, ◌≤◌, min, get_or, set};
-ghost use Rattle.layout.specs.Limits.{Grows, most_disks, most_rows};
+ghost use Rattle.layout.specs.Limits.{most_disks};
 ghost use Rattle.marks.specs.Marks.{within, moving_marks, difference};
 ghost use Rattle.base.specs.Bits.{word_of};
 ghost use Rattle.marks.specs.Words.{marks_of};
+
+use window::Window;
 
 // Are the marks of a all in b?
 pub fn is_within(a: usize, b: usize) -> bool
@@ -46,30 +48,28 @@ fn disk_marks(n: usize, rows: usize, d: usize) -> usize
 }
 
 // The marks of a window that is cut off, disk by disk, the highest disk first.
-fn cut_marks(m: usize, n: usize, s: usize, w: usize) -> usize
-    requires grows { Grows m n }
-    requires w_le_most_rows { w ≤ most_rows }
-    ensures { result ≡ word_of (moving_marks m n s w) }
+fn cut_marks(window: Window) -> usize
+    ensures { result ≡ word_of (moving_marks window.growth.old window.growth.added window.rows window.number) }
 {
-    let rows = s.saturating_sub(w * (m + n));
+    let n = window.growth.added;
+    let rows = window.rows.saturating_sub(window.number * window.growth.disks());
     let mut word = 0;
-    for d in (0..m).rev() {
+    for d in (0..window.growth.old).rev() {
         word = word * (1usize << n) + disk_marks(n, rows, d);
     }
     word
 }
 
-// The marks of the moving blocks of window w whose rows exist.
-pub fn moving_marks(m: usize, n: usize, s: usize, w: usize) -> usize
-    requires grows { Grows m n }
-    requires w_le_most_rows { w ≤ most_rows }
-    ensures { marks_of result ≡ moving_marks m n s w }
+// The marks of the moving blocks of a window whose rows exist.
+pub fn moving_marks(window: Window) -> usize
+    ensures { marks_of result ≡ moving_marks window.growth.old window.growth.added window.rows window.number }
 {
-    // The last row with a moving block is m + n - 2 rows into the window.
-    if w * (m + n) + (m + n - 1) <= s {
-        return usize::MAX >> (64 - m * n);
+    let k = window.growth.disks();
+    // The last row with a moving block is k - 2 rows into the window.
+    if window.number * k + (k - 1) <= window.rows {
+        return usize::MAX >> (64 - window.growth.old * window.growth.added);
     }
-    cut_marks(m, n, s, w)
+    cut_marks(window)
 }
 
 // The marks of a word.

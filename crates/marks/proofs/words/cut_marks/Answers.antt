@@ -11,31 +11,32 @@ use Rattle.marks.proofs.words.cut_marks.Goals as goal
 use Rattle.marks.proofs.words.cut_marks.Goals.{After-disk_marks}
 
 pub loop-d-init : goal.loop-d-init
-loop-d-init c = past_last _ _ _ _ c.requires.grows
+loop-d-init c = past_last _ _ _ _ c.args.window.growth.within_limits
 
 pub overflow_mul-word : goal.overflow_mul-word
 overflow_mul-word c =
-    let a = c.args in
+    let g = c.args.window.growth in
     let l = c.loop-d in
-    record { fits = rw (one_shl a.n (omega arith)) (room_left _ _ _ _ c.requires.grows l.d l.word (omega arith) (omega arith) l.invariant) }
+    record { fits = rw (one_shl g.added (omega arith)) (room_left _ _ _ _ g.within_limits l.d l.word (omega arith) (omega arith) l.invariant) }
 
 -- the word with the marks of one disk more
 word_then : (c : After-disk_marks)
-    → c.loop-d.word * ((1 * 2 ^ c.args.n) % 2 ^ 64) + c.disk_marks.result
-    ≡ (let a = c.args in
-    word_of (drop ((c.loop-d.d - 1) * a.n) (moving_marks a.m a.n a.s a.w)))
+    → c.loop-d.word * ((1 * 2 ^ c.args.window.growth.added) % 2 ^ 64) + c.disk_marks.result
+    ≡ (let v = c.args.window in
+    word_of (drop ((c.loop-d.d - 1) * v.growth.added) (moving_marks v.growth.old v.growth.added v.rows v.number)))
 word_then c =
-    let a = c.args in
+    let g = c.args.window.growth in
     let l = c.loop-d in
-    rw (one_shl a.n (omega arith))
-    (disk_more _ _ _ _ c.requires.grows l.d l.word c.disk_marks.result (omega arith) (omega arith) l.invariant
-    (rw c.saturating_sub-rows.ensures at c.disk_marks.ensures))
+    rw (one_shl g.added (omega arith))
+    (disk_more _ _ _ _ g.within_limits l.d l.word c.disk_marks.result (omega arith) (omega arith) l.invariant
+    (rw (c.saturating_sub-rows.ensures, c.disks.ensures) at c.disk_marks.ensures))
 
 pub overflow_add-word : goal.overflow_add-word
 overflow_add-word c =
-    let a = c.args in
+    let v = c.args.window in
+    let g = v.growth in
     let d = (goal.at.overflow_add-word c).After-disk_marks in
-    record { fits = rw (word_then d) (word_fits (moving_marks a.m a.n a.s a.w) ((c.loop-d.d - 1) * a.n) (moving_length a.m a.n a.s a.w)) }
+    record { fits = rw (word_then d) (word_fits (moving_marks g.old g.added v.rows v.number) ((c.loop-d.d - 1) * g.added) (moving_length g.old g.added v.rows v.number)) }
 
 pub loop-d-preserved : goal.loop-d-preserved
 loop-d-preserved c = word_then (goal.at.loop-d-preserved c).After-disk_marks
