@@ -11,10 +11,9 @@ use lib.Dec.{eqb}
 use lib.ListN.{get_or}
 use borrow.Author.Tests.{ltb-true, eqb-true, eq-eqb, not-true}
 use Rattle.base.proofs.Booleans.{and_left, and_right, and_both, clash, by_test}
-use Rattle.base.proofs.Lowest.{first_most, first_before, first_passes, lowest_empty, lowest_is}
+use Rattle.base.proofs.Lowest.{first_before, first_passes, lowest_empty, lowest_is}
 use Rattle.window.specs.declared.Window.{Window}
 use Rattle.layout.specs.declared.Block.{Block}
-use Rattle.layout.specs.declared.growth.GrowthDisks.{GrowthDisks}
 use Rattle.layout.specs.declared.Part.{Part}
 use Rattle.layout.specs.declared.Spot.{Spot}
 use Rattle.layout.specs.Growth.{part_of}
@@ -119,9 +118,9 @@ pub record ReadWindow (s t : ℕ) (l : List ℕ) (w : ℕ) (v : Window) : Type 0
   pub rows_read : v.rows ≡ s
   pub number_read : v.number ≡ w
 
-pub read_window : {s t w : ℕ} (l : List ℕ) {v : Window} → Limits s (history t l) → 0 < t → v.growth.old ≡ old_count (history t l)
+pub read_window : {s t w : ℕ} (l : List ℕ) (v : Window) → Limits s (history t l) → 0 < t → v.growth.old ≡ old_count (history t l)
     → v.growth.added ≡ added_count (history t l) → v.rows ≡ s → v.number ≡ w → ReadWindow s t l w v
-read_window l a o e f k n =
+read_window l v a o e f k n =
     record { growth = record { limits = a; grown = o; old_read = e; added_read = f }; rows_read = k; number_read = n }
 
 module _ {s t : ℕ} {l : List ℕ} {w : ℕ} {v : Window} (r : ReadWindow s t l w v) where
@@ -146,14 +145,14 @@ module _ {s t : ℕ} {l : List ℕ} {w : ℕ} {v : Window} (r : ReadWindow s t l
 
 -- ---- the lowest mark that is not set, which the code has found
 
-pub record NextMark (s t : ℕ) (l : List ℕ) (g : GrowthDisks) (w : ℕ) (marks : List Bool) (j : ℕ) : Type 0 where
-  pub read : ReadGrowth s t l g
-  pub below : j < g.old * g.added
-  pub row : row_exists g.old g.added s w j ≡ true
+pub record NextMark (s t : ℕ) (l : List ℕ) (w : ℕ) (v : Window) (marks : List Bool) (j : ℕ) : Type 0 where
+  pub read : ReadWindow s t l w v
+  pub below : j < v.growth.old * v.growth.added
+  pub row : row_exists v.growth.old v.growth.added s w j ≡ true
   pub next : next_of_window s (history t l) w (marked_blocks s (history t l) w marks) ≡ some (block_of_mark s (history t l) w j)
 
 pub next_mark : {s t : ℕ} {l : List ℕ} {w : ℕ} {v : Window} → ReadWindow s t l w v → (marks : List Bool) (j : ℕ)
-    → (j ≡ first_unmarked v.growth.old v.growth.added v.rows v.number marks) × (j < v.growth.old * v.growth.added) → NextMark s t l v.growth w marks j
+    → (j ≡ first_unmarked v.growth.old v.growth.added v.rows v.number marks) × (j < v.growth.old * v.growth.added) → NextMark s t l w v marks j
 unfolding first_unmarked
 next_mark {s} {t} {l} {w} {v} r marks j f =
     let g = v.growth in
@@ -164,52 +163,56 @@ next_mark {s} {t} {l} {w} {v} r marks j f =
     let o = r.growth.old_read in
     let a = r.growth.added_read in
     record {
-      read = r.growth;
+      read = r;
       below = f.1;
       row = and_left (row_exists g.old g.added s w j) (not (get_or marks j false)) u;
       next = next_left s h r.growth.limits (some_old r.growth) w marks j (rw (o, a) at e) (rw (o, a) at f.1) (rw (o, a) at u);
     }
 
-module _ {s t : ℕ} {l : List ℕ} {g : GrowthDisks} {w : ℕ} {marks : List Bool} {j : ℕ} (f : NextMark s t l g w marks j) where
+module _ {s t : ℕ} {l : List ℕ} {w : ℕ} {v : Window} {marks : List Bool} {j : ℕ} (f : NextMark s t l w v marks j) where
+  abbrev r : ReadGrowth s t l v.growth
+  r = f.read.growth
+
+  before : Limits s (history (t - 1) l)
+  before = limits_before s t l r.limits r.grown
+
   pub next_small : j < mark_count
-  next_small = omega (arith, f.below, marks_most g.old g.added g.within_limits.most)
+  next_small = omega (arith, f.below, marks_most v.growth.old v.growth.added v.growth.within_limits.most)
 
   -- its block
-  module _ (p : Spot) (e : p ≡ spot_of_mark g.old g.added w j) where
-    pub next_asks : Limits s (history (t - 1) l) × Within s (history (t - 1) l) p
+  module _ (p : Spot) (e : p ≡ spot_of_mark v.growth.old v.growth.added v.number j) where
+    its_spot : p ≡ spot_of_mark v.growth.old v.growth.added w j
+    its_spot = rw f.read.number_read at e
+
+    pub next_within : Within s (history (t - 1) l) p
     unfolding row_exists
-    next_asks =
-        let r = f.read in
-        let o = g.within_limits in
-        let b = limits_before s t l r.limits r.grown in (
-          b,
-          record {
-            disk = rw (e, disks_before s t l r.limits r.grown, ← r.old_read)
-                (mark_spot_disk g.old g.added o.old o.added w j f.below);
-            row = rw e (ltb-true _ s f.row);
-          },
-        )
+    next_within =
+        let o = v.growth.within_limits in
+        record {
+          disk = rw (its_spot, disks_before s t l r.limits r.grown, ← r.old_read)
+              (mark_spot_disk v.growth.old v.growth.added o.old o.added w j f.below);
+          row = rw its_spot (ltb-true _ s f.row);
+        }
 
     its_old_spot : (x : ℕ) → x ≡ block_at s (history (t - 1) l) p → old_spot s (history t l) x ≡ p
     unfolding old_spot
     its_old_spot x k =
-        rw (k, ← history_before t l f.read.grown) ((spots_and_blocks s (history (t - 1) l) next_asks.0.rise).spot_of_block p next_asks.1)
+        rw (k, ← history_before t l r.grown) ((spots_and_blocks s (history (t - 1) l) before.rise).spot_of_block p next_within)
 
     its_block : (x : ℕ) → x ≡ block_at s (history (t - 1) l) p → x ≡ block_of_mark s (history t l) w j
     unfolding block_of_mark
-    its_block x k = k ∙ rw (e, history_before t l f.read.grown, f.read.old_read, f.read.added_read)
+    its_block x k = k ∙ rw (its_spot, history_before t l r.grown, r.old_read, r.added_read)
 
     its_mark_is : (x : ℕ) → x ≡ block_at s (history (t - 1) l) p → mark_of s (history t l) x ≡ j
     its_mark_is x k =
-        let r = f.read in
         let below = rw (r.old_read, r.added_read) at f.below in
         let row = rw (r.old_read, r.added_read) at f.row in
         rw (its_block x k) ((marks_law s (history t l) r.limits (some_old r)).mark_moves w j below row).2
 
     pub next_told : (x : Block) (part : Part) → x.0 ≡ block_at s (history (t - 1) l) p
-        → part ≡ part_of g.old g.added (p.row.0 % (g.old + g.added))
+        → part ≡ part_of v.growth.old v.growth.added (p.row.0 % (v.growth.old + v.growth.added))
         → as_next_copy s (history t l) (next_of_window s (history t l) w (marked_blocks s (history t l) w marks))
         ≡ Some (record { block = x; part = part; from = p; mark = j })
     unfolding as_next_copy part_moved
     next_told x part k q =
-        rw (f.next, ← its_block x.0 k, its_old_spot x.0 k, its_mark_is x.0 k, ← f.read.old_read, ← f.read.added_read, q)
+        rw (f.next, ← its_block x.0 k, its_old_spot x.0 k, its_mark_is x.0 k, ← r.old_read, ← r.added_read, q)

@@ -201,7 +201,7 @@ module _ (m n s w : ℕ) (marks : List Bool) (left : ℕ) (l : Left m n s w mark
       let k : 64 ≤ count_trailing_zeros 64 left = ltb-false (count_trailing_zeros 64 left) 64 e in
       absurd (z (word_ext 64 left 0 l.fits (omega arith) (λ j h. trailing_before 64 left j (omega arith) ∙ sym (no_bit 64 j)))))
 
-  lowest_inside : (left ≡ 0 → ⊥) → count_trailing_zeros 64 left < m * n
+  pub lowest_inside : (left ≡ 0 → ⊥) → count_trailing_zeros 64 left < m * n
   lowest_inside z =
       by_test (ltb (count_trailing_zeros 64 left) (m * n)) (λ e. ltb-true (count_trailing_zeros 64 left) (m * n) e)
       (λ e. clash (trailing_found 64 left (some_bit z)) (outside (count_trailing_zeros 64 left) (ltb-false (count_trailing_zeros 64 left) (m * n) e) (some_bit z)))

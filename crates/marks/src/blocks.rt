@@ -71,7 +71,8 @@ impl Stage {
         if !growth.moves_from(p) {
             return false;
         }
-        p.row.0 / growth.disks() < self.window || is_marked_at(growth, self.window, self.recorded, p)
+        p.row.0 / growth.disks() < self.window
+            || is_marked_at(growth, self.window, self.recorded, p)
     }
 
     // The live spot of block x in a growth under way, with s rows, where p is its old spot.

@@ -1,9 +1,9 @@
 // The stages of a state: its window and its marks while it is not growing, and while it is.
 #![tactic(auto, using(crate::proofs::MarkWords::no_marks_law), unfolding(crate::specs::Marks::at_rest))]
 
-ghost use Rattle.std.specs.Prelude.{◌≡◌};
+ghost use Rattle.std.specs.Prelude.{◌≡◌, not, ◌&&◌};
 ghost use Rattle.layout.specs.History.{history};
-ghost use Rattle.marks.specs.Marks.{at_rest, in_growth};
+ghost use Rattle.marks.specs.Marks.{within, at_rest, in_growth};
 ghost use Rattle.marks.specs.Words.{marks_of};
 
 use super::Stage;
@@ -17,6 +17,15 @@ impl Stage {
         ensures { result ≡ at_rest self.window (marks_of self.recorded) (marks_of self.copied) }
     {
         self.window == 0 && is_within(self.recorded, 0) && is_within(self.copied, 0)
+    }
+
+    // Do the marks fit a window whose moving blocks have these marks, one of them not recorded?
+    fn marks_fit(self, moving: usize) -> bool
+        ensures { result ≡ (within (marks_of self.recorded) (marks_of self.copied) && (within (marks_of self.copied) (marks_of moving) && not (within (marks_of moving) (marks_of self.recorded)))) }
+    {
+        is_within(self.recorded, self.copied)
+            && is_within(self.copied, moving)
+            && !is_within(moving, self.recorded)
     }
 
     // Growing: a window, and marks that fit it.
@@ -35,6 +44,6 @@ impl Stage {
             rows: h.rows,
             number: self.window,
         });
-        is_within(self.recorded, self.copied) && is_within(self.copied, moving) && !is_within(moving, self.recorded)
+        self.marks_fit(moving)
     }
 }

@@ -1,4 +1,6 @@
 // Sets of 64 marks as words: mark j is bit j.
+#![tactic(auto, using(crate::proofs::MarkWords::within_word, crate::proofs::MarkWords::without_word, base::proofs::Bits::bit_at))]
+
 ghost use Rattle.std.specs.Prelude.{◌≡◌, true, false, ◌+◌, ◌-◌, ◌^◌, ◌<◌, ◌≤◌, min, get_or, set};
 ghost use Rattle.layout.specs.Limits.{most_disks};
 ghost use Rattle.marks.specs.Marks.{within, moving_marks, difference};
@@ -52,7 +54,9 @@ fn cut_marks(window: Window) -> usize
     ensures { result ≡ word_of (moving_marks window.growth.old window.growth.added window.rows window.number) }
 {
     let n = window.growth.added;
-    let rows = window.rows.saturating_sub(window.number * window.growth.disks());
+    let rows = window
+        .rows
+        .saturating_sub(window.number * window.growth.disks());
     let mut word = 0;
     for d in (0..window.growth.old).rev() {
         word = word * (1usize << n) + disk_marks(n, rows, d);

@@ -1,6 +1,5 @@
 -- `moving_marks` meets its contract.
-use Rattle.std.proofs.Common.{◌*◌, ◌<◌, ◌+◌, ◌-◌, ◌≤◌, arith}
-use native.Mathlib.Nat.{le-mul_of_pos_right}
+use Rattle.std.proofs.Common.{arith}
 use Rattle.layout.proofs.WindowsCode.{marks_most}
 use Rattle.marks.proofs.MarkWords.{whole_word, cut_word}
 use Rattle.marks.proofs.words.moving_marks.Goals as goal
