@@ -6,10 +6,10 @@ ghost use Rattle.promise.specs.Lists.{call_outcome};
 ghost use Rattle.calls.specs.Asked.{asked, piece_after};
 
 use super::Call;
-use volume::{Reply, Volume};
+use volume::{Reply, Told, Volume};
 
 // Makes a call: write saves the piece, read fills it, every other call leaves it.
-pub fn make(state: Volume, medium: &mut [u8], call: Call, piece: &mut [u8]) -> Reply
+pub fn make(state: Volume, medium: &mut [u8], call: Call, piece: &mut [u8]) -> Reply<Told>
     ensures value { result ≡ (call_outcome (asked call piece.old) state (observe medium.old)).reply }
     ensures medium_after { medium.new ≡ apply (geometry state) (call_outcome (asked call piece.old) state (observe medium.old)).store medium.old }
     ensures piece_after { piece.new ≡ piece_after call piece.old (call_outcome (asked call piece.old) state (observe medium.old)) }
