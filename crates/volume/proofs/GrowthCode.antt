@@ -9,22 +9,22 @@ use native.Mathlib.Numerals.{add-one}
 use native.Mathlib.Omega.{arith}
 use lib.Dec.{eqb, leb}
 use borrow.Author.Tests.{le-leb, lt-leb, le-ltb, eq-eqb, ne_eqb}
-use Rattle.std.specs.Prelude.{Ok}
+use Rattle.std.specs.Prelude.{Ok, Some, None}
 use Rattle.base.specs.declared.Refusal.{Refusal}
 use Rattle.base.specs.Refusals.{refusal}
 use Rattle.base.proofs.Booleans.{and_left}
 use Rattle.base.proofs.Refusals.{passed_first}
 use Rattle.layout.specs.declared.Block.{Block}
-use Rattle.layout.specs.declared.GrowthDisks.{GrowthDisks}
+use Rattle.layout.specs.declared.growth.GrowthDisks.{GrowthDisks}
 use Rattle.layout.specs.declared.Part.{Part}
 use Rattle.layout.specs.declared.Spot.{Spot}
-use Rattle.layout.specs.History.{old_count, added_count, newest_growth, spot_of}
+use Rattle.layout.specs.History.{old_count, added_count, spot_of}
 use Rattle.layout.specs.Limits.{most_rows}
 use Rattle.layout.specs.Tally.{open_blocks, calls_left_of, moves_now, source_of, target_of, next_block, window_full, last_window}
 use Rattle.layout.specs.Windows.{windows, old_spot, moving, window_of, moving_in, mark_of, marked_blocks, part_moved, all_copied}
 use Rattle.layout.proofs.Theorems.{some_added, marks_fit}
 use Rattle.layout.proofs.WindowsCode.{windows_most}
-use Rattle.marks.specs.declared.NextCopy.TheVariants.{CopyOf, AllCopied}
+use Rattle.marks.specs.declared.NextCopy.{NextCopy}
 use Rattle.marks.specs.Marks.{mark_count, as_next_copy}
 use Rattle.marks.specs.Words.{marks_of}
 use Rattle.marks.proofs.MarkSets.{marks_law}
@@ -183,25 +183,25 @@ module _ (v : Volume) where
   unfolding window_full all_copied moves_now tally_of history_of
   full_told = refl
 
-  last_told : (g : GrowthDisks) → g ≡ newest_growth (counts_now v) → (r : ℕ) → r ≡ windows g.old g.added v.rows
+  last_told : (g : GrowthDisks) → g.old ≡ old_count (counts_now v) → g.added ≡ added_count (counts_now v) → (r : ℕ) → r ≡ windows g.old g.added v.rows
       → last_window (tally_of v) ≡ eqb (v.window + 1) r
-  unfolding last_window tally_of history_of newest_growth
-  last_told g a r b = rw (b, a, add-one)
+  unfolding last_window tally_of history_of
+  last_told g a c r b = rw (b, a, c, add-one)
 
   module _ (full : Bool) (a : full ≡ all_copied v.rows (counts_now v) v.window (marked_now v)) where
     pub marks_recorded : full ≡ false → with_growth v v.growths v.counts v.growing v.window v.copied v.copied ≡ checkpointed v
     unfolding checkpointed
     marks_recorded f = rw (← full_told, ← a, f)
 
-    module _ (f : full ≡ true) (g : GrowthDisks) (b : g ≡ newest_growth (counts_now v)) (r : ℕ) (d : r ≡ windows g.old g.added v.rows) where
+    module _ (f : full ≡ true) (g : GrowthDisks) (b : g.old ≡ old_count (counts_now v)) (c : g.added ≡ added_count (counts_now v)) (r : ℕ) (d : r ≡ windows g.old g.added v.rows) where
       pub growth_finished : v.window + 1 ≡ r → with_growth v v.growths v.counts 0 0 0 0 ≡ checkpointed v
       unfolding checkpointed
-      growth_finished l = rw (← full_told, ← a, f, last_told g b r d, eq-eqb (v.window + 1) r l)
+      growth_finished l = rw (← full_told, ← a, f, last_told g b c r d, eq-eqb (v.window + 1) r l)
 
       pub window_finished : v.window + 1 ≢ r
           → with_growth v v.growths v.counts v.growing (v.window + 1) 0 0 ≡ checkpointed v
       unfolding checkpointed
-      window_finished l = rw (← full_told, ← a, f, last_told g b r d, ne_eqb (v.window + 1) r l, add-one)
+      window_finished l = rw (← full_told, ← a, f, last_told g b c r d, ne_eqb (v.window + 1) r l, add-one)
 
 -- w of a growth that runs does not wrap
 pub window_most : (v : Volume) → sound v ≡ true → v.growing ≢ 0 → v.window < most_rows
@@ -211,18 +211,20 @@ window_most v e runs =
     let k = windows_most (old_count (history_of v)) (added_count (history_of v)) v.rows (some_added v.rows (history_of v) f.limits.rise o) in
     omega (arith, k, (f.while_growing runs).window_below, f.limits.rows_most)
 
--- ---- what the two arms of `let NextCopy::CopyOf(x, part, p, j)` know
+-- ---- what the two arms of a match on the block to copy next know
 
-pub next_none : (s : ℕ) (h : List ℕ) (found : Option ℕ) → as_next_copy s h found ≡ AllCopied → found ≡ none
+pub next_none : (s : ℕ) (h : List ℕ) (found : Option ℕ) → as_next_copy s h found ≡ None → found ≡ none
 unfolding as_next_copy
 next_none s h none e = refl
 next_none s h (some x) e = cc
 
-pub next_some : (s : ℕ) (h : List ℕ) (found : Option ℕ) (x : Block) (part : Part) (p : Spot) (j : ℕ) → as_next_copy s h found ≡ CopyOf x part p j
-    → (found ≡ some x.0) × (part ≡ part_moved s h x.0) × (p ≡ old_spot s h x.0) × (j ≡ mark_of s h x.0)
+pub next_some : (s : ℕ) (h : List ℕ) (found : Option ℕ) (next : NextCopy) → as_next_copy s h found ≡ Some next
+    → (found ≡ some next.block.0) × (next.part ≡ part_moved s h next.block.0) × (next.from ≡ old_spot s h next.block.0) × (next.mark ≡ mark_of s h next.block.0)
 unfolding as_next_copy
-next_some s h none x part p j e = (cc, cc, cc, cc)
-next_some s h (some y) x part p j e = (cc, cc, cc, cc)
+next_some s h none next e = (cc, cc, cc, cc)
+next_some s h (some y) next e =
+    let f : next ≡ record { block = record { 0 = y }; part = part_moved s h y; from = old_spot s h y; mark = mark_of s h y } = cc in
+    rw f (refl, refl, refl, refl)
 
 -- the reply and the store of an advance
 module _ (v : Volume) (o : Observations) where

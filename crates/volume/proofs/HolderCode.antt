@@ -1,9 +1,9 @@
 -- What holder answers, return by return.
 use Prim.Native.Nat.{ℕ}
-use mathlib.Core.Path.{◌≡◌, refl}
+use mathlib.Core.Path.{◌≡◌, refl, ◌∙◌}
 use mathlib.Core.Bool.{true, false, ◌||◌}
 use mathlib.Core.Option.{Option, none, some}
-use Rattle.std.specs.Prelude.{Result, Ok, Err}
+use Rattle.std.specs.Prelude.{Result, Ok, Err, cond, ok_or}
 use Rattle.base.specs.declared.Refusal.{Refusal}
 use Rattle.base.specs.declared.Refusal.TheVariants.{NoSuchSpot, NoBlockThere}
 use Rattle.base.specs.Refusals.{refusal, refusal_number, refusals, refusal_with}
@@ -12,7 +12,6 @@ use Rattle.layout.specs.declared.Block.{Block}
 use Rattle.layout.specs.declared.Spot.{Spot}
 use Rattle.layout.specs.History.{Within}
 use Rattle.layout.specs.Tally.{live_block_of}
-use Rattle.marks.specs.declared.LiveBlock.TheVariants.{Lives, Nothing}
 use Rattle.marks.specs.Marks.{as_live_block}
 use lib.Dec.{eqb, leb}
 use borrow.Author.Tests.{leb-false, lt-leb}
@@ -21,16 +20,11 @@ use Rattle.volume.specs.Calls.{is_none, block_found, holder_table, holder_reply}
 use Rattle.volume.specs.Sound.{sound}
 use Rattle.volume.specs.States.{history_of, disks, tally_of}
 
--- what the two arms of `let LiveBlock::Lives(x)` know
-nothing_lives : (found : Option ℕ) → as_live_block found ≡ Nothing → is_none found ≡ true
+-- what is told of a block that lives at a spot, or of none
+block_told : (found : Option ℕ) → ok_or (as_live_block found) NoBlockThere ≡ cond (is_none found) (Err NoBlockThere) (Ok (record { 0 = block_found found }))
 unfolding as_live_block
-nothing_lives none e = refl
-nothing_lives (some x) e = cc
-
-block_lives : (found : Option ℕ) (x : Block) → as_live_block found ≡ Lives x → (is_none found ≡ false) × (x ≡ record { 0 = block_found found })
-unfolding as_live_block
-block_lives none x e = (cc, cc)
-block_lives (some y) x e = (refl, cc)
+block_told none = refl
+block_told (some x) = refl
 
 -- the whole reply, from its answer
 pub holder_reply_law : (v : Volume) (p : Spot) (a : Result Block Refusal) → a ≡ (holder_reply v p).answer → record { state = v; answer = a } ≡ holder_reply v p
@@ -50,13 +44,10 @@ spot_within v p e =
     let n = neither _ _ e in
     record { disk = leb-false _ _ n.0; row = leb-false _ _ n.1 }
 
-module _ (v : Volume) (p : Spot) (s : sound v ≡ true) (w : Within v.rows (history_of v) p) where
-  pub holder_nothing : as_live_block (live_block_of (tally_of v) p) ≡ Nothing → Err NoBlockThere ≡ (holder_reply v p).answer
-  unfolding holder_reply holder_table refusal refusal_with refusals refusal_number disks
-  holder_nothing e = simp (s, lt-leb _ _ w.disk, lt-leb _ _ w.row, nothing_lives (live_block_of (tally_of v) p) e)
-
-  pub holder_block : (x : Block) → as_live_block (live_block_of (tally_of v) p) ≡ Lives x → Ok x ≡ (holder_reply v p).answer
-  unfolding holder_reply holder_table refusal refusal_with refusals refusal_number disks
-  holder_block x e =
-      let b = block_lives (live_block_of (tally_of v) p) x e in
-      rw b.1 (simp (s, lt-leb _ _ w.disk, lt-leb _ _ w.row, b.0))
+pub holder_told : (v : Volume) (p : Spot) → sound v ≡ true → Within v.rows (history_of v) p
+    → ok_or (as_live_block (live_block_of (tally_of v) p)) NoBlockThere ≡ (holder_reply v p).answer
+unfolding holder_reply holder_table refusal refusal_with refusals refusal_number disks
+holder_told v p s w =
+    block_told (live_block_of (tally_of v) p)
+    ∙ by_test (is_none (live_block_of (tally_of v) p)) (λ t. simp (s, lt-leb _ _ w.disk, lt-leb _ _ w.row, t))
+    (λ f. simp (s, lt-leb _ _ w.disk, lt-leb _ _ w.row, f))

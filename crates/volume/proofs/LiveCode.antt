@@ -13,22 +13,21 @@ use borrow.Author.Tests.{eq-eqb, ne_eqb}
 use Rattle.base.proofs.Booleans.{and_left, by_test}
 use Rattle.layout.specs.declared.Address.{Address}
 use Rattle.layout.specs.declared.Block.{Block}
-use Rattle.layout.specs.declared.GrowthDisks.{GrowthDisks}
+use Rattle.layout.specs.declared.growth.GrowthDisks.{GrowthDisks}
 use Rattle.layout.specs.declared.Spot.{Spot}
 use Rattle.layout.specs.Growth.{moves_from, spot_after}
-use Rattle.layout.specs.History.{history, disk_count, earlier, old_count, added_count, newest_growth, rising, spot_of, block_at}
-use Rattle.layout.specs.Limits.{Limits, Grows, most_disks, most_growths, most_rows}
+use Rattle.layout.specs.History.{history, disk_count, earlier, old_count, added_count, spot_of, block_at}
+use Rattle.layout.specs.Limits.{Limits, most_disks, most_growths}
 use Rattle.layout.specs.Live.{at_new_spot, live_spot, live_block}
 use Rattle.layout.specs.Reasons.{address_of}
 use Rattle.layout.specs.Tally.{not_growing, growing, open_blocks, recorded_by, moved_blocks, live_spot_of, live_block_of, growths_of, live_reason_of, live_move_count_of, live_address_of, waiting, calls_left_of}
 use Rattle.layout.specs.Windows.{windows, window_of_row, mark_of_spot, mark_of, old_spot, moving_in, marked_blocks, calls_left}
-use Rattle.layout.proofs.HistoryCode.{history_disks, history_length, growths_most, moves_below}
-use Rattle.layout.proofs.NewestCode.{newest_asks}
-use Rattle.layout.proofs.Theorems.{spot_after_newest}
-use Rattle.marks.specs.declared.LiveBlock.TheVariants.{Lives}
+use Rattle.layout.proofs.HistoryCode.{newest_old, history_disks, history_length, growths_most, moves_below}
+use Rattle.layout.proofs.Theorems.{some_added, disks_sum, spot_after_newest}
+use Rattle.std.specs.Prelude.{Some}
 use Rattle.marks.specs.Marks.{moves_at, marked_at, live_from, address_from, as_live_block}
 use Rattle.marks.specs.Words.{marks_of}
-use Rattle.marks.proofs.BlocksCode.{ReadGrowth, history_before, limits_before, block_before, some_old, old_read, added_read, grows_read, on_old_disk, spot_found, moves_at_spot, marked_at_spot, live_from_spot, address_stays, address_moved}
+use Rattle.marks.proofs.BlocksCode.{ReadGrowth, history_before, limits_before, block_before, some_old, on_old_disk, spot_found, moves_at_spot, marked_at_spot, live_from_spot, address_stays, address_moved}
 use Rattle.medium.specs.declared.Geometry.{Geometry}
 use Rattle.medium.specs.Medium.{bytes_needed}
 use Rattle.volume.specs.declared.Volume.{Volume}
@@ -103,7 +102,7 @@ module _ (v : Volume) (g : v.growing ≡ 0) where
   unfolding address_of live_address_of live_spot_of live_reason_of live_move_count_of growths_of tally_of history_of
   rest_address x = rw rest_mode
 
-  pub rest_block : (p : Spot) (x : Block) → x.0 ≡ block_at v.rows (counts_now v) p → Lives x ≡ as_live_block (live_block_of (tally_of v) p)
+  pub rest_block : (p : Spot) (x : Block) → x.0 ≡ block_at v.rows (counts_now v) p → Some x ≡ as_live_block (live_block_of (tally_of v) p)
   unfolding as_live_block live_block_of tally_of history_of
   rest_block p x e = rw (rest_mode, ← e)
 
@@ -186,9 +185,6 @@ module _ (v : Volume) (g : v.growing ≢ 0) where
 -- ---- the newest growth, which the code has read while it runs
 
 module _ (v : Volume) (g : v.growing ≢ 0) (e : sound v ≡ true) where
-  pub newest_asked : (0 < v.growths) × (v.growths ≤ most_growths) × (rising (counts_now v) ≡ true)
-  newest_asked = newest_asks v.rows v.growths v.counts (has_growth v g e) (history_limits v e)
-
   -- the spot before it, as definitions have it
   pub spot_before_it : (x : ℕ) (p : Spot) → p ≡ old_spot v.rows (history_of v) x → p ≡ spot_of v.rows (counts_before v) x
   unfolding old_spot history_of
@@ -198,44 +194,37 @@ module _ (v : Volume) (g : v.growing ≢ 0) (e : sound v ≡ true) where
   unfolding old_spot history_of
   spot_is_old x p f = rw (history_before v.growths v.counts (has_growth v g e)) at f
 
-  module _ (d : GrowthDisks) (q : d ≡ newest_growth (counts_now v)) where
-    pub growth_read : ReadGrowth v.rows v.growths v.counts d
-    growth_read = record { limits = history_limits v e; grown = has_growth v g e; growth = q }
+  module _ (d : GrowthDisks) (o : d.old ≡ old_count (counts_now v)) (n : d.added ≡ added_count (counts_now v)) where
+    growth_read : ReadGrowth v.rows v.growths v.counts d
+    growth_read = record { limits = history_limits v e; grown = has_growth v g e; old_read = o; added_read = n }
 
     -- the old spot of an open block
     module _ (x : ℕ) (h : x < open_blocks (tally_of v)) (p : Spot) (f : p ≡ spot_of v.rows (counts_before v) x) where
       below : x < old_count (counts_now v) * v.rows
       below = old_block v g x h
 
-      disk_below : p.disk < d.old
-      disk_below = on_old_disk growth_read (rw (old_read growth_read) below) f
+      pub disk_below : p.disk < d.old
+      disk_below = on_old_disk growth_read (rw o below) f
 
       its_spot : p ≡ old_spot v.rows (counts_now v) x
-      its_spot = spot_found growth_read (rw (old_read growth_read) below) f
-
-      pub spot_asks : Grows d.old d.added × (p.disk < d.old)
-      spot_asks = (grows_read growth_read, disk_below)
-
-      pub live_asks : Grows d.old d.added × ((v.rows ≤ most_rows) × (p.disk < d.old))
-      live_asks = (grows_read growth_read, ((history_limits v e).rows_most, disk_below))
+      its_spot = spot_found growth_read (rw o below) f
 
       pub moves_read : moves_at d.old d.added v.window p ≡ moving_in v.rows (counts_now v) v.window x
-      moves_read = rw (old_read growth_read, added_read growth_read, its_spot) (moves_at_spot v.rows (counts_now v) v.window x below)
+      moves_read = rw (o, n, its_spot) (moves_at_spot v.rows (counts_now v) v.window x below)
 
       pub marked_read : (marks : List Bool) → marked_at d.old d.added v.window marks p ≡ marked_blocks v.rows (counts_now v) v.window marks x
       marked_read marks =
-          rw (old_read growth_read, added_read growth_read, its_spot) (marked_at_spot v.rows (counts_now v) v.window x below marks)
+          rw (o, n, its_spot) (marked_at_spot v.rows (counts_now v) v.window x below marks)
 
       -- of a moving block of window w: what reading its mark asks, the mark, and whether it is set
-      pub mark_asks : moves_at d.old d.added v.window p ≡ true
-          → Grows d.old d.added × ((p.disk < d.old) × (moves_from d.old d.added p ≡ true))
+      pub mark_asks : moves_at d.old d.added v.window p ≡ true → (p.disk < d.old) × (moves_from d.old d.added p ≡ true)
       unfolding moves_at
-      mark_asks k = (grows_read growth_read, (disk_below, and_left (moves_from d.old d.added p) (eqb (window_of_row d.old d.added p.row) v.window) k))
+      mark_asks k = (disk_below, and_left (moves_from d.old d.added p) (eqb (window_of_row d.old d.added p.row) v.window) k)
 
       module _ (j : ℕ) (i : j ≡ mark_of_spot d.old d.added p) where
         pub mark_read : j ≡ mark_of v.rows (history_of v) x
         unfolding mark_of history_of
-        mark_read = rw (old_read growth_read, added_read growth_read, its_spot) at i
+        mark_read = rw (o, n, its_spot) at i
 
         pub mark_set_read : moves_at d.old d.added v.window p ≡ true → (marks : List Bool) (r : Bool) → r ≡ get_or marks j false
             → r ≡ marked_blocks v.rows (counts_now v) v.window marks x
@@ -252,12 +241,12 @@ module _ (v : Volume) (g : v.growing ≢ 0) (e : sound v ≡ true) where
 
       pub new_read : (to : Spot) → to ≡ spot_after d.old d.added v.rows x p → to ≡ spot_of v.rows (counts_now v) x
       new_read to k =
-          rw (old_read growth_read, added_read growth_read, its_spot) at k
+          rw (o, n, its_spot) at k
           ∙ sym (spot_after_newest v.rows (counts_now v) (history_limits v e).rise (some_old growth_read) x)
 
       pub live_read : live_from d.old d.added v.rows v.window (marks_of v.recorded) x p ≡ live_spot_of (tally_of v) x
       live_read =
-          rw (old_read growth_read, added_read growth_read, its_spot)
+          rw (o, n, its_spot)
           (live_from_spot v.rows (counts_now v) v.window x (history_limits v e).rise (some_old growth_read) below (marks_of v.recorded))
           ∙ growing_spot v g x
 
@@ -273,8 +262,8 @@ module _ (v : Volume) (g : v.growing ≢ 0) (e : sound v ≡ true) where
           moves_below v.rows v.growths (v.growths - 1) v.counts x a.moves (growths_most v.rows v.growths v.counts (history_limits v e))
           (omega arith) (ap (λ (b : Address). b.moves) f)
 
-      pub address_asks : Grows d.old d.added × ((v.rows ≤ most_rows) × (a.spot.disk < d.old) × (a.moves ≤ most_growths))
-      address_asks = let l = live_asks x h a.spot a_spot in (l.0, (l.1.0, l.1.1, a_moves))
+      pub address_asks : (a.spot.disk < d.old) × (a.moves ≤ most_growths)
+      address_asks = (disk_below x h a.spot a_spot, a_moves)
 
       number : v.growths ≡ length (earlier (counts_now v))
       number = rw (← history_before v.growths v.counts (has_growth v g e)) (omega (arith, has_growth v g e, history_length (v.growths - 1) v.counts))
@@ -285,10 +274,25 @@ module _ (v : Volume) (g : v.growing ≢ 0) (e : sound v ≡ true) where
           let c = counts_now v in
           let k = old_block v g x h in
           let b : a ≡ address_of s (earlier c) x = rw (← history_before v.growths v.counts (has_growth v g e)) f in
-          rw (old_read growth_read, added_read growth_read, b)
+          rw (o, n, b)
           (by_test (at_new_spot s c (moved v g) x)
           (λ t. address_moved s c v.window x v.growths k (marks_of v.recorded) (history_limits v e).rise (some_old growth_read) number t ∙ new_address v g x t)
           (λ t. address_stays s c v.window x v.growths k (marks_of v.recorded) t ∙ rw (← history_before v.growths v.counts (has_growth v g e)) (old_address v g e x t)))
+
+  -- the growth itself
+  abbrev pub newest : GrowthDisks
+  newest =
+      let a = history_limits v e in
+      let o = newest_old v.rows v.growths v.counts (has_growth v g e) a in
+      record {
+        old = old_count (counts_now v);
+        added = added_count (counts_now v);
+        within_limits = record {
+          old = o;
+          added = some_added v.rows (counts_now v) a.rise o;
+          most = omega (arith, disks_sum v.rows (counts_now v) a.rise o, a.disks_most);
+        };
+      }
 
 -- ---- whether a growth runs or not
 
@@ -301,12 +305,11 @@ open_most v e =
 
 -- what counting the calls left asks, and that they are told
 module _ (v : Volume) (e : sound v ≡ true) where
-  pub calls_asks : Limits v.rows (counts_now v)
-      × ((v.growing ≡ 0) ⊎ ((0 < v.growths) × (v.window < windows (old_count (counts_now v)) (added_count (counts_now v)) v.rows)))
+  pub calls_asks : (v.growing ≡ 0) ⊎ ((0 < v.growths) × (v.window < windows (old_count (counts_now v)) (added_count (counts_now v)) v.rows))
   calls_asks =
       elim (ℕ_discrete v.growing 0) [
-        | yes g ↦ (history_limits v e, inl g)
-        | no g ↦ (history_limits v e, inr (has_growth v g e, window_below v g e))
+        | yes g ↦ inl g
+        | no g ↦ inr (has_growth v g e, window_below v g e)
       ]
 
 pub calls_told : (v : Volume) (n : ℕ)
@@ -351,14 +354,11 @@ module _ (v : Volume) (e : sound v ≡ true) where
       spot_in_growth g = rw (old_in_growth g) at f
 
       -- what finding its live spot asks, and that it is found
-      pub spot_known : Limits v.rows (counts_now v) × ((v.growing ≡ 0) ⊎ ((0 < v.growths) × (p.disk < old_count (counts_now v))))
+      pub spot_known : (v.growing ≡ 0) ⊎ ((0 < v.growths) × (p.disk < old_count (counts_now v)))
       spot_known =
           elim (ℕ_discrete v.growing 0) [
-            | yes g ↦ (history_limits v e, inl g)
-            | no g ↦
-                let d = newest_growth (counts_now v) in
-                let r = growth_read v g e d refl in
-                (history_limits v e, inr (has_growth v g e, rw (← old_read r) (spot_asks v g e d refl x h p (spot_in_growth g)).1))
+            | yes g ↦ inl g
+            | no g ↦ inr (has_growth v g e, disk_below v g e (newest v g e) refl refl x h p (spot_in_growth g))
           ]
 
       pub live_told : (r : Spot)
@@ -367,8 +367,5 @@ module _ (v : Volume) (e : sound v ≡ true) where
       live_told r k =
           elim (ℕ_discrete v.growing 0) [
             | yes g ↦ (simp (eq-eqb v.growing 0 g) at k) ∙ (rw (old_at_rest v g) at f) ∙ rest_spot v g x
-            | no g ↦
-                let d = newest_growth (counts_now v) in
-                let n = growth_read v g e d refl in
-                (simp (ne_eqb v.growing 0 g) at k) ∙ (rw (old_read n, added_read n) at (live_read v g e d refl x h p (spot_in_growth g)))
+            | no g ↦ (simp (ne_eqb v.growing 0 g) at k) ∙ live_read v g e (newest v g e) refl refl x h p (spot_in_growth g)
           ]

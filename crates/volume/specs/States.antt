@@ -6,6 +6,7 @@ use Rattle.layout.specs.Tally.{Mode, not_growing, growing, Tally, window_full, l
 use Rattle.layout.specs.Windows.{mark_of, marked_blocks}
 use Rattle.base.specs.Bits.{word_of}
 use Rattle.marks.specs.Words.{marks_of}
+use Rattle.marks.specs.declared.Stage.{Stage}
 use Rattle.medium.specs.declared.Geometry.{Geometry}
 use Rattle.medium.specs.Medium.{Store, no_store, record_store, block_store}
 use Rattle.volume.specs.declared.Pending.{Pending}
@@ -37,6 +38,10 @@ tally_of v =
       copied = marked_blocks v.rows (history_of v) v.window (marks_of v.copied);
       recorded = marked_blocks v.rows (history_of v) v.window (marks_of v.recorded);
     }
+
+-- "growing", w and the two sets of marks
+abbrev pub stage_of : (v : Volume) → Stage
+stage_of v = record { growing = v.growing; window = v.window; recorded = v.recorded; copied = v.copied }
 
 -- ---- what is pending
 

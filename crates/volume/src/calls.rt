@@ -204,11 +204,8 @@ impl Volume {
     {
         self.check_read(x, piece, len)?;
         let old = self.old_spot(x);
-        if self.growing != 0 {
-            let g = layout::newest_growth(&self.counts, self.growths);
-            if marks::is_waiting(g.old, g.added, self.window, self.recorded, self.copied, old) {
-                return Err(Refusal::CopyNotRecorded);
-            }
+        if self.growing != 0 && self.stage().is_waiting(self.newest_growth(), old) {
+            return Err(Refusal::CopyNotRecorded);
         }
         self.check_block_store()?;
         Ok(self.live_spot_from(x, old))

@@ -13,7 +13,7 @@ ghost use Rattle.volume.specs.declared.Told.TheVariants as told;
 
 use super::{Advanced, MarkedSpot, Reply, Told, Volume};
 use base::Refusal;
-use layout::{Block, Part, Spot};
+use layout::{Block, Spot};
 use marks::NextCopy;
 
 impl Volume {
@@ -37,11 +37,10 @@ impl Volume {
         let counts = self.counts;
         let w = self.window;
         let copied = self.copied;
-        if !marks::all_copied(&counts, t, self.rows, w, copied) {
+        if !self.stage().all_copied(self.history()) {
             return self.with_growth(t, counts, self.growing, w, copied, copied);
         }
-        let g = layout::newest_growth(&counts, t);
-        if w + 1 == window::window_count(g.old, g.added, self.rows) {
+        if w + 1 == window::window_count(self.newest_growth(), self.rows) {
             return self.with_growth(t, counts, 0, 0, 0, 0);
         }
         self.with_growth(t, counts, self.growing, w + 1, 0, 0)
@@ -73,8 +72,7 @@ impl Volume {
         requires at_old_spot { p ≡ old_spot self.now.rows (history_of self.now) x.0 }
         ensures { medium.new ≡ apply (geometry self.now) (copy_store self.now x.0 (observe medium.old)) medium.old }
     {
-        let d = layout::newest_growth(&self.counts, self.growths);
-        let to = layout::spot_after(d.old, d.added, self.rows, x.0, p);
+        let to = self.newest_growth().spot_after(self.rows, x.0, p);
         medium::copy_block(medium, self.geometry(), p, to);
     }
 
@@ -102,13 +100,12 @@ impl Volume {
         if self.open_blocks() <= x.0 {
             return Err(Refusal::BlockNotOpen);
         }
-        let t = self.growths;
-        let spot = layout::spot_of(&self.counts, t - 1, self.rows, x);
-        let g = layout::newest_growth(&self.counts, t);
-        if !marks::moves_now(g.old, g.added, self.window, spot) {
+        let spot = self.old_spot(x);
+        let growth = self.newest_growth();
+        if !self.stage().moves_now(growth, spot) {
             return Err(Refusal::NotMoving);
         }
-        let mark = window::mark_of_spot(g.old, g.added, spot);
+        let mark = window::mark_of_spot(growth, spot);
         if marks::has_mark(self.copied, mark) {
             return Err(Refusal::AlreadyCopied);
         }
@@ -161,10 +158,10 @@ impl Volume {
         if let Err(refusal) = self.check_growth(medium.len()) {
             return self.refuse(refusal);
         }
-        let NextCopy::CopyOf(x, part, p, j) = self.next_copy() else {
-            return self.advance_record(medium);
-        };
-        self.advance_copy(medium, x, part, p, j)
+        match self.next_copy() {
+            None => self.advance_record(medium),
+            Some(next) => self.advance_copy(medium, next),
+        }
     }
 
     // The advance that does the checkpoint.
@@ -183,42 +180,29 @@ impl Volume {
         v.after_record().tell(v.checkpoint_told())
     }
 
-    // The advance that copies block x, which is at its old spot p and has mark j.
-    pub(crate) fn advance_copy(
-        self,
-        medium: &mut [u8],
-        x: Block,
-        part: Part,
-        p: Spot,
-        j: usize,
-    ) -> Reply<Told>
+    // The advance that copies a block.
+    pub(crate) fn advance_copy(self, medium: &mut [u8], next: NextCopy) -> Reply<Told>
         requires sound_state { (sound self ≡ true) × (self.growing ≢ 0) }
         requires room { bytes_needed (geometry self) (disks self) ≤ length medium.old }
-        requires next { (next_block (tally_of self) ≡ some x.0) × (part ≡ part_moved self.rows (history_of self) x.0) }
-        requires at_old_spot { (p ≡ old_spot self.rows (history_of self) x.0) × (j ≡ mark_of self.rows (history_of self) x.0) }
+        requires next { (next_block (tally_of self) ≡ some next.block.0) × (next.part ≡ part_moved self.rows (history_of self) next.block.0) }
+        requires at_old_spot { (next.from ≡ old_spot self.rows (history_of self) next.block.0) × (next.mark ≡ mark_of self.rows (history_of self) next.block.0) }
         ensures value { result ≡ (advance_outcome self (observe medium.old)).reply }
         ensures medium_after { medium.new ≡ apply (geometry self) (advance_outcome self (observe medium.old)).store medium.old }
     {
         if let Err(refusal) = self.check_block_store() {
             return self.refuse(refusal);
         }
-        self.store_copy(medium, x, p);
-        self.with_mark(j)
+        self.store_copy(medium, next.block, next.from);
+        self.with_mark(next.mark)
             .after_block()
-            .tell(Advanced::Copied(x, part))
+            .tell(Advanced::Copied(next.block, next.part))
     }
 
-    // The block to copy next.
-    pub(crate) fn next_copy(&self) -> NextCopy
+    // The block to copy next, if one is left in the window.
+    pub(crate) fn next_copy(&self) -> Option<NextCopy>
         requires sound_state { (sound self.now ≡ true) × (self.now.growing ≢ 0) }
         ensures { result ≡ as_next_copy self.now.rows (history_of self.now) (next_block (tally_of self.now)) }
     {
-        marks::next_copy(
-            &self.counts,
-            self.growths,
-            self.rows,
-            self.window,
-            self.copied,
-        )
+        self.stage().next_copy(self.history())
     }
 }

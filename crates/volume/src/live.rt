@@ -1,16 +1,16 @@
 // Open blocks, live spots and advance calls left of a sound state.
-ghost use Rattle.std.specs.Prelude.{◌≡◌, true, ◌-◌, ◌≤◌, ◌<◌};
-ghost use Rattle.layout.specs.History.{history, Within, spot_of};
-ghost use Rattle.layout.specs.Limits.{most_disks};
+ghost use Rattle.std.specs.Prelude.{◌≡◌, true, ◌≢◌, ◌-◌, ◌≤◌, ◌<◌};
+ghost use Rattle.layout.specs.History.{history, Within, old_count, added_count, spot_of};
+ghost use Rattle.layout.specs.Limits.{Limits, most_disks};
 ghost use Rattle.layout.specs.Tally.{open_blocks, live_spot_of, live_block_of, live_address_of, calls_left_of};
 ghost use Rattle.marks.specs.Marks.{as_live_block};
 ghost use Rattle.volume.specs.Calls.{too_short};
 ghost use Rattle.volume.specs.Sound.{sound};
-ghost use Rattle.volume.specs.States.{geometry, history_of, disks, tally_of};
+ghost use Rattle.volume.specs.States.{geometry, history_of, disks, stage_of, tally_of};
 
 use super::Volume;
-use layout::{Address, Block, Spot};
-use marks::LiveBlock;
+use layout::{Address, Block, GrowthDisks, History, Spot};
+use marks::Stage;
 use medium::Geometry;
 
 impl Volume {
@@ -22,6 +22,41 @@ impl Volume {
             size: self.size,
             rows: self.rows,
         }
+    }
+
+    // N[0] to N[t] and s.
+    pub(crate) fn history(&self) -> History<'_>
+        requires { Limits self.now.rows (history_of self.now) }
+        ensures counts { result.counts.now ≡ self.now.counts }
+        ensures growths { result.growths ≡ self.now.growths }
+        ensures rows { result.rows ≡ self.now.rows }
+    {
+        History {
+            counts: &self.counts,
+            growths: self.growths,
+            rows: self.rows,
+        }
+    }
+
+    // Growing, w and the marks.
+    pub(crate) fn stage(&self) -> Stage
+        ensures { result ≡ stage_of self.now }
+    {
+        Stage {
+            growing: self.growing,
+            window: self.window,
+            recorded: self.recorded,
+            copied: self.copied,
+        }
+    }
+
+    // m and n of the growth under way.
+    pub(crate) fn newest_growth(&self) -> GrowthDisks
+        requires { (sound self.now ≡ true) × (self.now.growing ≢ 0) }
+        ensures old { result.old ≡ old_count (history self.now.growths self.now.counts) }
+        ensures added { result.added ≡ added_count (history self.now.growths self.now.counts) }
+    {
+        self.history().newest_growth()
     }
 
     // N[t]; 0 where t is above its limit.
@@ -61,7 +96,12 @@ impl Volume {
         requires x_bound { x.0 < open_blocks (tally_of self.now) }
         ensures { result ≡ spot_of self.now.rows (history (self.now.growths - self.now.growing) self.now.counts) x.0 }
     {
-        layout::spot_of(&self.counts, self.growths - self.growing, self.rows, x)
+        let before = History {
+            counts: &self.counts,
+            growths: self.growths - self.growing,
+            rows: self.rows,
+        };
+        before.spot_of(x)
     }
 
     // The live spot of block x, whose old spot this is.
@@ -72,17 +112,7 @@ impl Volume {
         requires at_old_spot { old ≡ spot_of self.now.rows (history (self.now.growths - self.now.growing) self.now.counts) x.0 }
         ensures { result ≡ live_spot_of (tally_of self.now) x.0 }
     {
-        let t = self.growths;
-        marks::live_spot(
-            &self.counts,
-            t,
-            self.rows,
-            self.growing,
-            self.window,
-            self.recorded,
-            x,
-            old,
-        )
+        self.stage().live_spot(self.history(), x, old)
     }
 
     // The live spot of block x.
@@ -100,42 +130,25 @@ impl Volume {
         requires x_bound { x.0 < open_blocks (tally_of self.now) }
         ensures { result ≡ live_address_of (tally_of self.now) x.0 }
     {
-        let t = self.growths;
         if self.growing == 0 {
-            return layout::address_of(&self.counts, t, self.rows, x);
+            return self.history().address_of(x);
         }
-        let old = layout::address_of(&self.counts, t - 1, self.rows, x);
-        let g = layout::newest_growth(&self.counts, t);
-        marks::address_from(
-            g.old,
-            g.added,
-            self.rows,
-            t,
-            self.window,
-            self.recorded,
-            x,
-            old,
-        )
+        let old = self.history().earlier().address_of(x);
+        let growth = self.newest_growth();
+        self.stage()
+            .address_from(growth, self.rows, self.growths, x, old)
     }
 
-    // The block that lives at p.
-    pub(crate) fn live_block(&self, p: Spot) -> LiveBlock
+    // The block that lives at p, if one does.
+    pub(crate) fn live_block(&self, p: Spot) -> Option<Block>
         requires sound_state { sound self.now ≡ true }
         requires within { Within self.now.rows (history_of self.now) p }
         ensures { result ≡ as_live_block (live_block_of (tally_of self.now) p) }
     {
         if self.growing == 0 {
-            return LiveBlock::Lives(layout::block_at(&self.counts, self.growths, self.rows, p));
+            return Some(self.history().block_at(p));
         }
-        let recorded = self.recorded;
-        marks::live_block(
-            &self.counts,
-            self.growths,
-            self.rows,
-            self.window,
-            recorded,
-            p,
-        )
+        self.stage().live_block(self.history(), p)
     }
 
     // The number of advance calls left.
@@ -143,14 +156,6 @@ impl Volume {
         requires { sound self.now ≡ true }
         ensures { result ≡ calls_left_of (tally_of self.now) }
     {
-        let t = self.growths;
-        marks::calls_left(
-            &self.counts,
-            t,
-            self.rows,
-            self.growing,
-            self.window,
-            self.copied,
-        )
+        self.stage().calls_left(self.history())
     }
 }

@@ -7,7 +7,6 @@ ghost use Rattle.volume.specs.States.{disks};
 use super::{Reply, Volume};
 use base::Refusal;
 use layout::{Address, Block, Spot};
-use marks::LiveBlock;
 
 impl Volume {
     pub(crate) fn check_address(&self, x: Block) -> Result<(), Refusal>
@@ -53,10 +52,7 @@ impl Volume {
         if self.is_outside(p) {
             return Err(Refusal::NoSuchSpot);
         }
-        let LiveBlock::Lives(x) = self.live_block(p) else {
-            return Err(Refusal::NoBlockThere);
-        };
-        Ok(x)
+        self.live_block(p).ok_or(Refusal::NoBlockThere)
     }
 
     // The block that lives at spot p.

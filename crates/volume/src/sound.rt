@@ -45,16 +45,13 @@ impl Volume {
         requires { Limits self.now.rows (history_of self.now) }
         ensures { result ≡ stage_holds self.now }
     {
-        let w = self.window;
-        let recorded = self.recorded;
-        let copied = self.copied;
         if self.growing == 0 {
-            return marks::at_rest(w, recorded, copied);
+            return self.stage().at_rest();
         }
         if self.growing != 1 {
             return false;
         }
-        marks::in_growth(&self.counts, self.growths, self.rows, w, recorded, copied)
+        self.stage().in_growth(self.history())
     }
 
     // Is the state sound, whatever is pending?

@@ -34,13 +34,13 @@ advance_record-requires c =
     record {
       sound_state = (a.is_sound, a.is_growing);
       room = a.room;
-      next = next_none _ _ _ (sym c.next_copy.ensures ∙ c.in_default-next_copy.is);
+      next = next_none _ _ _ (sym c.next_copy.ensures ∙ c.in-None.is);
     }
 
 pub advance_copy-requires : goal.advance_copy-requires
 advance_copy-requires c =
     let a = accepted (goal.at.advance_copy-requires c).In_default in
-    let n = next_some _ _ _ _ _ _ _ (sym c.next_copy.ensures ∙ c.in-CopyOf.is) in
+    let n = next_some _ _ _ _ (sym c.next_copy.ensures ∙ c.in-Some.is) in
     record {
       sound_state = (a.is_sound, a.is_growing);
       room = a.room;

@@ -22,7 +22,7 @@ growth_facts c =
       is_growing = c.requires.sound_state.1;
     }
 
-facts : (c : Start) → CopyFacts c.args.self c.args.x.0 (length c.args.medium.now)
+facts : (c : Start) → CopyFacts c.args.self c.args.next.block.0 (length c.args.medium.now)
 facts c = next_facts _ _ _ (growth_facts c) c.requires.next.0
 
 -- the last test is that of the table
@@ -50,7 +50,7 @@ store_copy-requires c =
 pub with_mark-requires : goal.with_mark-requires
 with_mark-requires c = copied_asks _ _ _ (facts (goal.at.with_mark-requires c).Start) _ c.requires.at_old_spot.1
 
-copied : (c : After-with_mark) → let a = c.args in c.with_mark.result ≡ with_copy a.self a.x.0
+copied : (c : After-with_mark) → let a = c.args in c.with_mark.result ≡ with_copy a.self a.next.block.0
 copied c = c.with_mark.ensures ∙ copied_at _ _ _ c.requires.at_old_spot.1
 
 pub tell-requires : goal.tell-requires
@@ -58,7 +58,7 @@ unfolding pending_with copy_store
 tell-requires c =
     let a = c.args in
     let f = facts (goal.at.tell-requires c).Start in
-    sound_after _ _ _ (copy_store a.self a.x.0 (observe a.medium.now)) (copied (goal.at.tell-requires c).After-with_mark) c.after_block.ensures
+    sound_after _ _ _ (copy_store a.self a.next.block.0 (observe a.medium.now)) (copied (goal.at.tell-requires c).After-with_mark) c.after_block.ensures
     (copied_sound _ _ f.advances.is_sound f.advances.is_growing f.moves)
 
 pub returns : goal.returns

@@ -1,9 +1,17 @@
 -- `calls_left` meets its contract.
 use Rattle.volume.proofs.LiveCode.{calls_asks, calls_told}
+use Rattle.volume.proofs.SoundLaws.{sound_facts}
 use Rattle.volume.proofs.Volume.calls_left.Goals as goal
 
+pub history-requires : goal.history-requires
+history-requires c = (sound_facts _ c.requires).limits
+
 pub calls_left-requires : goal.calls_left-requires
-calls_left-requires c = let h = calls_asks c.args.self.now c.requires in record { limits = h.0; while_growing = h.1 }
+calls_left-requires c =
+    let e = c.history.ensures in
+    record { while_growing = rw (c.stage.ensures, e.growths, e.counts, e.rows) (calls_asks c.args.self.now c.requires) }
 
 pub returns : goal.returns
-returns c = calls_told c.args.self.now _ c.calls_left.ensures
+returns c =
+    let e = c.history.ensures in
+    calls_told c.args.self.now _ (rw (c.stage.ensures, e.growths, e.counts, e.rows) at c.calls_left.ensures)

@@ -1,50 +1,50 @@
 -- `checkpointed` meets its contract.
-use mathlib.Core.Path.{◌∙◌}
-use native.Mathlib.Omega.{arith}
-use Rattle.layout.proofs.HistoryCode.{newest_old}
-use Rattle.layout.proofs.NewestCode.{newest_asks, newest_grows}
+use Rattle.std.proofs.Common.{◌≡◌, ◌∙◌, arith}
+use Rattle.layout.specs.Windows.{marked_blocks, all_copied}
+use Rattle.marks.specs.Words.{marks_of}
 use Rattle.volume.proofs.GrowthCode.{marks_recorded, growth_finished, window_finished, window_most}
-use Rattle.volume.proofs.LiveCode.{history_limits, has_growth, window_below}
+use Rattle.volume.proofs.LiveCode.{counts_now, has_growth, window_below}
+use Rattle.volume.proofs.SoundLaws.{sound_facts}
 use Rattle.volume.proofs.Volume.checkpointed.Goals as goal
+use Rattle.volume.proofs.Volume.checkpointed.Goals.{After-all_copied}
+
+pub history-requires : goal.history-requires
+history-requires c = (sound_facts _ c.requires.0).limits
 
 pub all_copied-requires : goal.all_copied-requires
 all_copied-requires c =
+    let e = c.history.ensures in
     record {
-      limits = history_limits _ c.requires.0;
-      t_nonzero = (has_growth _ c.requires.1 c.requires.0, window_below _ c.requires.1 c.requires.0);
+      grown = rw e.growths (has_growth _ c.requires.1 c.requires.0);
+      window = rw (c.stage.ensures, e.growths, e.counts, e.rows) (window_below _ c.requires.1 c.requires.0);
     }
 
-pub returns-then-not-all_copied : goal.returns-then-not-all_copied
-returns-then-not-all_copied c = c.with_growth.ensures ∙ marks_recorded _ _ c.all_copied.ensures (c.if-not-all_copied.true)
+-- whether all are copied
+full : (c : After-all_copied)
+    → let v = c.args.self in
+    c.all_copied.result ≡ all_copied v.rows (counts_now v) v.window (marked_blocks v.rows (counts_now v) v.window (marks_of v.copied))
+full c = let e = c.history.ensures in rw (c.stage.ensures, e.growths, e.counts, e.rows) at c.all_copied.ensures
 
-pub newest_growth-g-requires : goal.newest_growth-g-requires
-newest_growth-g-requires c =
-    newest_asks _ _ _ (has_growth _ c.requires.1 c.requires.0) (history_limits _ c.requires.0)
+pub returns-then-not-all_copied : goal.returns-then-not-all_copied
+returns-then-not-all_copied c =
+    c.with_growth.ensures ∙ marks_recorded _ _ (full (goal.at.returns-then-not-all_copied c).After-all_copied) (c.if-not-all_copied.true)
 
 pub overflow_add-w : goal.overflow_add-w
 overflow_add-w c = omega (arith, window_most _ c.requires.0 c.requires.1)
 
-pub window_count-requires : goal.window_count-requires
-window_count-requires c =
-    let l = history_limits _ c.requires.0 in
-    record {
-      grows = newest_grows _ _ l (newest_old _ _ _ (has_growth _ c.requires.1 c.requires.0) l) _ c.newest_growth-g.ensures;
-      s_le_most_rows = l.rows_most;
-    }
-
 pub returns-then-w-window_count : goal.returns-then-w-window_count
 returns-then-w-window_count c =
-    let a = c.all_copied.ensures in
-    let f = c.if-not-all_copied.false in
-    let g = c.newest_growth-g.ensures in
-    c.with_growth-then-w-window_count.ensures ∙ growth_finished _ _ a f _ g _ c.window_count.ensures c.if-w-window_count.true
+    let a = full (goal.at.returns-then-w-window_count c).After-all_copied in
+    let g = c.newest_growth.ensures in
+    c.with_growth-then-w-window_count.ensures
+    ∙ growth_finished _ _ a c.if-not-all_copied.false c.newest_growth.result g.old g.added _ c.window_count.ensures c.if-w-window_count.true
 
 pub overflow_add-w-2 : goal.overflow_add-w-2
 overflow_add-w-2 c = omega (arith, window_most _ c.requires.0 c.requires.1)
 
 pub returns : goal.returns
 returns c =
-    let a = c.all_copied.ensures in
-    let f = c.if-not-all_copied.false in
-    let g = c.newest_growth-g.ensures in
-    c.with_growth-2.ensures ∙ window_finished _ _ a f _ g _ c.window_count.ensures c.if-w-window_count.false
+    let a = full (goal.at.returns c).After-all_copied in
+    let g = c.newest_growth.ensures in
+    c.with_growth-2.ensures
+    ∙ window_finished _ _ a c.if-not-all_copied.false c.newest_growth.result g.old g.added _ c.window_count.ensures c.if-w-window_count.false

@@ -6,7 +6,7 @@ use Rattle.layout.specs.History.{Within}
 use Rattle.volume.specs.Calls.{holder_table, holder_reply}
 use Rattle.volume.specs.Sound.{sound}
 use Rattle.volume.specs.States.{history_of}
-use Rattle.volume.proofs.HolderCode.{holder_outside, spot_within, holder_nothing, holder_block}
+use Rattle.volume.proofs.HolderCode.{holder_outside, spot_within, holder_told}
 use Rattle.volume.proofs.Volume.holder_answer.Goals as goal
 use Rattle.volume.proofs.Volume.holder_answer.Goals.{Else-is_outside, Else-not-is_sound}
 
@@ -35,12 +35,7 @@ live_block-requires c =
       within = within (goal.at.live_block-requires c).Else-is_outside;
     }
 
-pub returns-in_default : goal.returns-in_default
-returns-in_default c =
-    holder_nothing _ _ (is_sound (goal.at.returns-in_default c).Else-not-is_sound)
-    (within (goal.at.returns-in_default c).Else-is_outside) (sym c.live_block.ensures ∙ c.in_default.is)
-
 pub returns : goal.returns
 returns c =
-    holder_block _ _ (is_sound (goal.at.returns c).Else-not-is_sound)
-    (within (goal.at.returns c).Else-is_outside) _ (sym c.live_block.ensures ∙ c.in-Lives.is)
+    c.ok_or.ensures.value
+    ∙ rw c.live_block.ensures (holder_told _ _ (is_sound (goal.at.returns c).Else-not-is_sound) (within (goal.at.returns c).Else-is_outside))

@@ -6,16 +6,14 @@ use Rattle.volume.proofs.Volume.stage_holds.Goals as goal
 
 pub returns-then-self-eq0 : goal.returns-then-self-eq0
 unfolding stage_holds
-returns-then-self-eq0 c = simp (eq-eqb _ _ c.if-self-eq0.true) c.at_rest.ensures
+returns-then-self-eq0 c = simp (eq-eqb _ _ c.if-self-eq0.true) (rw c.stage.ensures at c.at_rest.ensures)
 
 pub returns-then-self-ne1 : goal.returns-then-self-ne1
 unfolding stage_holds
 returns-then-self-ne1 c = simp (ne_eqb _ _ c.if-self-eq0.false, ne_eqb _ _ c.if-self-ne1.true)
 
-pub in_growth-requires : goal.in_growth-requires
-unfolding history_of
-in_growth-requires c = c.requires
-
 pub returns : goal.returns
 unfolding stage_holds history_of
-returns c = simp (ne_eqb _ _ c.if-self-eq0.false, eq-eqb _ _ c.if-self-ne1.false) c.in_growth.ensures
+returns c =
+    let e = c.history.ensures in
+    simp (ne_eqb _ _ c.if-self-eq0.false, eq-eqb _ _ c.if-self-ne1.false) (rw (c.stage-2.ensures, e.growths, e.counts, e.rows) at c.in_growth.ensures)
