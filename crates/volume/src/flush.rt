@@ -8,30 +8,31 @@ use super::{Pending, Reply, Told, Volume};
 use base::Refusal;
 
 impl Volume {
+    // The same volume with this pending.
+    pub(crate) fn with_pending(self, pending: Pending) -> Volume
+        ensures { result ≡ with_pending self pending }
+    {
+        Volume { pending, ..self }
+    }
+
     // The state after a store of the record.
     pub(crate) fn after_record(self) -> Volume
         ensures { result ≡ with_pending self (record_pending self.pending) }
     {
-        Volume {
-            pending: Pending {
-                records: true,
-                ..self.pending
-            },
-            ..self
-        }
+        self.with_pending(Pending {
+            records: true,
+            ..self.pending
+        })
     }
 
     // The state after a store of a block.
     pub(crate) fn after_block(self) -> Volume
         ensures { result ≡ with_pending self (block_pending self.pending) }
     {
-        Volume {
-            pending: Pending {
-                blocks: true,
-                ..self.pending
-            },
-            ..self
-        }
+        self.with_pending(Pending {
+            blocks: true,
+            ..self.pending
+        })
     }
 
     // The last test of a call that stores a block.
@@ -62,13 +63,10 @@ impl Volume {
         if !self.is_sound() {
             return self.refuse(Refusal::NotSound);
         }
-        let v = Volume {
-            pending: Pending {
-                records: false,
-                blocks: false,
-            },
-            ..self
-        };
+        let v = self.with_pending(Pending {
+            records: false,
+            blocks: false,
+        });
         v.accept(Told::Done)
     }
 }

@@ -189,8 +189,8 @@ impl Volume {
         ensures value { result ≡ (advance_outcome self (observe medium.old)).reply }
         ensures medium_after { medium.new ≡ apply (geometry self) (advance_outcome self (observe medium.old)).store medium.old }
     {
-        if let Err(refusal) = self.check_block_store() {
-            return self.refuse(refusal);
+        if let Err(waits) = self.check_block_store() {
+            return self.refuse(waits);
         }
         self.store_copy(medium, next.block, next.from);
         self.with_mark(next.mark)

@@ -22,4 +22,4 @@ unfolding flushed_outcome flushed_table refusal flushed_effect doing pending_wit
 returns c =
     let v = c.args.self in
     let e : sound v ≡ true = sym c.is_sound.ensures ∙ c.if-not-is_sound.false in
-    accepted_reply (flushed_table v) v [] (flushed_effect v) (simp e) _ c.accept.ensures
+    accepted_reply (flushed_table v) v [] (flushed_effect v) (simp e) _ (rw c.with_pending-v.ensures at c.accept.ensures)

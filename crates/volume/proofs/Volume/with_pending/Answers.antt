@@ -1,7 +1,7 @@
--- `after_record` meets its contract.
+-- `with_pending` meets its contract.
 use mathlib.Core.Path.{refl}
 use Rattle.volume.specs.States.{with_pending}
-use Rattle.volume.proofs.Volume.after_record.Goals as goal
+use Rattle.volume.proofs.Volume.with_pending.Goals as goal
 
 pub returns : goal.returns
 unfolding with_pending

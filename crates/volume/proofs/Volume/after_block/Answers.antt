@@ -1,8 +1,0 @@
--- `after_block` meets its contract.
-use mathlib.Core.Path.{refl}
-use Rattle.volume.specs.States.{with_pending}
-use Rattle.volume.proofs.Volume.after_block.Goals as goal
-
-pub returns : goal.returns
-unfolding with_pending
-returns c = refl
