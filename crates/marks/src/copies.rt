@@ -1,6 +1,7 @@
 // What is left to copy in a window of a growth.
-ghost use Rattle.std.specs.Prelude.{◌≡◌, false, cond, not, ◌&&◌, ◌⊎◌, ◌<◌, ◌*◌, eqb, get_or, IfNone, IfSome};
+ghost use Rattle.std.specs.Prelude.{◌≡◌, false, cond, not, ◌&&◌, ◌⊎◌, ◌<◌, ◌≤◌, ◌*◌, eqb, get_or, IfNone, IfSome};
 ghost use Rattle.base.specs.Below.{count};
+ghost use Rattle.layout.specs.Limits.{most_rows};
 ghost use Rattle.layout.specs.History.{history, old_count, added_count};
 ghost use Rattle.layout.specs.Windows.{windows, row_exists, marked_blocks, next_of_window, all_copied, calls_left, calls_left_by_marks};
 ghost use Rattle.marks.specs.Marks.{moving_marks, difference, first_unmarked, as_next_copy};
@@ -39,12 +40,13 @@ fn unmarked(window: Window, marks: usize) -> usize
 
 // U + R - w of the growth of window w, from the marks of the copied blocks of the window.
 fn calls_left_by_marks(window: Window, marks: usize) -> usize
-    requires { window.number < windows window.growth.old window.growth.added window.rows }
+    requires rows { window.rows ≤ most_rows }
+    requires number { window.number < windows window.growth.old window.growth.added window.rows }
     ensures { result ≡ calls_left_by_marks window.growth.old window.growth.added window.rows window.number (marks_of marks) }
 {
     let all = window::window_count(window.growth, window.rows);
     let here = unmarked(window, marks);
-    let later = window.later_moves();
+    let later = window::later_moves(window.growth, window.rows, window.number);
     here + later + all - window.number
 }
 

@@ -19,7 +19,6 @@ pub struct Window {
     pub growth: GrowthDisks,
     pub rows: usize,
     pub number: usize,
-    pub ghost rows_most: { rows ≤ most_rows },
     pub ghost number_most: { number ≤ most_rows },
 }
 
@@ -50,19 +49,6 @@ impl Window {
             return true;
         }
         start + (j / n + j % n) < self.rows
-    }
-
-    // The moving blocks of the windows after this one.
-    pub fn later_moves(self) -> usize
-        ensures { result ≡ later_moves self.growth.old self.growth.added self.rows self.number }
-    {
-        let GrowthDisks { old, added } = self.growth;
-        let k = self.growth.disks();
-        let whole = self.rows / k;
-        if whole <= self.number {
-            return 0;
-        }
-        (whole - (self.number + 1)) * (old * added) + cut_moves(self.growth, self.rows % k)
     }
 }
 
@@ -123,4 +109,17 @@ pub fn moves_of_window(h: History, w: usize) -> usize
         return growth.old * growth.added;
     }
     cut_moves(growth, rest)
+}
+
+// The moving blocks of the windows after w, with s rows.
+pub fn later_moves(growth: GrowthDisks, s: usize, w: usize) -> usize
+    requires { s ≤ most_rows }
+    ensures { result ≡ later_moves growth.old growth.added s w }
+{
+    let k = growth.disks();
+    let whole = s / k;
+    if whole <= w {
+        return 0;
+    }
+    (whole - (w + 1)) * (growth.old * growth.added) + cut_moves(growth, s % k)
 }

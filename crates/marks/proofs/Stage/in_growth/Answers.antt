@@ -47,7 +47,6 @@ invariant_of-moving_marks c =
     let r = read (goal.at.invariant_of-moving_marks c).After-window_count in
     let a = c.args.h.within_limits in
     record {
-      rows_most = a.rows_most;
       number_most = window_most _ _ _ a (some_old r) (one_window r _ _ c.window_count.ensures [] [] c.if-window_count-self.false);
     }
 

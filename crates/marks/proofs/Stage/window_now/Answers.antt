@@ -7,4 +7,4 @@ pub invariant_of-result : goal.invariant_of-result
 invariant_of-result c =
     let h = c.args.h in
     let a = h.within_limits in
-    record { rows_most = a.rows_most; number_most = window_most _ _ _ a (newest_old _ _ _ c.requires.grown a) c.requires.window }
+    record { number_most = window_most _ _ _ a (newest_old _ _ _ c.requires.grown a) c.requires.window }

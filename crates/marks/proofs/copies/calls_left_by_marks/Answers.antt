@@ -11,7 +11,7 @@ most c =
     let v = c.args.window in
     let g = v.growth in
     let here : c.unmarked-here.result ≤ g.old * g.added = rw c.unmarked-here.ensures (count_most _ _) in
-    let later : c.later_moves-later.result ≤ 64_000_256 = rw c.later_moves-later.ensures (later_most _ _ g.within_limits _ _ v.rows_most) in
+    let later : c.later_moves-later.result ≤ 64_000_256 = rw c.later_moves-later.ensures (later_most _ _ g.within_limits _ _ c.requires.rows) in
     omega (arith, marks_most _ _ g.within_limits.most)
 
 pub overflow_add-result : goal.overflow_add-result
@@ -21,7 +21,7 @@ pub overflow_add-result-2 : goal.overflow_add-result-2
 overflow_add-result-2 c =
     let v = c.args.window in
     let m = most (goal.at.overflow_add-result-2 c).After-later_moves-later in
-    omega (arith, m, c.window_count-all.ensures, windows_most v.growth.old v.growth.added v.rows v.growth.within_limits.added, v.rows_most)
+    omega (arith, m, c.window_count-all.ensures, windows_most v.growth.old v.growth.added v.rows v.growth.within_limits.added, c.requires.rows)
 
 pub returns : goal.returns
 unfolding calls_left_by_marks
