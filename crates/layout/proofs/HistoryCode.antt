@@ -8,7 +8,7 @@ use Rattle.layout.specs.declared.Reason.{Reason}
 use Rattle.layout.specs.declared.Reason.TheVariants.{AddedBy}
 use Rattle.layout.specs.declared.Spot.{Spot}
 use Rattle.layout.specs.Growth.{moves_from, old_block_spot, added_spot, spot_after, old_change, change_of, added_index, spot_before, block_after}
-use Rattle.layout.specs.History.{Within, There, NotBefore, history, disk_count, earlier, old_count, added_count, rising, spot_of, block_at}
+use Rattle.layout.specs.History.{Within, There, NotBefore, history, disk_count, earlier, old_count, added_count, newest_growth, rising, spot_of, block_at}
 use Rattle.layout.specs.Limits.{Limits, Grows, most_disks, most_growths, most_rows}
 use Rattle.layout.specs.Reasons.{reason_after, placed_reason, reason_of, move_count_of, moves_after}
 use Rattle.layout.specs.Windows.{old_spot, moving}
@@ -342,6 +342,11 @@ block_first s (suc k) l p b h e = omega arith
 
 -- ---- the newest growth, to k = j + 1 growths
 
+pub newest_is : (j k : ℕ) (l : List ℕ) → k ≡ suc j
+    → ◌≡◌ {A = ℕ × ℕ} (get_or l j 0, get_or l k 0 - get_or l j 0) (newest_growth (history k l))
+unfolding newest_growth old_count added_count earlier disk_count
+newest_is j k l e = rw (e, history_two j l)
+
 pub newest_old_is : (j k : ℕ) (l : List ℕ) → k ≡ suc j → get_or l j 0 ≡ old_count (history k l)
 unfolding old_count earlier disk_count
 newest_old_is j k l e = rw (e, history_two j l)
@@ -355,3 +360,8 @@ pub newest_old : (s t : ℕ) (l : List ℕ) → 0 < t → Limits s (history t l)
 unfolding old_count earlier disk_count
 newest_old s zero l h a = absurd (omega arith)
 newest_old s (suc j) l h a = rw (history_two j l) (grows s j l a).old
+
+-- and it is within the limits
+pub newest_grows : (s t : ℕ) (l : List ℕ) → 0 < t → Limits s (history t l) → Grows (old_count (history t l)) (added_count (history t l))
+newest_grows s zero l h a = absurd (omega arith)
+newest_grows s (suc j) l h a = rw (← newest_old_is j (suc j) l refl, ← newest_added_is j (suc j) l refl) (grows s j l a)

@@ -27,6 +27,10 @@ old_count h = disk_count (earlier h)
 unfoldable pub added_count : (h : List ℕ) → ℕ
 added_count h = disk_count h - old_count h
 
+-- both
+unfoldable pub newest_growth : (h : List ℕ) → ℕ × ℕ
+newest_growth h = (old_count h, added_count h)
+
 -- "disk counts, strictly rising", at least 1
 unfoldable pub rising : (h : List ℕ) → Bool
 rising [] = false

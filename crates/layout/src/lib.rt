@@ -9,7 +9,7 @@ mod growth;
 mod history;
 
 pub use growth::GrowthDisks;
-pub use history::History;
+pub use history::{History, newest_growth};
 
 // Document 01's block: an address in the volume.
 #[derive(Clone, Copy, PartialEq, Eq, Debug)]
