@@ -7,13 +7,13 @@ use native.Mathlib.Nat.{zero-add}
 use native.Mathlib.Numerals.{add-one}
 use native.Mathlib.Omega.{arith}
 use lib.Dec.{eqb}
-use lib.ListN.{length, take, drop, get_or, set, replicate, length-set, drop_of_length-le}
+use lib.ListN.{length, take, drop, get_or, set, replicate, length-set, length-take, drop_of_length-le}
 use lib.Seq.{sets, drop-cons, get_or-set_same, drop-set-lt, append_snoc}
 use Rattle.base.specs.Below.{table}
-use Rattle.base.proofs.Lists.{sets_append, part_back_law, lent_length, joined_next}
+use Rattle.base.proofs.Lists.{sets_append, part_back_law, lent_length, joined_next, front_stored, whole_stored}
 use Rattle.record.specs.Decimal.{space, column_width, last_digit, leading, decimal}
 use Rattle.record.specs.Sector.{column_count, growths, mark_count, mark_byte, line_feed, field, columns, mark_bytes, ending, sector}
-use Rattle.record.proofs.Lengths.{length_field, length_columns, length_marks}
+use Rattle.record.proofs.Lengths.{length_field, length_columns, length_marks, length_sector}
 
 -- ---- a number in a part
 
@@ -83,3 +83,14 @@ sector_parts m numbers marks =
       sets_append (sets m 0 (columns numbers column_count)) 130 (mark_bytes marks mark_count) ending,
       length_marks marks mark_count,
     )
+
+-- the first 512 bytes of a page with the record in them, and the rest of the page
+pub sector_on_page : (m l numbers : List ℕ) (marks : List Bool) → 512 ≤ length m → l ≡ sets (take 512 m) 0 (sector numbers marks)
+    → l ++ drop 512 m ≡ sets m 0 (sector numbers marks)
+sector_on_page m l numbers marks h e =
+    let s = sector numbers marks in
+    let long : length s ≡ 512 = length_sector numbers marks in
+    let front : length s ≡ length (take 512 m) = simp (long, length-take) (omega arith) in
+    let stored : l ≡ s = e ∙ whole_stored (take 512 m) s front in
+    let fits : length s ≤ length m = rw long h in
+    rw stored (rw long at (front_stored m s fits))

@@ -6,6 +6,7 @@ ghost use Rattle.record.specs.Sector.{is_blank};
 use super::Column;
 
 // Is column i, where t growths were made, one of the counts after N[t]? N[k] is column 3 + k.
+#[tactic(auto, unfolding(crate::specs::Sector::is_blank))]
 pub fn is_blank(t: usize, i: usize) -> bool
     ensures { result ≡ is_blank t i }
 {
@@ -34,6 +35,7 @@ pub fn put_number(page: &mut [u8], n: usize)
 }
 
 // What is found with one byte more.
+#[tactic(auto, unfolding(crate::specs::Decimal::column_step, crate::specs::Decimal::is_digit))]
 fn column_step(c: Column, b: u8) -> Column
     requires { value_of c < 10 ^ 10 }
     ensures { result ≡ column_step c b }

@@ -7,13 +7,12 @@ use super::Record;
 use super::columns::{is_blank, put_number};
 
 // Writes column i: the number n, or spaces.
-fn put_field(page: &mut [u8], t: usize, i: usize, n: usize)
-    requires i_bound { i < 13 }
-    requires in_bounds { 512 ≤ length page.old }
-    ensures { page.new ≡ sets page.old (i * 10) (field t i n) }
+fn put_field(bytes: &mut [u8; 512], t: usize, i: usize, n: usize)
+    requires { i < 13 }
+    ensures { bytes.new ≡ sets bytes.old (i * 10) (field t i n) }
 {
     let at = i * 10;
-    let column = &mut page[at..at + 10];
+    let column = &mut bytes[at..at + 10];
     if is_blank(t, i) {
         column.fill(b' ');
     } else {
@@ -22,33 +21,30 @@ fn put_field(page: &mut [u8], t: usize, i: usize, n: usize)
 }
 
 // Writes the thirteen columns.
-fn put_columns(page: &mut [u8], numbers: &[usize; 13])
-    requires { 512 ≤ length page.old }
-    ensures { page.new ≡ sets page.old 0 (columns numbers.now 13) }
+fn put_columns(bytes: &mut [u8; 512], numbers: &[usize; 13])
+    ensures { bytes.new ≡ sets bytes.old 0 (columns numbers.now 13) }
 {
     let t = numbers[2];
     for (i, n) in numbers.iter().enumerate() {
-        put_field(page, t, i, *n);
+        put_field(bytes, t, i, *n);
     }
 }
 
 // Writes the marks, from byte 130.
-fn put_marks(page: &mut [u8], marks: &[bool; 64])
-    requires { 512 ≤ length page.old }
-    ensures { page.new ≡ sets page.old 130 (mark_bytes marks.now 64) }
+fn put_marks(bytes: &mut [u8; 512], marks: &[bool; 64])
+    ensures { bytes.new ≡ sets bytes.old 130 (mark_bytes marks.now 64) }
 {
     for (i, mark) in marks.iter().enumerate() {
-        page[130 + i] = if *mark { b'1' } else { b'0' };
+        bytes[130 + i] = if *mark { b'1' } else { b'0' };
     }
 }
 
 // Writes the spaces from byte 194, and the line feed.
-fn put_ending(page: &mut [u8])
-    requires { 512 ≤ length page.old }
-    ensures { page.new ≡ sets page.old 194 ending }
+fn put_ending(bytes: &mut [u8; 512])
+    ensures { bytes.new ≡ sets bytes.old 194 ending }
 {
-    page[194..511].fill(b' ');
-    page[511] = b'\n';
+    bytes[194..511].fill(b' ');
+    bytes[511] = b'\n';
 }
 
 // Writes the record into the first 512 bytes of a lent page, and leaves the rest as it was.
@@ -56,7 +52,8 @@ pub fn write_record(page: &mut [u8], held: &Record)
     requires { 512 ≤ length page.old }
     ensures { page.new ≡ sets page.old 0 (sector held.now.numbers held.now.marks) }
 {
-    put_columns(page, &held.numbers);
-    put_marks(page, &held.marks);
-    put_ending(page);
+    let bytes = page.first_chunk_mut::<512>().unwrap();
+    put_columns(bytes, &held.numbers);
+    put_marks(bytes, &held.marks);
+    put_ending(bytes);
 }

@@ -69,7 +69,7 @@ abbrev one_copy : List DirectEvent
 one_copy = ends (grow 2) ∷ ends (copy 0) ∷ ends restart ∷ []
 
 copies_tested : growth_test keeps_copies worked_start (from_format one_copy) [] other_count ≡ true
-unfolding testing keeps_copies restart_table is_sound_record state_read read_record is_record fields_hold marks_hold spaces_hold
+unfolding testing keeps_copies restart_table is_sound_record state_read state_found read_record is_record fields_hold marks_hold spaces_hold
 copies_tested = refl
 
 pub keeps_copies_law : BreaksCount keeps_copies

@@ -1,6 +1,5 @@
 -- `put_columns` meets its contract.
 use mathlib.Core.Path.{refl}
-use lib.Seq.{length-sets}
 use Rattle.base.specs.Below.{joined}
 use Rattle.record.specs.Sector.{columns}
 use Rattle.record.proofs.WriteCode.{columns_next}
@@ -8,12 +7,11 @@ use Rattle.record.proofs.write.put_columns.Goals as goal
 
 pub loop-i-init : goal.loop-i-init
 unfolding columns joined
-loop-i-init c = (refl, refl, refl)
+loop-i-init c = (refl, refl)
 
 pub loop-i-preserved : goal.loop-i-preserved
 loop-i-preserved c =
     let lp = c.loop-i in
     let a = c.args in
-    let put = c.put_field.ensures in
-    let (stored, long, growths_kept) = lp.invariant in
-    (rw (put, stored, growths_kept) (columns_next a.page.now a.numbers.now lp.i), rw put (simp length-sets long), growths_kept)
+    let (stored, growths_kept) = lp.invariant in
+    (rw (c.put_field.ensures, stored, growths_kept) (columns_next a.bytes.now a.numbers.now lp.i), growths_kept)

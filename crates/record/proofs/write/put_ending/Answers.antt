@@ -7,6 +7,6 @@ use Rattle.record.proofs.write.put_ending.Goals as goal
 
 pub returns : goal.returns
 returns c =
-    let m = c.args.page.now in
+    let m = c.args.bytes.now in
     let full = c.fill.ensures.after (λ y h. h) in
     rw (full_part_back (λ n. replicate n space) (λ n. length-replicate n space) m c.fill.new.self 194 317 (omega arith) full) (ending_parts m)
