@@ -1,80 +1,125 @@
 // Answers in words.
 use layout::{Part, Reason};
-use printing::{labelled, text};
+use move_table::Place;
 use shelves::ViewAnswer;
+use spans::MadeSpans;
 use std::io;
 use std::io::Write;
 use volume::{AddressAnswer, Advanced, Answer, HolderAnswer};
+use wall_chart::ChartAnswer;
 
-fn show_part(out: &mut impl Write, part: Part) -> io::Result<()> {
+fn part_name(part: Part) -> &'static str {
     match part {
-        Part::Head => text(out, b" as head"),
-        Part::Body => text(out, b" as body"),
-        Part::Tail => text(out, b" as tail"),
+        Part::Head => "head",
+        Part::Body => "body",
+        Part::Tail => "tail",
     }
+}
+
+fn show_refusal(out: &mut impl Write, refusal: usize) -> io::Result<()> {
+    write!(out, ": refusal {refusal}")
 }
 
 // What an advance did.
 fn show_advanced(out: &mut impl Write, did: Advanced) -> io::Result<()> {
     match did {
-        Advanced::Copied(x, part) => {
-            labelled(out, b": copied block", x.0)?;
-            show_part(out, part)
+        Advanced::Copied(block, part) => {
+            write!(out, ": copied block {} as {}", block.0, part_name(part))
         }
-        Advanced::Recorded => text(out, b": recorded"),
-        Advanced::Finished => text(out, b": finished"),
+        Advanced::Recorded => write!(out, ": recorded"),
+        Advanced::Finished => write!(out, ": finished"),
     }
 }
 
 pub fn show_answer(out: &mut impl Write, answer: Answer) -> io::Result<()> {
     match answer {
-        Answer::Refused(k) => labelled(out, b": refusal", k),
-        Answer::Done => text(out, b": done"),
-        Answer::CallsLeft(n) => labelled(out, b": advance calls left", n),
-        Answer::Told(did, n) => {
+        Answer::Refused(refusal) => show_refusal(out, refusal),
+        Answer::Done => write!(out, ": done"),
+        Answer::CallsLeft(calls) => write!(out, ": advance calls left {calls}"),
+        Answer::Told(did, calls) => {
             show_advanced(out, did)?;
-            labelled(out, b", advance calls left", n)
+            write!(out, ", advance calls left {calls}")
         }
+    }
+}
+
+// With which number a call refused, if it did.
+pub fn refusal_of(answer: Answer) -> Option<usize> {
+    match answer {
+        Answer::Refused(refusal) => Some(refusal),
+        _ => None,
     }
 }
 
 // Why a block is where it is.
 fn show_reason(out: &mut impl Write, reason: Reason) -> io::Result<()> {
     match reason {
-        Reason::SetOut => text(out, b", set out at format"),
-        Reason::AddedBy(k) => labelled(out, b", added by growth", k),
-        Reason::MovedBy(k, part) => {
-            text(out, b", moved")?;
-            show_part(out, part)?;
-            labelled(out, b" by growth", k)
+        Reason::SetOut => write!(out, ", set out at format"),
+        Reason::AddedBy(growth) => write!(out, ", added by growth {growth}"),
+        Reason::MovedBy(growth, part) => {
+            write!(out, ", moved as {} by growth {growth}", part_name(part))
         }
     }
 }
 
 pub fn show_address(out: &mut impl Write, answer: AddressAnswer) -> io::Result<()> {
     match answer {
-        AddressAnswer::Refused(k) => labelled(out, b": refusal", k),
-        AddressAnswer::At(p, reason, moves) => {
-            let row = p.row;
-            labelled(out, b": disk", p.disk)?;
-            labelled(out, b", row", row.0)?;
+        AddressAnswer::Refused(refusal) => show_refusal(out, refusal),
+        AddressAnswer::At(spot, reason, moves) => {
+            write!(out, ": disk {}, row {}", spot.disk, spot.row.0)?;
             show_reason(out, reason)?;
-            labelled(out, b", moves", moves)
+            write!(out, ", moves {moves}")
         }
     }
 }
 
 pub fn show_holder(out: &mut impl Write, answer: HolderAnswer) -> io::Result<()> {
     match answer {
-        HolderAnswer::Refused(k) => labelled(out, b": refusal", k),
-        HolderAnswer::Has(x) => labelled(out, b": block", x.0),
+        HolderAnswer::Refused(refusal) => show_refusal(out, refusal),
+        HolderAnswer::Has(block) => write!(out, ": block {}", block.0),
     }
 }
 
 pub fn show_view(out: &mut impl Write, answer: ViewAnswer) -> io::Result<()> {
     match answer {
-        ViewAnswer::Refused(k) => labelled(out, b": refusal", k),
-        ViewAnswer::First(at) => labelled(out, b": first shelf from byte", at),
-        ViewAnswer::Second(at) => labelled(out, b": second shelf from byte", at),
+        ViewAnswer::Refused(refusal) => show_refusal(out, refusal),
+        ViewAnswer::First(at) => write!(out, ": first shelf from byte {at}"),
+        ViewAnswer::Second(at) => write!(out, ": second shelf from byte {at}"),
+    }
+}
+
+// Tells how many bytes of a page are used, and gives them: 0 where the chart is refused.
+pub fn show_chart(out: &mut impl Write, answer: ChartAnswer) -> io::Result<usize> {
+    match answer {
+        ChartAnswer::Refused(refusal) => {
+            show_refusal(out, refusal)?;
+            Ok(0)
+        }
+        ChartAnswer::Used(used) => {
+            write!(out, ": bytes used {used}")?;
+            Ok(used)
+        }
+    }
+}
+
+pub fn show_made(out: &mut impl Write, made: MadeSpans) -> io::Result<()> {
+    if made.refusal == 0 {
+        write!(out, ": done")?;
+    } else {
+        show_refusal(out, made.refusal)?;
+    }
+    let zero = made.spans.zero;
+    let one = made.spans.one;
+    write!(
+        out,
+        ", table {} {} {} {}",
+        zero.first, zero.count, one.first, one.count
+    )
+}
+
+pub fn show_place(out: &mut impl Write, place: Place) -> io::Result<()> {
+    match place {
+        Place::At(at) => write!(out, ": offset {at}, disk {}", move_table::disk_at(at)),
+        Place::NoMark => write!(out, ": no such mark"),
     }
 }

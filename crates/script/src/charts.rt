@@ -1,72 +1,36 @@
 // Charts, in a page that holds 170 in each byte before the call.
-use printing::{first_changed, labelled, last_changed, text};
+use super::answers::show_chart;
+use printing::{first_changed, last_changed};
 use std::io;
 use std::io::Write;
-use volume::Volume;
 use wall_chart::ChartAnswer;
 
-// The chart, and which bytes of the page changed.
-fn show_page(out: &mut impl Write, page: &[u8], used: usize) -> io::Result<()> {
-    let untouched = [170u8; 4_096];
-    let first = first_changed(&untouched, page);
-    if first < page.len() {
-        labelled(out, b", page changed from byte", first)?;
-        labelled(out, b" to", last_changed(&untouched, page))?;
-    }
-    if used == 0 {
-        return Ok(());
-    }
-    if used <= page.len() {
-        text(out, b"\n")?;
-        text(out, &page[0..used])?;
-    }
-    Ok(())
-}
+const MOST_PAGE: usize = 4_096;
 
-fn show_filled(out: &mut impl Write, page: &[u8], answer: ChartAnswer) -> io::Result<()> {
-    match answer {
-        ChartAnswer::Refused(k) => {
-            labelled(out, b": refusal", k)?;
-            show_page(out, page, 0)
-        }
-        ChartAnswer::Used(used) => {
-            labelled(out, b": bytes used", used)?;
-            show_page(out, page, used)
-        }
-    }
-}
-
-// The chart of a state or, with a record, of the state in it.
-fn put_chart(page: &mut [u8], v: Volume, medium: &[u8], of_record: bool) -> ChartAnswer {
-    if of_record {
-        return wall_chart::put_chart_of_record(page, medium);
-    }
-    wall_chart::put_chart(page, v)
-}
-
-fn fill(
+// Puts a chart into a page of so many bytes, and shows it and which bytes changed.
+pub fn chart<F: FnOnce(&mut [u8]) -> ChartAnswer>(
     out: &mut impl Write,
-    page: &mut [u8],
-    v: Volume,
-    medium: &[u8],
-    of_record: bool,
-) -> io::Result<()> {
-    let answer = put_chart(page, v, medium, of_record);
-    show_filled(out, page, answer)
-}
-
-// In a page of so many bytes.
-pub fn chart(
-    out: &mut impl Write,
-    v: Volume,
-    medium: &[u8],
     len: usize,
-    of_record: bool,
-) -> io::Result<()> {
-    let mut space = [170u8; 4_096];
-    let page: &mut [u8] = &mut space;
-    if 4_096 < len {
-        return text(out, b": a page has at most 4,096 bytes");
+    put: F,
+) -> io::Result<()>
+    requires { F.IsAlwaysCallable put }
+{
+    let untouched = [170; MOST_PAGE];
+    let mut space = untouched;
+    let Some(page) = space.get_mut(..len) else {
+        return write!(out, ": a page has at most 4,096 bytes");
+    };
+    let used = show_chart(out, put(page))?;
+    if let Some(first) = first_changed(&untouched, page)
+        && let Some(last) = last_changed(&untouched, page)
+    {
+        write!(out, ", page changed from byte {first} to {last}")?;
     }
-    fill(out, &mut page[0..len], v, medium, of_record)
+    match page.get(..used) {
+        Some(text) if used != 0 => {
+            writeln!(out)?;
+            out.write_all(text)
+        }
+        _ => Ok(()),
+    }
 }

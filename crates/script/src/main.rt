@@ -5,18 +5,18 @@
 
 mod answers;
 mod calls;
+mod changes;
 mod charts;
-mod damage;
-mod given;
+mod commands;
 mod lines;
 mod lookups;
+mod pieces;
+mod questions;
 mod run;
 mod script;
 mod states;
-mod two_clients;
 mod views;
 
-use printing::text;
 use std::io;
 use std::io::{BufWriter, Read, Write};
 
@@ -28,9 +28,9 @@ fn main(rt: HostRuntime) -> io::Result<()> {
     rt.reader().take(MOST_READ as u64).read_to_end(&mut input)?;
     let mut out = BufWriter::new(rt.alloc(), io::writer(&rt))?;
     if MOST_READ <= input.len() {
-        text(&mut out, b"at most 65,535 bytes are read\n")?;
+        writeln!(out, "at most 65,535 bytes are read")?;
         return out.flush();
     }
-    script::run_script(&mut out, &input)?;
+    script::run_script(&mut out, rt.alloc(), &input)?;
     out.flush()
 }

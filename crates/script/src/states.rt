@@ -1,7 +1,5 @@
 // States as sixteen numbers, in the order of the C header: Z, s, t, N[0] to N[7], growing, w, the recorded and the copied marks, each as a
 // word, and what is pending, 1 for a record and 2 for blocks.
-use super::lines::numbers_of;
-use printing::{number, text};
 use std::io;
 use std::io::Write;
 use volume::{Pending, Volume};
@@ -14,85 +12,89 @@ fn pending_of(word: usize) -> Pending {
 }
 
 fn pending_word(pending: Pending) -> usize {
-    if pending.records {
-        return if pending.blocks { 3 } else { 1 };
-    }
-    if pending.blocks { 2 } else { 0 }
+    usize::from(pending.records) + 2 * usize::from(pending.blocks)
 }
 
-pub fn state_of(line: &[u8]) -> Volume {
-    let numbers = numbers_of(line);
-    let list = numbers.list;
-    let counts = [
-        list[3], list[4], list[5], list[6], list[7], list[8], list[9], list[10],
-    ];
-    let pending = pending_of(list[15]);
-    Volume {
-        size: list[0],
-        rows: list[1],
-        growths: list[2],
-        counts,
-        growing: list[11],
-        window: list[12],
-        recorded: list[13],
-        copied: list[14],
+// The state of a line's numbers, if they are sixteen.
+pub fn volume_of(numbers: &[usize]) -> Option<Volume> {
+    let &[
+        size,
+        rows,
+        growths,
+        a,
+        b,
+        c,
+        d,
+        e,
+        f,
+        g,
+        h,
+        growing,
+        window,
+        recorded,
+        copied,
         pending,
-    }
+    ] = numbers
+    else {
+        return None;
+    };
+    Some(Volume {
+        size,
+        rows,
+        growths,
+        counts: [a, b, c, d, e, f, g, h],
+        growing,
+        window,
+        recorded,
+        copied,
+        pending: pending_of(pending),
+    })
 }
 
-fn state_numbers(v: Volume) -> [usize; 16] {
-    let c = v.counts;
-    let pending = pending_word(v.pending);
+fn numbers_of(v: Volume) -> [usize; 16] {
+    let [a, b, c, d, e, f, g, h] = v.counts;
     [
-        v.size, v.rows, v.growths, c[0], c[1], c[2], c[3], c[4], c[5], c[6], c[7], v.growing,
-        v.window, v.recorded, v.copied, pending,
+        v.size,
+        v.rows,
+        v.growths,
+        a,
+        b,
+        c,
+        d,
+        e,
+        f,
+        g,
+        h,
+        v.growing,
+        v.window,
+        v.recorded,
+        v.copied,
+        pending_word(v.pending),
     ]
 }
 
-fn same_numbers(a: [usize; 16], b: [usize; 16]) -> bool {
-    for k in 0..16 {
-        if a[k] != b[k] {
-            return false;
-        }
+fn show(out: &mut impl Write, v: Volume) -> io::Result<()> {
+    write!(
+        out,
+        "; state Z {}, s {}, t {}, N",
+        v.size, v.rows, v.growths
+    )?;
+    for count in v.counts {
+        write!(out, " {count}")?;
     }
-    true
-}
-
-// Shows a byte or, where it is #, number k; gives the place of the next number.
-fn show_at(out: &mut impl Write, b: u8, k: usize, list: [usize; 16]) -> io::Result<usize> {
-    if b != b'#' {
-        text(out, &[b; 1])?;
-        return Ok(k);
-    }
-    if 16 <= k {
-        return Ok(k);
-    }
-    number(out, list[k])?;
-    Ok(k + 1)
-}
-
-// Each # stands for the next number.
-fn show_numbers(out: &mut impl Write, words: &[u8], list: [usize; 16]) -> io::Result<()> {
-    let mut k = 0;
-    for i in 0..words.len() {
-        k = show_at(out, words[i], k, list)?;
-    }
-    Ok(())
+    write!(out, ", growing {}, w {}", v.growing, v.window)?;
+    write!(out, ", recorded {}, copied {}", v.recorded, v.copied)?;
+    write!(out, ", pending {}", pending_word(v.pending))
 }
 
 // The state after a call, if it is another one than before.
 pub fn show_change(out: &mut impl Write, before: Volume, after: Volume) -> io::Result<()> {
-    let numbers = state_numbers(after);
-    if same_numbers(state_numbers(before), numbers) {
+    if numbers_of(before) == numbers_of(after) {
         return Ok(());
     }
-    show_numbers(
-        out,
-        b"; state Z #, s #, t #, N # # # # # # # #, growing #, w #, recorded #, copied #, pending #",
-        numbers,
-    )?;
+    show(out, after)?;
     if !after.is_sound() {
-        text(out, b", not sound")?;
+        write!(out, ", not sound")?;
     }
     Ok(())
 }

@@ -1,0 +1,72 @@
+// Changes from outside: of the state, of what is lent, and other bytes on the medium, as a power cut or a damage leaves them.
+use super::answers::show_made;
+use super::commands::Change;
+use super::run::Run;
+use printing::put_bytes;
+use spans::Spans;
+use std::io;
+use std::io::Write;
+use volume::Volume;
+
+// The bytes from `at` on, so many; none if there are not so many.
+fn part_of(bytes: &[u8], at: usize, count: usize) -> &[u8] {
+    at.checked_add(count)
+        .and_then(|end| bytes.get(at..end))
+        .unwrap_or(b"")
+}
+
+// Puts so many times one byte on the medium; nothing if they do not fit.
+fn put(medium: &mut [u8], at: usize, count: usize, byte: u8) {
+    let Some(end) = at.checked_add(count) else {
+        return
+    };
+    if let Some(space) = medium.get_mut(at..end) {
+        space.fill(byte);
+    }
+}
+
+// Puts the record of the state, sound or not, on the medium.
+fn put_record(medium: &mut [u8], v: Volume) {
+    let [a, b, c, d, e, f, g, h] = v.counts;
+    let numbers = [
+        v.size, v.rows, v.growths, a, b, c, d, e, f, g, h, v.growing, v.window,
+    ];
+    if 512 <= medium.len() {
+        record::write_record(medium, numbers, marks::marks_of(v.recorded));
+    }
+}
+
+fn lend(out: &mut impl Write, run: &mut Run, len: usize) -> io::Result<()> {
+    if run.lend(len) {
+        return Ok(());
+    }
+    write!(out, ": the medium has at most 18,432 bytes")
+}
+
+// Makes a table. What comes of it is the run's from now on.
+fn make_table(out: &mut impl Write, run: &mut Run, asked: Spans) -> io::Result<()> {
+    let made = spans::make_spans(asked.zero, asked.one);
+    run.table = made.spans;
+    show_made(out, made)
+}
+
+pub fn set(out: &mut impl Write, run: &mut Run, change: Change) -> io::Result<()> {
+    match change {
+        Change::State(state) => run.state = state,
+        Change::Medium { lent } => lend(out, run, lent)?,
+        Change::Cache(cached) => run.cached = cached,
+        Change::Keep => run.kept = run.medium,
+        Change::Back { at, count } => {
+            // Bytes that did not land are as they were.
+            let kept = run.kept;
+            put_bytes(&mut run.medium, at, part_of(&kept, at, count));
+        }
+        Change::Put { at, count, byte } => put(&mut run.medium, at, count, byte),
+        Change::Bytes { at, text } => put_bytes(&mut run.medium, at, text),
+        Change::Record => put_record(&mut run.medium, run.state),
+        Change::Spans(asked) => make_table(out, run, asked)?,
+        // A table that nobody has tested.
+        Change::Table(table) => run.table = table,
+    }
+    Ok(())
+}
