@@ -9,7 +9,9 @@ pub fn number_bytes(bytes: &mut [u8]) {
 
 // Puts a piece into a page from byte `at` on; nothing if it does not fit.
 pub fn put_bytes(page: &mut [u8], at: usize, piece: &[u8]) {
-    let Some(end) = at.checked_add(piece.len()) else { return };
+    let Some(end) = at.checked_add(piece.len()) else {
+        return
+    };
     if let Some(space) = page.get_mut(at..end) {
         space.copy_from_slice(piece);
     }

@@ -21,21 +21,19 @@ pub fn new_line() -> Line {
 }
 
 pub fn is_digit(byte: u8) -> bool {
-    match byte {
-        b'0'..=b'9' => true,
-        _ => false,
-    }
+    byte.is_ascii_digit()
 }
 
-// The number n with a digit after it; the largest number where that is too large.
+// The number n with a digit after it; the largest number where not every digit would fit.
 pub fn with_digit(n: usize, byte: u8) -> usize {
-    if byte < b'0' {
+    let Some(digit) = byte.checked_sub(b'0') else {
         return n;
+    };
+    if n <= (usize::MAX - 9) / 10 {
+        n * 10 + usize::from(digit % 10)
+    } else {
+        usize::MAX
     }
-    if 1_844_674_407_370_955_160 < n {
-        return 18_446_744_073_709_551_615;
-    }
-    n * 10 + ((byte - b'0') as usize) % 10
 }
 
 // The line with its next byte. A new one begins after its end and after 16 numbers.

@@ -1,6 +1,7 @@
 // Answers in words.
 use layout::{Part, Reason};
 use move_table::Place;
+use printing::{first_changed, last_changed};
 use shelves::ViewAnswer;
 use spans::MadeSpans;
 use std::io;
@@ -122,4 +123,19 @@ pub fn show_place(out: &mut impl Write, place: Place) -> io::Result<()> {
         Place::At(at) => write!(out, ": offset {at}, disk {}", move_table::disk_at(at)),
         Place::NoMark => write!(out, ": no such mark"),
     }
+}
+
+// Which bytes changed, of the medium or a page.
+pub fn show_changed(
+    out: &mut impl Write,
+    what: &str,
+    before: &[u8],
+    after: &[u8],
+) -> io::Result<()> {
+    if let Some(first) = first_changed(before, after)
+        && let Some(last) = last_changed(before, after)
+    {
+        write!(out, "{what} changed from byte {first} to {last}")?;
+    }
+    Ok(())
 }

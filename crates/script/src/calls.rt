@@ -42,7 +42,7 @@ pub fn make(out: &mut impl Write, run: &mut Run, call: Call) -> io::Result<()> {
     let table = run.table;
     match reply_to(call, state, table, run.lent_mut()) {
         Some(reply) => {
-            run.go_on(reply.state);
+            run.take_over(reply.state);
             show_answer(out, reply.answer)
         }
         None => write!(out, "{TOO_LONG}"),
@@ -52,17 +52,12 @@ pub fn make(out: &mut impl Write, run: &mut Run, call: Call) -> io::Result<()> {
 // Saves each block with a byte of its own.
 pub fn saves(out: &mut impl Write, run: &mut Run, first: usize, end: usize) -> io::Result<()> {
     for x in first..end {
-        let block = Block(x);
-        let byte = (x % 100) as u8 + 1;
-        make(
-            out,
-            run,
-            Call::Write {
-                block,
-                size: 512,
-                byte,
-            },
-        )?;
+        let call = Call::Write {
+            block: Block(x),
+            size: 512,
+            byte: (x % 100) as u8 + 1,
+        };
+        make(out, run, call)?;
     }
     Ok(())
 }

@@ -1,7 +1,8 @@
 // Changes from outside: of the state, of what is lent, and other bytes on the medium, as a power cut or a damage leaves them.
 use super::answers::show_made;
 use super::commands::Change;
-use super::run::Run;
+use super::run::{MEDIUM_SIZE, Run};
+use super::states::state_numbers;
 use printing::put_bytes;
 use spans::Spans;
 use std::io;
@@ -18,7 +19,7 @@ fn part_of(bytes: &[u8], at: usize, count: usize) -> &[u8] {
 // Puts so many times one byte on the medium; nothing if they do not fit.
 fn put(medium: &mut [u8], at: usize, count: usize, byte: u8) {
     let Some(end) = at.checked_add(count) else {
-        return
+        return;
     };
     if let Some(space) = medium.get_mut(at..end) {
         space.fill(byte);
@@ -26,13 +27,11 @@ fn put(medium: &mut [u8], at: usize, count: usize, byte: u8) {
 }
 
 // Puts the record of the state, sound or not, on the medium.
-fn put_record(medium: &mut [u8], v: Volume) {
-    let [a, b, c, d, e, f, g, h] = v.counts;
-    let numbers = [
-        v.size, v.rows, v.growths, a, b, c, d, e, f, g, h, v.growing, v.window,
-    ];
-    if 512 <= medium.len() {
-        record::write_record(medium, numbers, marks::marks_of(v.recorded));
+fn put_record(medium: &mut [u8; MEDIUM_SIZE], state: Volume) {
+    let numbers = state_numbers(state);
+    // A record has the first thirteen, and the recorded marks one by one.
+    if let Some(columns) = numbers.first_chunk() {
+        record::write_record(medium, *columns, marks::marks_of(state.recorded));
     }
 }
 

@@ -1,6 +1,5 @@
 // Charts, in a page that holds 170 in each byte before the call.
-use super::answers::show_chart;
-use printing::{first_changed, last_changed};
+use super::answers::{show_changed, show_chart};
 use std::io;
 use std::io::Write;
 use wall_chart::ChartAnswer;
@@ -21,11 +20,7 @@ pub fn chart<F: FnOnce(&mut [u8]) -> ChartAnswer>(
         return write!(out, ": a page has at most 4,096 bytes");
     };
     let used = show_chart(out, put(page))?;
-    if let Some(first) = first_changed(&untouched, page)
-        && let Some(last) = last_changed(&untouched, page)
-    {
-        write!(out, ", page changed from byte {first} to {last}")?;
-    }
+    show_changed(out, ", page", &untouched, page)?;
     match page.get(..used) {
         Some(text) if used != 0 => {
             writeln!(out)?;

@@ -109,16 +109,10 @@ fn byte_of(n: usize) -> u8 {
     (n % 256) as u8
 }
 
-fn table_of(zero: (usize, usize), one: (usize, usize)) -> Spans {
+fn table_of([a, b, c, d]: [usize; 4]) -> Spans {
     Spans {
-        zero: Span {
-            first: zero.0,
-            count: zero.1,
-        },
-        one: Span {
-            first: one.0,
-            count: one.1,
-        },
+        zero: Span { first: a, count: b },
+        one: Span { first: c, count: d },
     }
 }
 
@@ -153,39 +147,33 @@ impl Call {
 impl Question {
     fn parse(word: &[u8], numbers: &[usize]) -> Option<Self> {
         Some(match (word, numbers) {
-            (b"read", &[x, size]) => {
-                let block = Block(x);
-                Question::Read { block, size }
-            }
-            (b"client-read", &[client, x, size]) => {
-                let block = Block(x);
-                Question::ClientRead {
-                    client,
-                    block,
-                    size,
-                }
-            }
+            (b"read", &[x, size]) => Question::Read {
+                block: Block(x),
+                size,
+            },
+            (b"client-read", &[client, x, size]) => Question::ClientRead {
+                client,
+                block: Block(x),
+                size,
+            },
             (b"reads", &[first, end]) => Question::Reads { first, end },
-            (b"view", &[x, disks]) => {
-                let block = Block(x);
-                Question::View { block, disks }
-            }
-            (b"view", &[x, disks, first, second]) => {
-                let block = Block(x);
-                Question::ViewOfLengths {
-                    block,
-                    disks,
-                    first,
-                    second,
-                }
-            }
+            (b"view", &[x, disks]) => Question::View {
+                block: Block(x),
+                disks,
+            },
+            (b"view", &[x, disks, first, second]) => Question::ViewOfLengths {
+                block: Block(x),
+                disks,
+                first,
+                second,
+            },
             (b"chart", &[len]) => Question::Chart { len },
             (b"chart-of-record", &[len]) => Question::ChartOfRecord { len },
             (b"address", &[x]) => Question::Address(Block(x)),
-            (b"holder", &[disk, row]) => {
-                let row = Row(row);
-                Question::Holder(Spot { disk, row })
-            }
+            (b"holder", &[disk, row]) => Question::Holder(Spot {
+                disk,
+                row: Row(row),
+            }),
             (b"addresses", &[end]) => Question::Addresses { end },
             (b"moves", &[end]) => Question::Moves { end },
             (b"table-move", &[disks, added, mark]) => Question::TableMove { disks, added, mark },
@@ -202,18 +190,19 @@ impl<'a> Change<'a> {
             (b"cache", &[cached]) => Change::Cache(cached != 0),
             (b"keep", []) => Change::Keep,
             (b"back", &[at, count]) => Change::Back { at, count },
-            (b"put", &[at, count, n]) => {
-                let byte = byte_of(n);
-                Change::Put { at, count, byte }
-            }
+            (b"put", &[at, count, n]) => Change::Put {
+                at,
+                count,
+                byte: byte_of(n),
+            },
             // Text may follow the first number, and have numbers in it.
             (b"bytes", _) => Change::Bytes {
                 at: numbers.first().copied().unwrap_or(0),
                 text: text_of(line).unwrap_or(b""),
             },
             (b"record", []) => Change::Record,
-            (b"spans", &[a, b, c, d]) => Change::Spans(table_of((a, b), (c, d))),
-            (b"table", &[a, b, c, d]) => Change::Table(table_of((a, b), (c, d))),
+            (b"spans", &[a, b, c, d]) => Change::Spans(table_of([a, b, c, d])),
+            (b"table", &[a, b, c, d]) => Change::Table(table_of([a, b, c, d])),
             _ => return None,
         })
     }

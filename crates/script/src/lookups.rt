@@ -18,6 +18,16 @@ enum Kind {
     MovedAsTail,
 }
 
+const KINDS: [Kind; 7] = [
+    Kind::Refused,
+    Kind::NotHeld,
+    Kind::SetOut,
+    Kind::Added,
+    Kind::MovedAsHead,
+    Kind::MovedAsBody,
+    Kind::MovedAsTail,
+];
+
 impl From<Reason> for Kind {
     fn from(reason: Reason) -> Self {
         match reason {
@@ -50,17 +60,8 @@ fn moves_of(state: Volume, block: Block) -> Option<usize> {
 
 // How many blocks below `end` are refused, not found again by holder, set out at format, added, and moved as head, body and tail.
 pub fn addresses(out: &mut impl Write, state: Volume, end: usize) -> io::Result<()> {
-    let kinds = [
-        Kind::Refused,
-        Kind::NotHeld,
-        Kind::SetOut,
-        Kind::Added,
-        Kind::MovedAsHead,
-        Kind::MovedAsBody,
-        Kind::MovedAsTail,
-    ];
     write!(out, ":")?;
-    for kind in kinds {
+    for kind in KINDS {
         let count = (0..end)
             .filter(|&x| kind_of(state, Block(x)) == kind)
             .count();

@@ -54,8 +54,8 @@ impl Run {
         true
     }
 
-    // Goes on with the state that a call handed back.
-    pub fn go_on(&mut self, state: Volume) {
+    // Takes over the state that a call handed back.
+    pub fn take_over(&mut self, state: Volume) {
         self.state = if self.cached {
             state
         } else {

@@ -1,11 +1,11 @@
 // A script, line by line.
+use super::answers::show_changed;
 use super::calls::{make, saves};
 use super::changes::set;
 use super::commands::Command;
 use super::questions::ask;
 use super::run::Run;
 use super::states::show_change;
-use printing::{first_changed, last_changed};
 use std::alloc::Global;
 use std::io;
 use std::io::{BufRead, Write};
@@ -17,16 +17,6 @@ fn run_command(out: &mut impl Write, run: &mut Run, command: Command) -> io::Res
         Command::Ask(question) => ask(out, run, question),
         Command::Set(change) => set(out, run, change),
     }
-}
-
-// Which bytes of the medium changed.
-fn show_changed(out: &mut impl Write, before: &[u8], after: &[u8]) -> io::Result<()> {
-    if let Some(first) = first_changed(before, after)
-        && let Some(last) = last_changed(before, after)
-    {
-        write!(out, "; medium changed from byte {first} to {last}")?;
-    }
-    Ok(())
 }
 
 fn run_line(out: &mut impl Write, alloc: Global, run: &mut Run, line: &[u8]) -> io::Result<()> {
@@ -42,7 +32,7 @@ fn run_line(out: &mut impl Write, alloc: Global, run: &mut Run, line: &[u8]) -> 
         None => write!(out, ": no such line, or not so many numbers")?,
     }
     show_change(out, state, run.state)?;
-    show_changed(out, &medium, &run.medium)?;
+    show_changed(out, "; medium", &medium, &run.medium)?;
     writeln!(out)
 }
 

@@ -51,7 +51,7 @@ pub fn volume_of(numbers: &[usize]) -> Option<Volume> {
     })
 }
 
-fn numbers_of(v: Volume) -> [usize; 16] {
+pub fn state_numbers(v: Volume) -> [usize; 16] {
     let [a, b, c, d, e, f, g, h] = v.counts;
     [
         v.size,
@@ -89,7 +89,7 @@ fn show(out: &mut impl Write, v: Volume) -> io::Result<()> {
 
 // The state after a call, if it is another one than before.
 pub fn show_change(out: &mut impl Write, before: Volume, after: Volume) -> io::Result<()> {
-    if numbers_of(before) == numbers_of(after) {
+    if state_numbers(before) == state_numbers(after) {
         return Ok(());
     }
     show(out, after)?;
