@@ -19,16 +19,10 @@ pub fn put_bytes(page: &mut [u8], at: usize, piece: &[u8]) {
 
 // The first byte that changed, if one did. A byte behind the end of `before` is another one than before.
 pub fn first_changed(before: &[u8], after: &[u8]) -> Option<usize> {
-    after
-        .iter()
-        .enumerate()
-        .position(|(k, byte)| before.get(k) != Some(byte))
+    (0..after.len()).find(|&k| before.get(k) != after.get(k))
 }
 
 // The last byte that changed, if one did.
 pub fn last_changed(before: &[u8], after: &[u8]) -> Option<usize> {
-    after
-        .iter()
-        .enumerate()
-        .rposition(|(k, byte)| before.get(k) != Some(byte))
+    (0..after.len()).rfind(|&k| before.get(k) != after.get(k))
 }

@@ -1,13 +1,12 @@
 // Answers in words.
-use layout::{Part, Reason};
-use move_table::Place;
+use base::Refusal;
+use layout::{Address, Block, Part, Reason};
 use printing::{first_changed, last_changed};
-use shelves::ViewAnswer;
-use spans::MadeSpans;
+use shelves::ViewStart;
+use spans::Spans;
 use std::io;
 use std::io::Write;
-use volume::{AddressAnswer, Advanced, Answer, HolderAnswer};
-use wall_chart::ChartAnswer;
+use volume::{Advanced, Told};
 
 fn part_name(part: Part) -> &'static str {
     match part {
@@ -17,8 +16,8 @@ fn part_name(part: Part) -> &'static str {
     }
 }
 
-fn show_refusal(out: &mut impl Write, refusal: usize) -> io::Result<()> {
-    write!(out, ": refusal {refusal}")
+fn show_refusal(out: &mut impl Write, refusal: Refusal) -> io::Result<()> {
+    write!(out, ": refusal {}", refusal.number())
 }
 
 // What an advance did.
@@ -32,23 +31,15 @@ fn show_advanced(out: &mut impl Write, did: Advanced) -> io::Result<()> {
     }
 }
 
-pub fn show_answer(out: &mut impl Write, answer: Answer) -> io::Result<()> {
+pub fn show_answer(out: &mut impl Write, answer: Result<Told, Refusal>) -> io::Result<()> {
     match answer {
-        Answer::Refused(refusal) => show_refusal(out, refusal),
-        Answer::Done => write!(out, ": done"),
-        Answer::CallsLeft(calls) => write!(out, ": advance calls left {calls}"),
-        Answer::Told(did, calls) => {
+        Ok(Told::Done) => write!(out, ": done"),
+        Ok(Told::CallsLeft(calls)) => write!(out, ": advance calls left {calls}"),
+        Ok(Told::Advanced(did, calls)) => {
             show_advanced(out, did)?;
             write!(out, ", advance calls left {calls}")
         }
-    }
-}
-
-// With which number a call refused, if it did.
-pub fn refusal_of(answer: Answer) -> Option<usize> {
-    match answer {
-        Answer::Refused(refusal) => Some(refusal),
-        _ => None,
+        Err(refusal) => show_refusal(out, refusal),
     }
 }
 
@@ -63,54 +54,48 @@ fn show_reason(out: &mut impl Write, reason: Reason) -> io::Result<()> {
     }
 }
 
-pub fn show_address(out: &mut impl Write, answer: AddressAnswer) -> io::Result<()> {
+pub fn show_address(out: &mut impl Write, answer: Result<Address, Refusal>) -> io::Result<()> {
     match answer {
-        AddressAnswer::Refused(refusal) => show_refusal(out, refusal),
-        AddressAnswer::At(spot, reason, moves) => {
+        Ok(address) => {
+            let spot = address.spot;
             write!(out, ": disk {}, row {}", spot.disk, spot.row.0)?;
-            show_reason(out, reason)?;
-            write!(out, ", moves {moves}")
+            show_reason(out, address.reason)?;
+            write!(out, ", moves {}", address.moves)
         }
+        Err(refusal) => show_refusal(out, refusal),
     }
 }
 
-pub fn show_holder(out: &mut impl Write, answer: HolderAnswer) -> io::Result<()> {
+pub fn show_holder(out: &mut impl Write, answer: Result<Block, Refusal>) -> io::Result<()> {
     match answer {
-        HolderAnswer::Refused(refusal) => show_refusal(out, refusal),
-        HolderAnswer::Has(block) => write!(out, ": block {}", block.0),
+        Ok(block) => write!(out, ": block {}", block.0),
+        Err(refusal) => show_refusal(out, refusal),
     }
 }
 
-pub fn show_view(out: &mut impl Write, answer: ViewAnswer) -> io::Result<()> {
+pub fn show_view(out: &mut impl Write, answer: Result<ViewStart, Refusal>) -> io::Result<()> {
     match answer {
-        ViewAnswer::Refused(refusal) => show_refusal(out, refusal),
-        ViewAnswer::First(at) => write!(out, ": first shelf from byte {at}"),
-        ViewAnswer::Second(at) => write!(out, ": second shelf from byte {at}"),
+        Ok(ViewStart::First(at)) => write!(out, ": first shelf from byte {at}"),
+        Ok(ViewStart::Second(at)) => write!(out, ": second shelf from byte {at}"),
+        Err(refusal) => show_refusal(out, refusal),
     }
 }
 
-// Tells how many bytes of a page are used, and gives them: 0 where the chart is refused.
-pub fn show_chart(out: &mut impl Write, answer: ChartAnswer) -> io::Result<usize> {
+pub fn show_used(out: &mut impl Write, answer: Result<usize, Refusal>) -> io::Result<()> {
     match answer {
-        ChartAnswer::Refused(refusal) => {
-            show_refusal(out, refusal)?;
-            Ok(0)
-        }
-        ChartAnswer::Used(used) => {
-            write!(out, ": bytes used {used}")?;
-            Ok(used)
-        }
+        Ok(used) => write!(out, ": bytes used {used}"),
+        Err(refusal) => show_refusal(out, refusal),
     }
 }
 
-pub fn show_made(out: &mut impl Write, made: MadeSpans) -> io::Result<()> {
-    if made.refusal == 0 {
-        write!(out, ": done")?;
-    } else {
-        show_refusal(out, made.refusal)?;
+// Shows what came of making a table: the table, or what stands where it was refused.
+pub fn show_table(out: &mut impl Write, refusal: Option<Refusal>, table: Spans) -> io::Result<()> {
+    match refusal {
+        None => write!(out, ": done")?,
+        Some(refusal) => show_refusal(out, refusal)?,
     }
-    let zero = made.spans.zero;
-    let one = made.spans.one;
+    let zero = table.zero;
+    let one = table.one;
     write!(
         out,
         ", table {} {} {} {}",
@@ -118,10 +103,10 @@ pub fn show_made(out: &mut impl Write, made: MadeSpans) -> io::Result<()> {
     )
 }
 
-pub fn show_place(out: &mut impl Write, place: Place) -> io::Result<()> {
-    match place {
-        Place::At(at) => write!(out, ": offset {at}, disk {}", move_table::disk_at(at)),
-        Place::NoMark => write!(out, ": no such mark"),
+pub fn show_offset(out: &mut impl Write, offset: Option<usize>) -> io::Result<()> {
+    match offset {
+        Some(at) => write!(out, ": offset {at}, disk {}", move_table::disk_at(at)),
+        None => write!(out, ": no such mark"),
     }
 }
 
@@ -132,6 +117,9 @@ pub fn show_changed(
     before: &[u8],
     after: &[u8],
 ) -> io::Result<()> {
+    if before == after {
+        return Ok(());
+    }
     if let Some(first) = first_changed(before, after)
         && let Some(last) = last_changed(before, after)
     {

@@ -7,10 +7,10 @@ use layout::Block;
 use spans::Spans;
 use std::io;
 use std::io::Write;
-use volume::{Reply, Volume};
+use volume::{Reply, Told, Volume};
 
 // The reply of a call on the bytes that are lent; none where a piece would be too long.
-fn reply_to(call: Call, state: Volume, table: Spans, medium: &mut [u8]) -> Option<Reply> {
+fn reply_to(call: Call, state: Volume, table: Spans, medium: &mut [u8]) -> Option<Reply<Told>> {
     Some(match call {
         Call::Format { size, rows, disks } => Volume::format(medium, size, rows, disks),
         Call::Restart => Volume::restart(medium),

@@ -1,10 +1,11 @@
 // Changes from outside: of the state, of what is lent, and other bytes on the medium, as a power cut or a damage leaves them.
-use super::answers::show_made;
+use super::answers::show_table;
 use super::commands::Change;
 use super::run::{MEDIUM_SIZE, Run};
 use super::states::state_numbers;
 use printing::put_bytes;
-use spans::Spans;
+use record::Record;
+use spans::{NO_SPANS, Spans};
 use std::io;
 use std::io::Write;
 use volume::Volume;
@@ -29,9 +30,11 @@ fn put(medium: &mut [u8], at: usize, count: usize, byte: u8) {
 // Puts the record of the state, sound or not, on the medium.
 fn put_record(medium: &mut [u8; MEDIUM_SIZE], state: Volume) {
     let numbers = state_numbers(state);
+    let marks = marks::marks_of(state.recorded);
     // A record has the first thirteen, and the recorded marks one by one.
-    if let Some(columns) = numbers.first_chunk() {
-        record::write_record(medium, *columns, marks::marks_of(state.recorded));
+    if let Some(numbers) = numbers.first_chunk() {
+        let numbers = *numbers;
+        record::write_record(medium, &Record { numbers, marks });
     }
 }
 
@@ -45,8 +48,8 @@ fn lend(out: &mut impl Write, run: &mut Run, len: usize) -> io::Result<()> {
 // Makes a table. What comes of it is the run's from now on.
 fn make_table(out: &mut impl Write, run: &mut Run, asked: Spans) -> io::Result<()> {
     let made = spans::make_spans(asked.zero, asked.one);
-    run.table = made.spans;
-    show_made(out, made)
+    run.table = made.unwrap_or(NO_SPANS);
+    show_table(out, made.err(), run.table)
 }
 
 pub fn set(out: &mut impl Write, run: &mut Run, change: Change) -> io::Result<()> {

@@ -1,13 +1,13 @@
 // Charts, in a page that holds 170 in each byte before the call.
-use super::answers::{show_changed, show_chart};
+use super::answers::{show_changed, show_used};
+use base::Refusal;
 use std::io;
 use std::io::Write;
-use wall_chart::ChartAnswer;
 
 const MOST_PAGE: usize = 4_096;
 
 // Puts a chart into a page of so many bytes, and shows it and which bytes changed.
-pub fn chart<F: FnOnce(&mut [u8]) -> ChartAnswer>(
+pub fn chart<F: FnOnce(&mut [u8]) -> Result<usize, Refusal>>(
     out: &mut impl Write,
     len: usize,
     put: F,
@@ -19,13 +19,14 @@ pub fn chart<F: FnOnce(&mut [u8]) -> ChartAnswer>(
     let Some(page) = space.get_mut(..len) else {
         return write!(out, ": a page has at most 4,096 bytes");
     };
-    let used = show_chart(out, put(page))?;
+    let answer = put(page);
+    show_used(out, answer)?;
     show_changed(out, ", page", &untouched, page)?;
-    match page.get(..used) {
-        Some(text) if used != 0 => {
+    match answer.ok().and_then(|used| page.get(..used)) {
+        None | Some([]) => Ok(()),
+        Some(text) => {
             writeln!(out)?;
             out.write_all(text)
         }
-        _ => Ok(()),
     }
 }

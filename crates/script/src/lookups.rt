@@ -2,7 +2,7 @@
 use layout::{Block, Part, Reason};
 use std::io;
 use std::io::Write;
-use volume::{AddressAnswer, HolderAnswer, Volume};
+use volume::Volume;
 
 // What address and holder tell of a block.
 #[derive(Clone, Copy, PartialEq, Eq)]
@@ -13,9 +13,7 @@ enum Kind {
     NotHeld,
     SetOut,
     Added,
-    MovedAsHead,
-    MovedAsBody,
-    MovedAsTail,
+    Moved(Part),
 }
 
 const KINDS: [Kind; 7] = [
@@ -23,9 +21,9 @@ const KINDS: [Kind; 7] = [
     Kind::NotHeld,
     Kind::SetOut,
     Kind::Added,
-    Kind::MovedAsHead,
-    Kind::MovedAsBody,
-    Kind::MovedAsTail,
+    Kind::Moved(Part::Head),
+    Kind::Moved(Part::Body),
+    Kind::Moved(Part::Tail),
 ];
 
 impl From<Reason> for Kind {
@@ -33,29 +31,22 @@ impl From<Reason> for Kind {
         match reason {
             Reason::SetOut => Kind::SetOut,
             Reason::AddedBy(_) => Kind::Added,
-            Reason::MovedBy(_, Part::Head) => Kind::MovedAsHead,
-            Reason::MovedBy(_, Part::Body) => Kind::MovedAsBody,
-            Reason::MovedBy(_, Part::Tail) => Kind::MovedAsTail,
+            Reason::MovedBy(_, part) => Kind::Moved(part),
         }
     }
 }
 
 fn kind_of(state: Volume, block: Block) -> Kind {
-    let AddressAnswer::At(spot, reason, _) = state.address(block).answer else {
-        return Kind::Refused;
-    };
-    match state.holder(spot).answer {
-        HolderAnswer::Has(held) if held.0 == block.0 => Kind::from(reason),
-        _ => Kind::NotHeld,
+    match state.address(block).answer {
+        Err(_) => Kind::Refused,
+        Ok(address) if state.holder(address.spot).answer == Ok(block) => Kind::from(address.reason),
+        Ok(_) => Kind::NotHeld,
     }
 }
 
-// By how many growths a block was moved; none where address refuses it.
-fn moves_of(state: Volume, block: Block) -> Option<usize> {
-    match state.address(block).answer {
-        AddressAnswer::Refused(_) => None,
-        AddressAnswer::At(_, _, moves) => Some(moves),
-    }
+fn was_moved_by(state: Volume, block: Block, growths: usize) -> bool {
+    let answer = state.address(block).answer;
+    answer.is_ok_and(|address| address.moves == growths)
 }
 
 // How many blocks below `end` are refused, not found again by holder, set out at format, added, and moved as head, body and tail.
@@ -73,9 +64,9 @@ pub fn addresses(out: &mut impl Write, state: Volume, end: usize) -> io::Result<
 // How many blocks below `end` were moved by 0 growths, by 1, and so on up to 7. A block that is refused is not counted.
 pub fn moves(out: &mut impl Write, state: Volume, end: usize) -> io::Result<()> {
     write!(out, ":")?;
-    for moves in 0..8 {
+    for growths in 0..8 {
         let count = (0..end)
-            .filter(|&x| moves_of(state, Block(x)) == Some(moves))
+            .filter(|&x| was_moved_by(state, Block(x), growths))
             .count();
         write!(out, " {count}")?;
     }

@@ -1,9 +1,10 @@
 // Pieces of blocks, read and shown.
-use super::answers::{refusal_of, show_answer};
+use super::answers::show_answer;
+use base::Refusal;
 use layout::Block;
 use std::io;
 use std::io::Write;
-use volume::{Answer, Reply, Volume};
+use volume::{Reply, Told, Volume};
 
 // How long a piece may be.
 pub const MOST_PIECE: usize = 1_024;
@@ -28,7 +29,7 @@ pub fn show_piece(out: &mut impl Write, piece: &[u8]) -> io::Result<()> {
 }
 
 // Fills a piece, which holds 170 in each byte before, by a call.
-pub fn read<F: FnOnce(&mut [u8]) -> Reply>(
+pub fn read<F: FnOnce(&mut [u8]) -> Reply<Told>>(
     out: &mut impl Write,
     size: usize,
     call: F,
@@ -45,9 +46,9 @@ pub fn read<F: FnOnce(&mut [u8]) -> Reply>(
 }
 
 // The byte that a block's bytes all are.
-fn show_block(out: &mut impl Write, answer: Answer, piece: &[u8]) -> io::Result<()> {
-    if let Some(refusal) = refusal_of(answer) {
-        return write!(out, " refused with {refusal}");
+fn show_block(out: &mut impl Write, answer: Result<Told, Refusal>, piece: &[u8]) -> io::Result<()> {
+    if let Err(refusal) = answer {
+        return write!(out, " refused with {}", refusal.number());
     }
     match piece.first() {
         Some(first) if alike(piece) == piece.len() => write!(out, " {first}"),

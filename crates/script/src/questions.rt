@@ -1,5 +1,5 @@
 // What leaves the run as it is.
-use super::answers::{show_address, show_holder, show_place};
+use super::answers::{show_address, show_holder, show_offset};
 use super::charts::chart;
 use super::commands::Question;
 use super::lookups::{addresses, moves};
@@ -39,7 +39,7 @@ pub fn ask(out: &mut impl Write, run: &Run, question: Question) -> io::Result<()
         Question::Addresses { end } => addresses(out, state, end),
         Question::Moves { end } => moves(out, state, end),
         Question::TableMove { disks, added, mark } => {
-            show_place(out, move_table::offset(disks, added, mark))
+            show_offset(out, move_table::offset(disks, added, mark))
         }
     }
 }

@@ -1,6 +1,6 @@
 // A run: what the lines of a script have come to.
 use printing::number_bytes;
-use spans::{Span, Spans};
+use spans::{NO_SPANS, Spans};
 use volume::Volume;
 
 pub const MEDIUM_SIZE: usize = 18_432;
@@ -20,15 +20,11 @@ pub struct Run {
 impl Run {
     // The state of zeros, a table of zeros, a medium whose byte k holds k % 251, all of it lent, and a write cache.
     pub fn new() -> Self {
-        let none = Span { first: 0, count: 0 };
         let mut medium = [0; MEDIUM_SIZE];
         number_bytes(&mut medium);
         Run {
             state: Volume::zeros(),
-            table: Spans {
-                zero: none,
-                one: none,
-            },
+            table: NO_SPANS,
             lent: MEDIUM_SIZE,
             cached: true,
             medium,
