@@ -1,5 +1,4 @@
 // Columns of the record: written and read back, and ones that hold no number.
-use printing::{labelled, text};
 use record::Column;
 use std::io;
 use std::io::Write;
@@ -7,27 +6,27 @@ use std::io::Write;
 // The end of a column's line: what reading finds in its bytes.
 fn show_column(out: &mut impl Write, column: &[u8]) -> io::Result<()> {
     match record::read_column(column) {
-        Column::Number(n) => labelled(out, b"], read as", n),
-        Column::Blank => text(out, b"], read as blank"),
-        Column::NotANumber => text(out, b"], not a number"),
+        Column::Number(n) => write!(out, "], read as {n}"),
+        Column::Blank => write!(out, "], read as blank"),
+        Column::NotANumber => write!(out, "], not a number"),
     }
 }
 
-// Writes n into ten bytes.
-pub fn show_written(out: &mut impl Write, n: usize) -> io::Result<()> {
-    let mut space = [0u8; 10];
-    let column: &mut [u8] = &mut space;
-    record::put_number(column, n);
-    text(out, column)?;
-    show_column(out, column)
-}
-
-// The last bytes of a text that ends in `@`, which is left out.
-pub fn show_before(out: &mut impl Write, before: &[u8], length: usize) -> io::Result<()> {
-    if before.len() <= length {
+// The first number, written into ten bytes.
+pub fn show_written(out: &mut impl Write, numbers: &[usize]) -> io::Result<()> {
+    let mut column = [0; 10];
+    let Some(&n) = numbers.first() else {
         return Ok(());
+    };
+    record::put_number(&mut column, n);
+    out.write_all(&column)?;
+    show_column(out, &column)
+}
+
+// The text behind the bracket.
+pub fn show_text(out: &mut impl Write, text: &str) -> io::Result<()> {
+    match text.rsplit_once('[') {
+        Some((_, column)) => show_column(out, column.as_bytes()),
+        None => Ok(()),
     }
-    let end = before.len() - 1;
-    let start = end - length;
-    show_column(out, &before[start..end])
 }

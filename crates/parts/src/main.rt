@@ -1,23 +1,22 @@
 // Runs what no call reaches on cases, the blocks and windows of one growth, columns and records of every length and with every byte
 // changed, and writes a line for each. What it must write is in the file stdout. The cases of calls are in the crate `script`.
-// The lines are printed as they stand, but for a letter after `@`: that is a question, listed in the file cases.rt. It is asked with
-// the numbers before it in its line, a, b and c, and the answer is printed.
+// The lines are printed as they stand, but for a letter after `@`: that is a question, listed in the file question.rt. It is asked
+// with the text before the line's first question and the numbers in it, and the answer is printed.
 #![tactic(auto)]
 
 mod cases;
 mod changes;
 mod columns;
+mod question;
 mod records;
 mod windows;
 
-use cases::run_cases;
+use cases::show_case;
+use records::worked;
 use std::io;
 use std::io::{BufWriter, Write};
 
-fn growths(out: &mut impl Write) -> io::Result<()> {
-    run_cases(
-        out,
-        b"1. One growth: each block a head, body or tail that moves, one that stays, or added
+const GROWTHS: &str = "1. One growth: each block a head, body or tail that moves, one that stays, or added
 m 3, n 2, s 5: @L
 m 4, n 2, s 6: @L
 m 2, n 2, s 4: @L
@@ -62,16 +61,9 @@ m 1, n 1, s 3: @L
 8 to 16 disks, 1000000 rows: @W
 8 to 16 disks, 1000000 rows, window 62499: @M
 8 to 16 disks, 1000000 rows, window 62500: @M
-",
-    )
-}
+";
 
-fn main(rt: HostRuntime) -> io::Result<()> {
-    let mut out = BufWriter::new(rt.alloc(), io::writer(&rt))?;
-    growths(&mut out)?;
-    run_cases(
-        &mut out,
-        b"5. Columns: written and read back; then a blank one, damaged ones and ones of another length
+const RECORDS: &str = "5. Columns: written and read back; then a blank one, damaged ones and ones of another length
 column of 0: [@C
 column of 9: [@C
 column of 10: [@C
@@ -88,8 +80,8 @@ column of 9999999999: [@C
 [       5/2@T
 [       5:2@T
 [       0x9@T
-[      512@N
-[        512@E
+[      512@T
+[        512@T
 6. The worked record of document 01: from 3 disks to 5, 512-byte blocks, 5 rows, blocks 0 and 3 recorded
 @P
 read back: refusal @B
@@ -99,7 +91,14 @@ one of bytes 194 to 510 changed: accepted @Y, refused @Z
 byte 511 changed: accepted @Y, refused @Z
 511 bytes, refusal @Q
 513 bytes, refusal @Q
-",
-    )?;
+";
+
+fn main(rt: HostRuntime) -> io::Result<()> {
+    let alloc = rt.alloc();
+    let page = worked();
+    let mut out = BufWriter::new(alloc, io::writer(&rt))?;
+    for line in GROWTHS.lines().chain(RECORDS.lines()) {
+        show_case(&mut out, alloc, &page, line)?;
+    }
     out.flush()
 }

@@ -1,12 +1,16 @@
 // The worked record of document 01: written, read back, and changed in every byte.
-use base::Refusal;
-use printing::{Line, next_number, number, text};
+ghost use Rattle.std.specs.Prelude.{◌≤◌};
+
 use record::Record;
 use std::io;
 use std::io::Write;
+use std::ops::RangeInclusive;
 
-// A page that begins with the record. Its numbers are Z, s, t, N[0] to N[7], growing and w; blocks 0 and 3 have marks 0 and 1.
-pub fn worked() -> [u8; 520] {
+// Bytes that begin with a record.
+pub type Page = [u8; 520];
+
+// The worked record and bytes behind it. Its numbers are Z, s, t, N[0] to N[7], growing and w; blocks 0 and 3 have marks 0 and 1.
+pub fn worked() -> Page {
     let mut page = [b'.'; 520];
     let mut marks = [false; 64];
     marks[0] = true;
@@ -17,101 +21,98 @@ pub fn worked() -> [u8; 520] {
 }
 
 // The record's bytes and those after it.
-pub fn show_page(out: &mut impl Write, page: [u8; 520]) -> io::Result<()> {
-    text(out, &page[0..512])?;
-    text(out, b"after it: ")?;
-    text(out, &page[512..520])
+pub fn show_page(out: &mut impl Write, page: &Page) -> io::Result<()> {
+    let (record, rest) = page.split_at(512);
+    out.write_all(record)?;
+    write!(out, "after it: ")?;
+    out.write_all(rest)
 }
 
-fn show_numbers(out: &mut impl Write, numbers: [usize; 13]) -> io::Result<()> {
-    for i in 0..13 {
-        next_number(out, numbers[i])?;
+fn show_numbers(out: &mut impl Write, numbers: &[usize]) -> io::Result<()> {
+    for n in numbers {
+        write!(out, " {n}")?;
     }
     Ok(())
 }
 
 // The marks that are set.
-fn show_set(out: &mut impl Write, marks: [bool; 64]) -> io::Result<()> {
-    for i in 0..64 {
-        if marks[i] {
-            next_number(out, i)?;
+fn show_set(out: &mut impl Write, marks: &[bool]) -> io::Result<()> {
+    for (i, &is_set) in marks.iter().enumerate() {
+        if is_set {
+            write!(out, " {i}")?;
         }
     }
     Ok(())
 }
 
-// The number of the refusal, or 0, and the record, or zeros.
-fn answer(read: Result<Record, Refusal>) -> (usize, Record) {
-    match read {
-        Ok(found) => (0, found),
-        Err(refusal) => (
-            refusal.number(),
-            Record {
-                numbers: [0; 13],
-                marks: [false; 64],
-            },
-        ),
-    }
-}
-
 // What the first 512 bytes are read as.
-pub fn show_read(out: &mut impl Write, page: [u8; 520]) -> io::Result<()> {
-    let (refusal, found) = answer(record::read_record(&page[0..512]));
-    number(out, refusal)?;
-    text(out, b", numbers")?;
-    show_numbers(out, found.numbers)?;
-    text(out, b", marks")?;
-    show_set(out, found.marks)
+pub fn show_read(out: &mut impl Write, page: &Page) -> io::Result<()> {
+    match record::read_record(&page[..512]) {
+        Ok(found) => {
+            write!(out, "0, numbers")?;
+            show_numbers(out, &found.numbers)?;
+            write!(out, ", marks")?;
+            show_set(out, &found.marks)
+        }
+        Err(refusal) => write!(out, "{}", refusal.number()),
+    }
 }
 
-// The refusal with k added to byte `at` of the record, 256 being 0.
-fn refusal_with(page: [u8; 520], at: usize, k: u8) -> usize {
-    let mut changed = page;
-    if 512 <= at {
-        return 2;
+// The page with k added to byte `at`, 256 being 0.
+fn with_added(page: &Page, at: usize, k: u8) -> Page {
+    let mut changed = *page;
+    if let Some(byte) = changed.get_mut(at) {
+        *byte = byte.wrapping_add(k);
     }
-    changed[at] = changed[at].wrapping_add(k);
-    answer(record::read_record(&changed[0..512])).0
+    changed
 }
 
-// How many of the 255 changes of each byte from `from` to `last` get this refusal; 0 past byte 511.
-fn changes(page: [u8; 520], from: usize, last: usize, refusal: usize) -> usize {
-    if 511 < from {
-        return 0;
-    }
-    if 511 < last {
-        return 0;
-    }
-    let end = last * 255 + 255;
+fn is_accepted(page: &Page) -> bool {
+    record::read_record(&page[..512]).is_ok()
+}
+
+// How many of the 255 changes of a byte are accepted, or are refused.
+fn changes_of_byte(page: &Page, at: usize, accepted: bool) -> usize
+    ensures { result ≤ 255 }
+{
+    (1..=u8::MAX)
+        .filter(|&k| is_accepted(&with_added(page, at, k)) == accepted)
+        .count()
+}
+
+// The same of the bytes of a range.
+fn changes(page: &Page, bytes: RangeInclusive<usize>, accepted: bool) -> usize {
     let mut total = 0;
-    for k in from * 255..end {
-        if refusal_with(page, k / 255, (k % 255 + 1) as u8) == refusal {
-            total += 1;
+    for at in 0..512 {
+        if bytes.contains(&at) {
+            total += changes_of_byte(page, at, accepted);
         }
     }
     total
 }
 
-// The changes of bytes a to b, of byte a alone, or of each of the 512, by how many numbers the line has.
+// The changes of bytes a to b, of byte a alone, or of each of the 512, by how many numbers there are.
 pub fn show_changes(
     out: &mut impl Write,
-    page: [u8; 520],
-    line: Line,
-    refusal: usize,
+    page: &Page,
+    numbers: &[usize],
+    accepted: bool,
 ) -> io::Result<()> {
-    let given = line.numbers;
-    let count = line.count;
-    match count {
-        0 => number(out, changes(page, 0, 511, refusal)),
-        1 => number(out, changes(page, given[0], given[0], refusal)),
-        _ => number(out, changes(page, given[0], given[1], refusal)),
-    }
+    let bytes = match numbers {
+        [] => 0..=511,
+        [byte] => *byte..=*byte,
+        [first, last, ..] => *first..=*last,
+    };
+    write!(out, "{}", changes(page, bytes, accepted))
 }
 
-// The refusal of the first `length` bytes.
-pub fn show_refusal(out: &mut impl Write, page: [u8; 520], length: usize) -> io::Result<()> {
-    if 520 < length {
+// The refusal of the first bytes, as many as the first number; 0 for none.
+pub fn show_refusal(out: &mut impl Write, page: &Page, numbers: &[usize]) -> io::Result<()> {
+    let Some(bytes) = numbers.first().and_then(|&length| page.get(..length)) else {
         return Ok(());
+    };
+    match record::read_record(bytes) {
+        Ok(_) => write!(out, "0"),
+        Err(refusal) => write!(out, "{}", refusal.number()),
     }
-    number(out, answer(record::read_record(&page[0..length])).0)
 }

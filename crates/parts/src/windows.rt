@@ -1,134 +1,106 @@
 // Windows and marks of the newest growth, asked of the layout behind run-time tests, so that no caller needs a `requires`.
-ghost use Rattle.std.specs.Prelude.{◌≡◌, ◌<◌, ◌≤◌, true};
+ghost use Rattle.std.specs.Prelude.{◌<◌, IfSome};
 ghost use Rattle.layout.specs.History.{history, old_count, added_count};
-ghost use Rattle.layout.specs.Limits.{Limits, Grows};
 ghost use Rattle.layout.specs.Windows.{windows};
 
-use printing::{Line, labelled, text};
+use layout::History;
 use std::io;
 use std::io::Write;
 use volume::Volume;
+use window::Window;
 
-// The windows of the newest growth; 0 outside the limits and where there was no growth.
-fn growth_windows(counts: [usize; 8], t: usize, s: usize) -> usize
-    ensures t_nonzero { 0 < result → (0 < t) × Limits s (history t counts) }
-    ensures upper_bound { result ≤ windows (old_count (history t counts)) (added_count (history t counts)) s }
+// Counts as the eight of a state: zeros after the last.
+fn eight(counts: &[usize]) -> Option<[usize; 8]> {
+    let mut all = [0; 8];
+    all.get_mut(..counts.len())?.copy_from_slice(counts);
+    Some(all)
+}
+
+// The history of the first counts, so many, if it is within the limits and has a growth.
+fn grown(counts: &[usize; 8], count: usize, rows: usize) -> Option<History<'_>>
+    ensures { IfSome result (λ h. 0 < h.growths) }
 {
-    if t == 0 {
-        return 0;
+    let growths = count.checked_sub(1)?;
+    if growths == 0 || Volume::MOST_GROWTHS < growths {
+        return None;
     }
-    if Volume::MOST_GROWTHS < t {
-        return 0;
+    if rows < Volume::LEAST_ROWS || Volume::MOST_ROWS < rows {
+        return None;
     }
-    if s < Volume::LEAST_ROWS {
-        return 0;
+    if Volume::MOST_DISKS < counts[growths] || !marks::counts_rise(counts, growths) {
+        return None;
     }
-    if Volume::MOST_ROWS < s {
-        return 0;
-    }
-    if Volume::MOST_DISKS < counts[t] {
-        return 0;
-    }
-    if !marks::counts_rise(&counts, t) {
-        return 0;
-    }
-    let g = layout::newest_growth(&counts, t);
-    window::window_count(g.old, g.added, s)
+    Some(History {
+        counts,
+        growths,
+        rows,
+    })
 }
 
-// The moves of its window w; 0 if there is no such window.
-fn window_moves(counts: [usize; 8], t: usize, s: usize, w: usize) -> usize {
-    if growth_windows(counts, t, s) <= w {
-        return 0;
-    }
-    window::moves_of_window(&counts, t, s, w)
-}
-
-// Is the growth from m disks by n within the limits.
-pub fn grows(m: usize, n: usize) -> bool
-    ensures { result ≡ true → Grows m n }
+// A window of the newest growth, if there is one of that number.
+fn window_of(h: History, number: usize) -> Option<Window>
+    requires { 0 < h.growths }
+    ensures { IfSome result (λ _. let all = history h.entry.growths h.entry.counts.now in number < windows (old_count all) (added_count all) h.entry.rows) }
 {
-    if m < 1 {
-        return false;
+    let growth = h.newest_growth();
+    if window::window_count(growth, h.rows) <= number {
+        return None;
     }
-    if n < 1 {
-        return false;
-    }
-    if Volume::MOST_DISKS < m {
-        return false;
-    }
-    n <= Volume::MOST_DISKS - m
+    Some(Window {
+        growth,
+        rows: h.rows,
+        number,
+    })
 }
 
-// Is j a mark of window w whose row exists, and also the mark of the spot of mark j.
-fn mark_agrees(m: usize, n: usize, s: usize, w: usize, j: usize) -> bool {
-    if !grows(m, n) {
+// Is j a mark of the window whose row exists, and also the mark of the spot of mark j.
+fn mark_agrees(window: Window, j: usize) -> bool {
+    let growth = window.growth;
+    if growth.old * growth.added <= j {
         return false;
     }
-    if Volume::MOST_ROWS < w {
-        return false;
-    }
-    if m * n <= j {
-        return false;
-    }
-    if !window::row_exists(m, n, s, w, j) {
-        return false;
-    }
-    let p = window::spot_of_mark(m, n, w, j);
-    window::mark_of_spot(m, n, p) == j
+    window.row_exists(j) && window::mark_of_spot(growth, window.spot_of_mark(j)) == j
 }
 
-// The marks of window w whose rows exist and that their spots lead back to.
-fn marks_found(m: usize, n: usize, s: usize, w: usize) -> usize {
-    let mut total = 0;
-    for j in 0..64 {
-        if mark_agrees(m, n, s, w, j) {
-            total += 1;
-        }
-    }
-    total
+// The marks of the window whose rows exist and that their spots lead back to.
+fn marks_found(window: Window) -> usize {
+    (0..64).filter(|&j| mark_agrees(window, j)).count()
 }
 
-// The windows of the newest growth, and the moves of the first and of the last. The line has the disk counts and the rows s.
-pub fn show_windows(out: &mut impl Write, line: Line) -> io::Result<()> {
-    let counts = line.numbers;
-    let s = line.last;
-    let count = line.count;
-    if count < 2 {
+// The windows of the newest growth, and the moves of the first and of the last. The numbers are the disk counts and the rows.
+pub fn show_windows(out: &mut impl Write, numbers: &[usize]) -> io::Result<()> {
+    let [counts @ .., rows] = numbers else {
         return Ok(());
-    }
-    let t = count - 2;
-    let windows = growth_windows(counts, t, s);
-    if windows == 0 {
-        return text(out, b"no growth");
-    }
-    labelled(out, b"windows", windows)?;
-    labelled(out, b", moves of the first", window_moves(counts, t, s, 0))?;
-    labelled(
-        out,
-        b", of the last",
-        window_moves(counts, t, s, windows - 1),
-    )
+    };
+    let Some(all) = eight(counts) else {
+        return Ok(());
+    };
+    let Some(h) = grown(&all, counts.len(), *rows) else {
+        return write!(out, "no growth");
+    };
+    let windows = window::window_count(h.newest_growth(), h.rows);
+    let Some(last) = windows.checked_sub(1) else {
+        return Ok(());
+    };
+    write!(out, "windows {windows}, moves of the first {}", window::moves_of_window(h, 0))?;
+    write!(out, ", of the last {}", window::moves_of_window(h, last))
 }
 
-// The moves of window w of the newest growth, and its marks that their spots lead back to. The line has the disk counts, s and w.
-pub fn show_marks(out: &mut impl Write, line: Line) -> io::Result<()> {
-    let counts = line.numbers;
-    let s = line.before;
-    let w = line.last;
-    let count = line.count;
-    if count < 3 {
+// The moves of a window of the newest growth, and its marks that their spots lead back to. The numbers are the disk counts, the rows
+// and the window's.
+pub fn show_marks(out: &mut impl Write, numbers: &[usize]) -> io::Result<()> {
+    let [counts @ .., rows, number] = numbers else {
         return Ok(());
-    }
-    let t = count - 3;
-    if growth_windows(counts, t, s) <= w {
-        return text(out, b"no such window");
-    }
-    let g = layout::newest_growth(&counts, t);
-    labelled(out, b"moves", window_moves(counts, t, s, w))?;
-    labelled(
-        out,
-        b", marks found from their spots",
-        marks_found(g.old, g.added, s, w),
-    )
+    };
+    let Some(all) = eight(counts) else {
+        return Ok(());
+    };
+    let Some(h) = grown(&all, counts.len(), *rows) else {
+        return write!(out, "no such window");
+    };
+    let Some(window) = window_of(h, *number) else {
+        return write!(out, "no such window");
+    };
+    write!(out, "moves {}", window::moves_of_window(h, *number))?;
+    write!(out, ", marks found from their spots {}", marks_found(window))
 }

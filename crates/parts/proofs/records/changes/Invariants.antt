@@ -1,6 +1,6 @@
--- `changes` has counted no more changes than it has made.
-use Rattle.std.proofs.Common.{◌≤◌}
+-- `changes` has counted 255 changes at most for each byte.
+use Rattle.std.proofs.Common.{◌*◌, ◌≤◌}
 use Rattle.parts.proofs.records.changes.Given as goal
 
-abbrev pub invariant-loop-k : goal.invariant-loop-k
-invariant-loop-k l = l.total ≤ l.k
+abbrev pub invariant-loop-at : goal.invariant-loop-at
+invariant-loop-at l = l.total ≤ 255 * l.at-counter
