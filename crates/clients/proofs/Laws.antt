@@ -4,7 +4,7 @@ use mathlib.Core.Path.{◌≡◌, refl}
 use mathlib.Core.Bool.{true, false}
 use mathlib.Core.List.{List, [], ◌∷◌}
 use lib.ListN.{length}
-use Rattle.base.specs.Refusals.{row_after}
+use Rattle.base.specs.Refusals.{refusal_number, refusals, row_after, refusal_with}
 use Rattle.medium.specs.Medium.{Observations, observe}
 use Rattle.volume.specs.declared.Volume.{Volume}
 use Rattle.volume.specs.Answers.{number}
@@ -41,12 +41,12 @@ module _ (t : Spans) (client : ℕ) (v : Volume) (d : Drives) (x : ℕ) (piece :
 
 module _ (t : Spans) (client : ℕ) (v : Volume) (x : ℕ) where
   pub read_refuses : (piece : List ℕ) (o : Observations) → Refuses (client_read_table t client v x (length piece) o.byte_count) v piece (client_read t client v x piece o)
-  unfolding client_read read_effect doing number
-  read_refuses piece o = judged_refuses (client_read_table t client v x (length piece) o.byte_count) v piece _ refl
+  unfolding client_read read_effect doing number client_read_table row_after span_row read_table refusal_with refusals refusal_number
+  read_refuses piece o = judged_refuses (client_read_table t client v x (length piece) o.byte_count) v piece _ refl refl
 
   pub write_refuses : (piece : List ℕ) (o : Observations) → Refuses (client_write_table t client v x (length piece) o.byte_count) v piece (client_write t client v x piece o)
-  unfolding client_write write_effect doing number
-  write_refuses piece o = judged_refuses (client_write_table t client v x (length piece) o.byte_count) v piece _ refl
+  unfolding client_write write_effect doing number client_write_table row_after span_row write_table refusal_with refusals refusal_number
+  write_refuses piece o = judged_refuses (client_write_table t client v x (length piece) o.byte_count) v piece _ refl refl
 
   read_order : (piece_bytes byte_count : ℕ) → numbers_in (client_read_table t client v x piece_bytes byte_count) ≡ 1 ∷ 21 ∷ 2 ∷ 3 ∷ 4 ∷ []
   unfolding client_read_table row_after span_row read_table

@@ -1,7 +1,7 @@
 -- W10 on the volume's events.
 use Prim.Native.Nat.{ℕ, ◌<◌}
 use mathlib.Core.Path.{◌≡◌, refl, ap, ◌∙◌, subst}
-use mathlib.Core.Bool.{Bool, true, false, true≢false}
+use mathlib.Core.Bool.{Bool, true, false, true≢false, false≢true}
 use mathlib.Core.List.{List}
 use mathlib.Core.Option.{Option, none, some}
 use lib.ListN.{length}
@@ -61,11 +61,11 @@ read_allowed (down m) x piece u = absurd u
 -- what an accepted read says of the plain volume
 read_whole : (v : Volume) (x : ℕ) (piece : List ℕ) (o : Observations) → accepted (read_outcome v x piece o).reply.answer ≡ true
     → ReadFacts v x (length piece) o.byte_count
-unfolding read_outcome refused accepted number
+unfolding read_outcome refused accepted
 read_whole v x piece o =
     judged_cases (λ (out : Outcome). accepted out.reply.answer ≡ true → ReadFacts v x (length piece) o.byte_count)
     (read_table v x (length piece) o.byte_count) (λ n. refused v n piece) _ (λ e _. read_accepted v x (length piece) o.byte_count e)
-    (λ f ok. absurd (f (eqb-true _ 0 ok)))
+    (λ f ok. absurd (false≢true ok))
 
 read_facts : (g : Geometry) (s : System) (k : CachedModel) (told : Option ℕ) → Invariant false g s k told → IsUp s → (x : ℕ) (piece : List ℕ)
     → accepted (outcome call_outcome (read x piece) s).reply.answer ≡ true → (x < k.current.plain.blocks) × (length piece ≡ g.size)

@@ -12,6 +12,7 @@ use Rattle.medium.specs.Medium.{observe, Store, no_store, record_store, block_st
 use Rattle.medium.proofs.Theorems.{medium_laws}
 use Rattle.volume.specs.declared.Volume.{Volume}
 use Rattle.volume.specs.declared.Reply.{Reply}
+use Rattle.volume.specs.declared.Told.{Told}
 use Rattle.volume.specs.Answers.{accepted}
 use Rattle.volume.specs.Records.{record_of}
 use Rattle.volume.specs.States.{geometry, recorded_only}
@@ -127,7 +128,7 @@ pub runs_alike : (c : Call) (s t : System) → Alike s t → Same (observe (medi
 unfolding after drives_after drives_by medium_of drives_of memory_of outcome
 runs_alike c s t a m =
     let r = same_accepted c s t a.memory m in
-    subst (λ (q : Reply). Alike (up (outcome call_outcome c s).reply.state (drives_by (settles c && accepted (outcome call_outcome c s).reply.answer) c s))
+    subst (λ (q : Reply Told). Alike (up (outcome call_outcome c s).reply.state (drives_by (settles c && accepted (outcome call_outcome c s).reply.answer) c s))
     (up q.state (drives_by (settles c && accepted q.answer) c t))) r
     (go (settles c && accepted (outcome call_outcome c s).reply.answer) (outcome call_outcome c s).reply.state)
   where

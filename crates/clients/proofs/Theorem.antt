@@ -5,8 +5,10 @@ use mathlib.Core.Bool.{true, false}
 use mathlib.Core.List.{List}
 use mathlib.Core.Option.{none}
 use Rattle.medium.specs.Medium.{observe}
-use Rattle.volume.specs.declared.Answer.{Answer}
+use Rattle.std.specs.Prelude.{Result}
+use Rattle.base.specs.declared.Refusal.{Refusal}
 use Rattle.volume.specs.declared.Reply.{Reply}
+use Rattle.volume.specs.declared.Told.{Told}
 use Rattle.volume.specs.Answers.{accepted}
 use Rattle.promise.specs.Lists.{call_outcome, System, IsUp, NoEarlyCut, last_reported, memory_of, medium_of}
 use Rattle.promise.specs.Model.{CachedModel, modelled}
@@ -77,7 +79,7 @@ module _ (t : Spans) (client : ℕ) (a : Start) (ok1 : accepted (formatted a).re
   read_after_lists : IsUp first → (b : ℕ) (piece : List ℕ) → SameRead station_outcome t client a es fs b piece
   unfolding stations_model read_after reply_after station_outcome
   read_after_lists u b piece =
-      let same = ap (λ (r : Reply). r.answer) (replies_after (reads client b piece)) in
+      let same = ap (λ (r : Reply Told). r.answer) (replies_after (reads client b piece)) in
       let own : accepted (client_read t client (memory_of first) b piece (observe (medium_of first))).reply.answer ≡ true → allowed t client b ≡ true =
       accepted_span t client (memory_of first) b piece (observe (medium_of first)) in
       let plain = ends_alike.1.current.plain in
@@ -87,7 +89,7 @@ module _ (t : Spans) (client : ℕ) (a : Start) (ok1 : accepted (formatted a).re
         same_bytes_law = λ bytes ok set. (
           client_bytes t client (start_geometry a) first first_model _ (invariant_here t a ok1 es ce) u b piece ok bytes set,
           client_bytes t client (start_geometry a) second second_model _ (invariant_here t a ok1 fs cf) (ends_alike.0.up_too u) b piece
-              (subst (λ (r : Answer). accepted r ≡ true) same ok) bytes (sym (plain.bytes b (own ok)) ∙ set),
+              (subst (λ (r : Result Told Refusal). accepted r ≡ true) same ok) bytes (sym (plain.bytes b (own ok)) ∙ set),
         );
         same_open = plain.blocks;
         is_accepted_law = client_accepted t client (start_geometry a) first first_model _ (invariant_here t a ok1 es ce) u b piece;

@@ -9,6 +9,7 @@ use Rattle.medium.specs.declared.Geometry.{Geometry}
 use Rattle.medium.specs.Medium.{Observations, observe, no_store, AfterCut, apply_all, also_pending}
 use Rattle.volume.specs.declared.Volume.{Volume}
 use Rattle.volume.specs.declared.Reply.{Reply}
+use Rattle.volume.specs.declared.Told.{Told}
 use Rattle.volume.specs.Answers.{accepted, number}
 use Rattle.volume.specs.Calls.{Outcome, refused, doing, read_table, read_effect, read_outcome, write_table, write_effect, write_outcome, flushed_effect}
 use Rattle.volume.specs.Records.{numbers_of, record_of}
@@ -134,7 +135,7 @@ module _ (g : Geometry) (mine : ℕ → Bool) where
       let i1 = ready_now i in
       let j1 = ready_now j in
       let m = seen_same g s t h k i1.0 j1.0 i1.1 j1.1 r in
-      let q : is_accepted call_outcome c s ≡ is_accepted call_outcome c t = ap (λ (p : Reply). accepted p.answer) (same_accepted c s t r.memory m) in (
+      let q : is_accepted call_outcome c s ≡ is_accepted call_outcome c t = ap (λ (p : Reply Told). accepted p.answer) (same_accepted c s t r.memory m) in (
         runs_alike c s t r m,
         subst (λ (b : Bool). CachedAlike mine (model_after (ended c (is_accepted call_outcome c s)) h) (model_after (ended c b) k)) q
             (models.ended_alike mine c (is_accepted call_outcome c s) h k a),

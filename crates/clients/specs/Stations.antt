@@ -5,6 +5,7 @@ use Rattle.std.specs.Prelude.{ℕ, List, [], ◌∷◌}
 use Rattle.std.proofs.Math.Option.{Option, none, some}
 use Rattle.medium.specs.Medium.{Observations, observe, AfterCut}
 use Rattle.volume.specs.declared.Reply.{Reply}
+use Rattle.volume.specs.declared.Told.{Told}
 use Rattle.volume.specs.declared.Volume.{Volume}
 use Rattle.volume.specs.Calls.{Outcome}
 use Rattle.promise.specs.Calls.{Call, grow, grow_beyond_doubling, copy, checkpoint, advance, write, read, restart, flushed, Fed}
@@ -105,7 +106,7 @@ module _ (calls : (c : StationCall) → Act) where
   stations_model a es = (modelled (fed_stations (begin a) es) (nothing_pending (start_model a.rows a.disks))).current
 
   -- what a call is answered after a list, with the state that it hands back
-  unfoldable pub reply_after : (a : Start) (es : List StationEvent) (c : StationCall) → Reply
+  unfoldable pub reply_after : (a : Start) (es : List StationEvent) (c : StationCall) → Reply Told
   reply_after a es c =
       let s = stations_after a es in
       (calls c (memory_of s) (observe (medium_of s))).reply

@@ -3,32 +3,35 @@
 // `specs/TwoRuns.antt`.
 #![tactic(auto)]
 
-ghost use Rattle.std.specs.Prelude.{◌≡◌, cond};
+ghost use Rattle.std.specs.Prelude.{◌≡◌, cond, Err};
+ghost use Rattle.base.specs.declared.Refusal.TheVariants as refusals;
 ghost use Rattle.medium.specs.Medium.{observe, apply};
-ghost use Rattle.volume.specs.declared.Answer.TheVariants as Answer;
 ghost use Rattle.volume.specs.Sound.{sound};
 ghost use Rattle.volume.specs.States.{geometry};
 ghost use Rattle.clients.specs.ClientCalls.{client_read, client_write};
 
+use base::Refusal;
 use layout::Block;
 use spans::Spans;
-use volume::{Answer, Reply, Volume};
+use volume::{Reply, Told, Volume};
 
 // The refusal of a client's call outside its span: 1 comes before 21.
-fn outside(state: Volume) -> Reply
-    ensures { result ≡ record { state = state; answer = Answer.Refused (cond (sound state) 21 1) } }
+fn outside(state: Volume) -> Reply<Told>
+    ensures { result ≡ record { state = state; answer = Err (cond (sound state) refusals.OutsideSpan refusals.NotSound) } }
 {
-    if state.is_sound() {
-        return Reply {
-            state,
-            answer: Answer::Refused(21),
-        };
-    }
+    let refusal = if state.is_sound() {
+        Refusal::OutsideSpan
+    } else {
+        Refusal::NotSound
+    };
     Reply {
         state,
-        answer: Answer::Refused(1),
+        answer: Err(refusal),
     }
 }
+
+// Kept: table and client are parameters of both calls, not a struct's fields: others call them so, and a table serves both
+// clients.
 
 // Fills a piece with block x, through the client's span.
 pub fn client_read(
@@ -38,7 +41,7 @@ pub fn client_read(
     medium: &[u8],
     x: Block,
     piece: &mut [u8],
-) -> Reply
+) -> Reply<Told>
     ensures value { result ≡ (client_read table client state x.0 piece.old (observe medium.now)).reply }
     ensures piece_after { piece.new ≡ (client_read table client state x.0 piece.old (observe medium.now)).piece }
 {
@@ -56,7 +59,7 @@ pub fn client_write(
     medium: &mut [u8],
     x: Block,
     piece: &[u8],
-) -> Reply
+) -> Reply<Told>
     ensures value { result ≡ (client_write table client state x.0 piece.now (observe medium.old)).reply }
     ensures medium_after { medium.new ≡ apply (geometry state) (client_write table client state x.0 piece.now (observe medium.old)).store medium.old }
 {
