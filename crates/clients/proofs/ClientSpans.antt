@@ -13,7 +13,7 @@ use Rattle.base.proofs.Booleans.{by_test, clash}
 use Rattle.base.proofs.Refusals.{row_passes}
 use Rattle.medium.specs.Medium.{Observations}
 use Rattle.volume.specs.declared.Volume.{Volume}
-use Rattle.volume.specs.Answers.{accepted, number}
+use Rattle.volume.specs.Answers.{accepted}
 use Rattle.volume.specs.Calls.{Outcome, refused, judged, read_table, read_effect, read_outcome, write_table, write_effect, write_outcome}
 use Rattle.volume.specs.Sound.{sound}
 use Rattle.volume.proofs.Judged.{refused_when, same_judged}

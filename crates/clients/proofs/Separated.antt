@@ -5,11 +5,10 @@ use mathlib.Core.Bool.{Bool, true, false, true≢false, false≢true}
 use mathlib.Core.List.{List}
 use mathlib.Core.Option.{Option, none, some}
 use lib.ListN.{length}
-use borrow.Author.Tests.{eqb-true}
 use Rattle.medium.specs.declared.Geometry.{Geometry}
 use Rattle.medium.specs.Medium.{Observations, observe}
 use Rattle.volume.specs.declared.Volume.{Volume}
-use Rattle.volume.specs.Answers.{accepted, number}
+use Rattle.volume.specs.Answers.{accepted}
 use Rattle.volume.specs.Calls.{Outcome, refused, read_table, read_outcome}
 use Rattle.volume.specs.States.{geometry}
 use Rattle.volume.proofs.Accepted.{ReadFacts, read_accepted}

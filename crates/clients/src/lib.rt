@@ -1,7 +1,7 @@
-// Two clients on one volume (document 02, W10): each reads and writes through its span, and the rack's calls stay as they are.
-// Both functions are offered to others and take any input. What a client reads does not depend on the other:
+// Two clients on one volume (document 02, W10): each reads and writes through its span, and the rack's calls stay as they
+// are. Both functions are offered to others and take any input. What a client reads does not depend on the other:
 // `specs/TwoRuns.antt`.
-#![tactic(auto)]
+#![tactic(auto, using(crate::proofs::ClientsCode::client_calls))]
 
 ghost use Rattle.std.specs.Prelude.{◌≡◌, cond, Err};
 ghost use Rattle.base.specs.declared.Refusal.TheVariants as refusals;
@@ -30,8 +30,8 @@ fn outside(state: Volume) -> Reply<Told>
     }
 }
 
-// Kept: table and client are parameters of both calls, not a struct's fields: others call them so, and a table serves both
-// clients.
+// Kept: table and client stay parameters of the two calls, and no struct has both: one table serves both clients, and
+// others call the two so.
 
 // Fills a piece with block x, through the client's span.
 pub fn client_read(
