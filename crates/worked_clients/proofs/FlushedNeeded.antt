@@ -3,7 +3,10 @@ use Prim.Native.Nat.{ℕ}
 use mathlib.Core.Path.{◌≡◌, refl, sym, ap, ◌∙◌}
 use mathlib.Core.List.{[], ◌∷◌, ◌++◌}
 use native.Mathlib.Omega.{arith}
-use Rattle.volume.specs.declared.Answer.TheVariants.{Refused, Done}
+use Rattle.std.specs.Prelude.{Ok, Err}
+use Rattle.base.specs.Refusals.{refusal_number}
+use Rattle.base.specs.declared.Refusal.TheVariants.{BlockNotOpen}
+use Rattle.volume.specs.declared.Told.TheVariants.{Done}
 use Rattle.volume.specs.Answers.{number}
 use Rattle.volume.specs.Calls.{Outcome}
 use Rattle.promise.specs.Lists.{NoEarlyCut}
@@ -45,7 +48,7 @@ first_open : (stations_model (station_outcome last_two) two_disks unflushed).pla
 unfolding runs_computing
 first_open = ap (λ (k : Model). k.plain.blocks) (our_model last_two two_disks 0 2 unflushed)
 
-first_read : (read_after (station_outcome last_two) two_disks unflushed 0 2 (block_of 0)).reply.answer ≡ Refused 3
+first_read : (read_after (station_outcome last_two) two_disks unflushed 0 2 (block_of 0)).reply.answer ≡ Err BlockNotOpen
 unfolding runs_computing
 first_read = ap (λ (r : Outcome). r.reply.answer) (our_read last_two two_disks 0 2 unflushed)
 
@@ -71,7 +74,7 @@ second_open : (stations_model (station_outcome last_two) two_disks unwritten).pl
 unfolding runs_computing
 second_open = ap (λ (k : Model). k.plain.blocks) (our_model last_two two_disks 0 2 unwritten)
 
-second_read : (read_after (station_outcome last_two) two_disks unwritten 0 2 (block_of 0)).reply.answer ≡ Done
+second_read : (read_after (station_outcome last_two) two_disks unwritten 0 2 (block_of 0)).reply.answer ≡ Ok Done
 unfolding runs_computing
 second_read = ap (λ (r : Outcome). r.reply.answer) (our_read last_two two_disks 0 2 unwritten)
 
@@ -85,7 +88,7 @@ same_shared : shared 0 (unflushed ++ then_read) ≡ shared 0 (unwritten ++ then_
 same_shared = shared_then 0 unflushed unwritten then_read same_before
 
 claim_false : SeparateUnflushed → ⊥
-unfolding number
+unfolding number refusal_number
 claim_false claim =
     let r = claim last_two 0 two_disks two_disks_accepted (unflushed ++ then_read) (unwritten ++ then_read) first_lawful first_early second_lawful second_early same_shared
     unflushed [] unwritten [] 2 (block_of 0) refl refl same_before in

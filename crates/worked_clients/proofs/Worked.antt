@@ -10,7 +10,9 @@ use borrow.Author.Tests.{ltb-true, eqb-true}
 use Rattle.base.proofs.Booleans.{and_left, and_right}
 use Rattle.layout.specs.Tally.{is_running}
 use Rattle.medium.specs.Medium.{old_record, new_record}
-use Rattle.volume.specs.declared.Answer.{Answer}
+use Rattle.std.specs.Prelude.{Result}
+use Rattle.base.specs.declared.Refusal.{Refusal}
+use Rattle.volume.specs.declared.Told.{Told}
 use Rattle.volume.specs.Answers.{accepted}
 use Rattle.volume.specs.Calls.{Outcome}
 use Rattle.promise.specs.Model.{Model}
@@ -125,7 +127,7 @@ module _ (p : Pair) where
           format_accepted = format_accepted;
           same_shared = same;
           first_run = run_shown p.first p.first_told (some p.other_saved) one read_accepted bytes.0;
-          second_run = run_shown p.second p.second_told none two (subst (λ (r : Answer). accepted r ≡ true) same_read.same_answer read_accepted) bytes.1;
+          second_run = run_shown p.second p.second_told none two (subst (λ (r : Result Told Refusal). accepted r ≡ true) same_read.same_answer read_accepted) bytes.1;
         }
 
 -- ---- unset blocks

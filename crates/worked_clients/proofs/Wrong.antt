@@ -3,6 +3,7 @@ use mathlib.Core.Path.{refl, ap}
 use mathlib.Core.List.{[]}
 use borrow.Author.Tests.{eq-eqb}
 use Rattle.volume.specs.declared.Reply.{Reply}
+use Rattle.volume.specs.declared.Told.{Told}
 use Rattle.spans.specs.declared.Spans.{Spans}
 use Rattle.clients.specs.Parts.{AnsweredAlike, SetAlike, BytesAlike, OpenAlike, OwnAccepted, EachRead, SeparateParts}
 use Rattle.clients.specs.Stations.{StationCall, reads, Act, reply_after, read_after}
@@ -82,7 +83,7 @@ grows_by_other_law = breaks_open grows_by_other one_each 0 0 1 1 whole_growth re
 read_replies : (calls : (t : Spans) (c : StationCall) → Act) → SameRepliesOf calls → EachRead calls (AnsweredAlike calls)
 unfolding read_after reply_after is_shared
 read_replies calls all t client a ok es fs ce cf q before rest before1 rest1 x piece e f s =
-    ap (λ (r : Reply). r.answer)
+    ap (λ (r : Reply Told). r.answer)
     (all t client a ok es fs ce cf q before rest before1 rest1 (reads client x piece) (eq-eqb client client refl) (no_flushed client x piece) e f s)
 
 replies_by_other : SameRepliesOf refuses_by_other → ⊥

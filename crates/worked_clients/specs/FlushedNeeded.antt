@@ -1,7 +1,8 @@
 -- Document 02, W10: "the promise covers lists with a flushed .. directly after every write not cut". Without that it would be false, through the 18
 -- that "may differ through the other's writes": `FlushedNeeded`. `proofs/FlushedNeeded.antt` has the proof.
-use Rattle.std.specs.Prelude.{ℕ, ◌≡◌, true, List, [], ◌∷◌, ◌++◌}
-use Rattle.volume.specs.declared.Answer.TheVariants.{Refused, Done}
+use Rattle.std.specs.Prelude.{ℕ, ◌≡◌, true, List, [], ◌∷◌, ◌++◌, Ok, Err}
+use Rattle.base.specs.declared.Refusal.TheVariants.{BlockNotOpen}
+use Rattle.volume.specs.declared.Told.TheVariants.{Done}
 use Rattle.volume.specs.Answers.{accepted}
 use Rattle.promise.specs.Lists.{NoEarlyCut}
 use Rattle.promise.specs.Promise.{Start, formatted, begin}
@@ -48,7 +49,7 @@ pub record FlushedNeeded : Type 0 where
   pub first_open : (stations_model (station_outcome last_two) two_disks unflushed).plain.blocks ≡ 2
   pub second_open : (stations_model (station_outcome last_two) two_disks unwritten).plain.blocks ≡ 3
   -- so client 0's read is answered differently
-  pub first_read : (read_after (station_outcome last_two) two_disks unflushed 0 2 (block_of 0)).reply.answer ≡ Refused 3
-  pub second_read : (read_after (station_outcome last_two) two_disks unwritten 0 2 (block_of 0)).reply.answer ≡ Done
+  pub first_read : (read_after (station_outcome last_two) two_disks unflushed 0 2 (block_of 0)).reply.answer ≡ Err BlockNotOpen
+  pub second_read : (read_after (station_outcome last_two) two_disks unwritten 0 2 (block_of 0)).reply.answer ≡ Ok Done
   -- and the claim is false
   pub claim_false : SeparateUnflushed → ⊥
