@@ -1,6 +1,6 @@
 -- Document 01, "Calls": the number and the figures that each case of an answer stands for. "A refusal has 0 for every figure beside its
 -- number"; the number of an accepted call is 0.
-use Rattle.std.specs.Prelude.{ℕ, Bool, true, false, eqb, Result, Ok, Err}
+use Rattle.std.specs.Prelude.{ℕ, Bool, true, false, Result, Ok, Err}
 use Rattle.std.proofs.Math.Option.{Option, none, some}
 use Rattle.base.specs.declared.Refusal.{Refusal}
 use Rattle.base.specs.Refusals.{refusal_number}

@@ -10,6 +10,7 @@
 mod calls;
 mod flush;
 mod growth;
+mod history;
 mod live;
 mod lookup;
 mod sound;

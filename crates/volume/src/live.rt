@@ -1,16 +1,15 @@
 // Open blocks, live spots and advance calls left of a sound state.
-ghost use Rattle.std.specs.Prelude.{◌≡◌, true, ◌≢◌, ◌-◌, ◌≤◌, ◌<◌};
-ghost use Rattle.layout.specs.History.{history, Within, old_count, added_count, spot_of};
-ghost use Rattle.layout.specs.Limits.{Limits, most_disks};
+ghost use Rattle.std.specs.Prelude.{◌≡◌, true, ◌-◌, ◌≤◌, ◌<◌};
+ghost use Rattle.layout.specs.History.{history, Within, spot_of};
+ghost use Rattle.layout.specs.Limits.{most_disks};
 ghost use Rattle.layout.specs.Tally.{open_blocks, live_spot_of, live_block_of, live_address_of, calls_left_of};
 ghost use Rattle.marks.specs.Marks.{as_live_block};
 ghost use Rattle.volume.specs.Calls.{too_short};
 ghost use Rattle.volume.specs.Sound.{sound};
-ghost use Rattle.volume.specs.States.{geometry, history_of, disks, stage_of, tally_of};
+ghost use Rattle.volume.specs.States.{geometry, history_of, disks, tally_of};
 
 use super::Volume;
-use layout::{Address, Block, GrowthDisks, History, Spot};
-use marks::Stage;
+use layout::{Address, Block, Spot};
 use medium::Geometry;
 
 impl Volume {
@@ -22,41 +21,6 @@ impl Volume {
             size: self.size,
             rows: self.rows,
         }
-    }
-
-    // N[0] to N[t] and s.
-    pub(crate) fn history(&self) -> History<'_>
-        requires { Limits self.now.rows (history_of self.now) }
-        ensures counts { result.counts.now ≡ self.now.counts }
-        ensures growths { result.growths ≡ self.now.growths }
-        ensures rows { result.rows ≡ self.now.rows }
-    {
-        History {
-            counts: &self.counts,
-            growths: self.growths,
-            rows: self.rows,
-        }
-    }
-
-    // Growing, w and the marks.
-    pub(crate) fn stage(&self) -> Stage
-        ensures { result ≡ stage_of self.now }
-    {
-        Stage {
-            growing: self.growing,
-            window: self.window,
-            recorded: self.recorded,
-            copied: self.copied,
-        }
-    }
-
-    // m and n of the growth under way.
-    pub(crate) fn newest_growth(&self) -> GrowthDisks
-        requires { (sound self.now ≡ true) × (self.now.growing ≢ 0) }
-        ensures old { result.old ≡ old_count (history self.now.growths self.now.counts) }
-        ensures added { result.added ≡ added_count (history self.now.growths self.now.counts) }
-    {
-        self.history().newest_growth()
     }
 
     // N[t]; 0 where t is above its limit.
@@ -96,12 +60,7 @@ impl Volume {
         requires x_bound { x.0 < open_blocks (tally_of self.now) }
         ensures { result ≡ spot_of self.now.rows (history (self.now.growths - self.now.growing) self.now.counts) x.0 }
     {
-        let before = History {
-            counts: &self.counts,
-            growths: self.growths - self.growing,
-            rows: self.rows,
-        };
-        before.spot_of(x)
+        self.history_to(self.growths - self.growing).spot_of(x)
     }
 
     // The live spot of block x, whose old spot this is.
@@ -133,10 +92,9 @@ impl Volume {
         if self.growing == 0 {
             return self.history().address_of(x);
         }
-        let old = self.history().earlier().address_of(x);
-        let growth = self.newest_growth();
-        self.stage()
-            .address_from(growth, self.rows, self.growths, x, old)
+        let old = self.history_to(self.growths - 1).address_of(x);
+        let stage = self.stage();
+        stage.address_from(self.newest_growth(), self.rows, self.growths, x, old)
     }
 
     // The block that lives at p, if one does.

@@ -2,6 +2,6 @@
 use Rattle.volume.specs.States.{history_of}
 use Rattle.volume.proofs.Volume.history.Goals as goal
 
-pub invariant_of-result : goal.invariant_of-result
+pub history_to-requires : goal.history_to-requires
 unfolding history_of
-invariant_of-result c = record { within_limits = c.requires }
+history_to-requires c = c.requires

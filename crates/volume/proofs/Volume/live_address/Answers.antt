@@ -1,5 +1,6 @@
 -- `live_address` meets its contract.
 use mathlib.Core.Path.{◌≡◌, ◌∙◌}
+use native.Mathlib.Omega.{arith}
 use Rattle.layout.specs.Reasons.{address_of}
 use Rattle.volume.proofs.LiveCode.{counts_before, history_limits, rest_asks, rest_address, has_growth, asks_before, address_asks, address_read}
 use Rattle.volume.proofs.SoundLaws.{sound_facts}
@@ -19,43 +20,40 @@ returns-then-self-eq0 c =
     let e = c.history.ensures in
     rw (e.growths, e.counts, e.rows) at c.address_of.ensures ∙ rest_address c.args.self.now c.if-self-eq0.true _
 
-pub history-requires-2 : goal.history-requires-2
-history-requires-2 c = (sound_facts _ c.requires.sound_state).limits
+pub overflow_sub-self : goal.overflow_sub-self
+overflow_sub-self c = omega (arith, has_growth _ c.if-self-eq0.false c.requires.sound_state)
 
-pub earlier-requires : goal.earlier-requires
-earlier-requires c = rw c.history-2.ensures.growths (has_growth _ c.if-self-eq0.false c.requires.sound_state)
+pub history_to-requires : goal.history_to-requires
+history_to-requires c = (asks_before c.args.self.now c.if-self-eq0.false c.requires.sound_state _ c.requires.x_bound).0
 
 pub address_of-old-requires : goal.address_of-old-requires
 address_of-old-requires c =
-    let b = c.earlier.ensures in
-    let e = c.history-2.ensures in
-    rw (b.growths, b.counts, b.rows, e.growths, e.counts, e.rows)
-    (asks_before c.args.self.now c.if-self-eq0.false c.requires.sound_state _ c.requires.x_bound).1
+    let e = c.history_to.ensures in
+    rw (e.growths, e.counts, e.rows) (asks_before c.args.self.now c.if-self-eq0.false c.requires.sound_state _ c.requires.x_bound).1
 
-pub newest_growth-growth-requires : goal.newest_growth-growth-requires
-newest_growth-growth-requires c = (c.requires.sound_state, c.if-self-eq0.false)
+pub newest_growth-requires : goal.newest_growth-requires
+newest_growth-requires c = (c.requires.sound_state, c.if-self-eq0.false)
 
 -- its address before the growth
 old_address : (c : After-address_of-old)
     → let v = c.args.self.now in c.address_of-old.result ≡ address_of v.rows (counts_before v) c.args.x.0
 old_address c =
-    let b = c.earlier.ensures in
-    let e = c.history-2.ensures in
-    rw (b.growths, b.counts, b.rows, e.growths, e.counts, e.rows) at c.address_of-old.ensures
+    let e = c.history_to.ensures in
+    rw (e.growths, e.counts, e.rows) at c.address_of-old.ensures
 
 pub address_from-requires : goal.address_from-requires
 address_from-requires c =
     let s = c.requires.sound_state in
-    let n = c.newest_growth-growth.ensures in
+    let n = c.newest_growth.ensures in
     let old = old_address (goal.at.address_from-requires c).After-address_of-old in
     record {
       rows = (history_limits _ s).rows_most;
-      before = address_asks _ c.if-self-eq0.false s c.newest_growth-growth.result n.old n.added _ c.requires.x_bound _ old;
+      before = address_asks _ c.if-self-eq0.false s c.newest_growth.result n.old n.added _ c.requires.x_bound _ old;
     }
 
 pub returns : goal.returns
 returns c =
-    let n = c.newest_growth-growth.ensures in
+    let n = c.newest_growth.ensures in
     let old = old_address (goal.at.returns c).After-address_of-old in
-    rw c.stage.ensures at c.address_from.ensures
-    ∙ address_read _ c.if-self-eq0.false c.requires.sound_state c.newest_growth-growth.result n.old n.added _ c.requires.x_bound _ old
+    rw c.stage-stage.ensures at c.address_from.ensures
+    ∙ address_read _ c.if-self-eq0.false c.requires.sound_state c.newest_growth.result n.old n.added _ c.requires.x_bound _ old
