@@ -16,7 +16,8 @@ use records::worked;
 use std::io;
 use std::io::{BufWriter, Write};
 
-const GROWTHS: &str = "1. One growth: each block a head, body or tail that moves, one that stays, or added
+const CASES: &str =
+    "1. One growth: each block a head, body or tail that moves, one that stays, or added
 m 3, n 2, s 5: @L
 m 4, n 2, s 6: @L
 m 2, n 2, s 4: @L
@@ -61,9 +62,7 @@ m 1, n 1, s 3: @L
 8 to 16 disks, 1000000 rows: @W
 8 to 16 disks, 1000000 rows, window 62499: @M
 8 to 16 disks, 1000000 rows, window 62500: @M
-";
-
-const RECORDS: &str = "5. Columns: written and read back; then a blank one, damaged ones and ones of another length
+5. Columns: written and read back; then a blank one, damaged ones and ones of another length
 column of 0: [@C
 column of 9: [@C
 column of 10: [@C
@@ -97,7 +96,7 @@ fn main(rt: HostRuntime) -> io::Result<()> {
     let alloc = rt.alloc();
     let page = worked();
     let mut out = BufWriter::new(alloc, io::writer(&rt))?;
-    for line in GROWTHS.lines().chain(RECORDS.lines()) {
+    for line in CASES.lines() {
         show_case(&mut out, alloc, &page, line)?;
     }
     out.flush()

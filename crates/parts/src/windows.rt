@@ -79,11 +79,15 @@ pub fn show_windows(out: &mut impl Write, numbers: &[usize]) -> io::Result<()> {
         return write!(out, "no growth");
     };
     let windows = window::window_count(h.newest_growth(), h.rows);
-    let Some(last) = windows.checked_sub(1) else {
+    let Some(end) = windows.checked_sub(1) else {
         return Ok(());
     };
-    write!(out, "windows {windows}, moves of the first {}", window::moves_of_window(h, 0))?;
-    write!(out, ", of the last {}", window::moves_of_window(h, last))
+    let first = window::moves_of_window(h, 0);
+    let last = window::moves_of_window(h, end);
+    write!(
+        out,
+        "windows {windows}, moves of the first {first}, of the last {last}"
+    )
 }
 
 // The moves of a window of the newest growth, and its marks that their spots lead back to. The numbers are the disk counts, the rows
@@ -101,6 +105,7 @@ pub fn show_marks(out: &mut impl Write, numbers: &[usize]) -> io::Result<()> {
     let Some(window) = window_of(h, *number) else {
         return write!(out, "no such window");
     };
-    write!(out, "moves {}", window::moves_of_window(h, *number))?;
-    write!(out, ", marks found from their spots {}", marks_found(window))
+    let moves = window::moves_of_window(h, *number);
+    let found = marks_found(window);
+    write!(out, "moves {moves}, marks found from their spots {found}")
 }

@@ -18,6 +18,7 @@ pub mark_of_spot-requires : goal.mark_of_spot-requires
 mark_of_spot-requires c =
     let v = c.args.window in
     let g = v.growth.within_limits in
-    rw c.spot_of_mark.ensures
-    (mark_spot_disk v.growth.old v.growth.added g.old g.added v.number c.args.j c.if-growth-j.false,
-    mark_spot_moves v.growth.old v.growth.added g.old g.added v.number c.args.j c.if-growth-j.false)
+    rw c.spot_of_mark.ensures (
+      mark_spot_disk v.growth.old v.growth.added g.old g.added v.number c.args.j c.if-growth-j.false,
+      mark_spot_moves v.growth.old v.growth.added g.old g.added v.number c.args.j c.if-growth-j.false,
+    )
