@@ -3,11 +3,8 @@ use Prim.Native.Nat.{ℕ, zero, suc, ◌+◌, ◌-◌, ◌*◌, ◌/◌, ◌%◌
 use mathlib.Core.Path.{◌≡◌, sym, ◌∙◌, ap}
 use native.Mathlib.Nat.{add_assoc, zero-mul, not-suc-le-zero, mod-lt, div-lt_iff_lt-mul}
 use native.Mathlib.Omega.{arith}
-use lib.Dec.{ltb}
 use lib.ListN.{length, get_or, get_or-eq_default}
-use borrow.Author.Tests.{ltb-true, ltb-false}
 use Rattle.base.specs.Below.{sum, joined}
-use Rattle.base.proofs.Booleans.{by_test}
 use Rattle.base.proofs.Counting.{sum_ext, sum_within, sum_place}
 use Rattle.base.proofs.Lists.{length_table, get_d_table, length_joined_sum, get_d_joined}
 use Rattle.layout.specs.Limits.{most_disks}
@@ -133,11 +130,6 @@ entry_some_law k h =
 
 pub past_end_law : (k : ℕ) → entry_count ≤ k → get_or entries k 0 ≡ 0
 past_end_law k h = get_or-eq_default entries 0 (rw size_law h)
-
-pub entry_most : (k : ℕ) → get_or entries k 0 < most_disks
-entry_most k =
-    by_test (ltb k entry_count) (λ e. (entry_some_law k (ltb-true k entry_count e)).1)
-    (λ e. rw (past_end_law k (ltb-false k entry_count e)) (omega arith))
 
 pub table_law : IsMoveTable entries offset
 table_law =

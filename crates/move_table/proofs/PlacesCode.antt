@@ -1,13 +1,11 @@
 -- What the code of the table's places needs.
-use Prim.Native.Nat.{ℕ, ◌+◌, ◌-◌, ◌*◌, ◌≤◌}
+use Prim.Native.Nat.{ℕ, ◌+◌, ◌*◌}
 use mathlib.Core.Path.{◌≡◌}
 use mathlib.Core.Bool.{true, ◌&&◌}
-use native.Mathlib.Nat.{mul-le-mul}
-use native.Mathlib.Omega.{arith}
 use lib.Dec.{leb, ltb}
 use borrow.Author.Tests.{leb-true, le-leb, ltb-true, lt-ltb}
 use Rattle.base.proofs.Booleans.{and_left, and_right, and_both, by_test}
-use Rattle.layout.specs.Limits.{Grows, most_disks}
+use Rattle.layout.specs.Limits.{most_disks}
 use Rattle.std.specs.Prelude.{Some, None}
 use Rattle.move_table.specs.Entries.{offset, has_mark, place_of}
 use Rattle.move_table.specs.Tables.{IsMark}
@@ -44,24 +42,3 @@ module _ (m n j : ℕ) where
   pub no_place : (IsMark m n j → ⊥) → place_of m n j ≡ None
   unfolding place_of
   no_place none = by_test (has_mark m n j) (λ e. absurd (none (mark_true e))) (λ e. rw e)
-
--- ---- no product wraps
-
-module _ (m n : ℕ) (g : Grows m n) where
-  abbrev k : ℕ
-  k = m + n
-
-  pub two_most : (k + 1) * k ≤ 17 * 16
-  two_most = mul-le-mul {n₂ = 17} (omega (arith, g.most)) g.most
-
-  pub three_most : (k + 1) * k * (k - 1) ≤ 17 * 16 * 15
-  three_most = mul-le-mul {m₂ = 15} two_most (omega (arith, g.most))
-
-  pub four_most : (k + 1) * k * (k - 1) * (k - 2) ≤ 17 * 16 * 15 * 14
-  four_most = mul-le-mul {m₂ = 14} three_most (omega (arith, g.most))
-
-  pub old_most : m * (m - 1) ≤ 16 * 15
-  old_most = mul-le-mul {n₂ = 16} {m₂ = 15} (omega (arith, g.most)) (omega (arith, g.most))
-
-  pub last_most : m * (m - 1) * (m + 3 * n + 1) ≤ 16 * 15 * 64
-  last_most = mul-le-mul {m₂ = 64} old_most (omega (arith, g.most))
