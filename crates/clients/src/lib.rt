@@ -1,5 +1,5 @@
-// Two clients on one volume (document 02, W10): each reads and writes through its span, and the rack's calls stay as they
-// are. Both functions are offered to others and take any input. What a client reads does not depend on the other:
+// Two clients on one volume (document 02, W10): each reads and writes through its span, and the rack's calls stay as
+// they are. Both functions are offered to others and take any input. What a client reads does not depend on the other:
 // `specs/TwoRuns.antt`.
 #![tactic(auto, using(crate::proofs::ClientsCode::client_calls))]
 

@@ -1,5 +1,5 @@
-// The span table of two clients on one volume (document 02, W10), checked when made. Any input may be offered: no sum is
-// made that could wrap.
+// The span table of two clients on one volume (document 02, W10), checked when made. Any input may be offered: no sum
+// is made that could wrap.
 #![tactic(auto)]
 
 ghost use Rattle.std.specs.Prelude.{◌≤◌, ◌≡◌};
