@@ -31,7 +31,7 @@ fn outside(state: Volume) -> Reply<Told>
 }
 
 // Kept: table and client stay parameters of the two calls, and no struct has both: one table serves both clients, and
-// others call the two so.
+// others call the two so. The two are no one function: each borrows for change what the other only reads.
 
 // Fills a piece with block x, through the client's span.
 pub fn client_read(
