@@ -9,9 +9,12 @@ use lib.Dec.{eqb}
 use lib.ListN.{take}
 use lib.Seq.{take_all}
 use borrow.Author.Tests.{lt-leb, eqb-true, eqb-false}
+use Rattle.std.specs.Prelude.{Result, Ok, Err}
+use Rattle.base.specs.declared.Refusal.{Refusal}
 use Rattle.base.specs.Below.{joined}
-use Rattle.base.specs.Refusals.{refusal}
+use Rattle.base.specs.Refusals.{refusal, refusal_with}
 use Rattle.base.proofs.Booleans.{by_test, cond_cases}
+use Rattle.layout.specs.declared.Block.{Block}
 use Rattle.layout.specs.declared.Spot.{Spot}
 use Rattle.layout.specs.Tally.{live_block_of, moved_blocks}
 use Rattle.medium.specs.Medium.{record_bytes, observe}
@@ -19,16 +22,14 @@ use Rattle.record.specs.declared.Column.TheVariants.{Number, Blank, NotANumber}
 use Rattle.record.specs.Decimal.{column_width, decimal, is_digit, column_step, column_fold, read_column}
 use Rattle.record.proofs.ColumnLaws.{column_read, decimal_found}
 use Rattle.volume.specs.declared.Volume.{Volume}
-use Rattle.volume.specs.declared.HolderAnswer.{HolderAnswer}
-use Rattle.volume.specs.declared.HolderAnswer.TheVariants.{Refused, Has}
-use Rattle.volume.specs.declared.HolderReply.{HolderReply}
-use Rattle.volume.specs.Answers.{holder_number, block_told}
+use Rattle.volume.specs.declared.Reply.{Reply}
+use Rattle.volume.specs.Answers.{number, holder_number, block_told}
 use Rattle.volume.specs.Calls.{judged, is_none, block_found, holder_table, holder_reply}
 use Rattle.volume.specs.Records.{record_of}
 use Rattle.volume.specs.Sound.{sound}
 use Rattle.volume.specs.States.{history_of, disks, tally_of, with_pending, with_growth, recorded_only}
 use Rattle.volume.proofs.Accepted.{holder_accepted}
-use Rattle.volume.proofs.Judged.{judged_cases, accepted_when}
+use Rattle.volume.proofs.Judged.{accepted_when}
 use Rattle.volume.proofs.LiveCode.{open_most}
 use Rattle.volume.proofs.LookUpLaws.{look_ups_of, at_rest_no_15}
 use Rattle.volume.proofs.RecordLaws.{record_length, record_read, recorded_sound}
@@ -56,25 +57,20 @@ dash_no_number = refl
 
 -- ---- holder's answer
 
-answer_inside : (t : Bool) (a b : HolderReply) → (cond t a b).answer ≡ cond t a.answer b.answer
+answer_inside : (t : Bool) (a b : Reply Block) → (cond t a b).answer ≡ cond t a.answer b.answer
 answer_inside true a b = refl
 answer_inside false a b = refl
 
-abbrev block_there : (v : Volume) (p : Spot) → HolderAnswer
-block_there v p = Has (record { 0 = block_found (live_block_of (tally_of v) p) })
-
-answer_judged : (v : Volume) (p : Spot) → (holder_reply v p).answer ≡ judged (holder_table v p) Refused (block_there v p)
+answer_judged : (v : Volume) (p : Spot) → (holder_reply v p).answer
+    ≡ judged (holder_table v p) (λ k. Err (refusal_with k)) (Ok (record { 0 = block_found (live_block_of (tally_of v) p) }))
 unfolding holder_reply
-answer_judged v p =
-    answer_inside (eqb (refusal (holder_table v p)) 0) (record { state = v; answer = block_there v p })
-    (record { state = v; answer = Refused (refusal (holder_table v p)) })
+answer_judged v p = answer_inside (eqb (refusal (holder_table v p)) 0) _ _
 
 -- a refusal's cell is "-"
-refused_cell : (v : Volume) (p : Spot) → holder_number (holder_reply v p).answer ≢ 0 → cell (holder_reply v p).answer ≡ dash
-unfolding holder_number cell
-refused_cell v p =
-    rw (answer_judged v p)
-    (judged_cases (λ (a : HolderAnswer). holder_number a ≢ 0 → cell a ≡ dash) (holder_table v p) Refused (block_there v p) (λ _ f. absurd (f refl)) (λ _ _. refl))
+refused_cell : (a : Result Block Refusal) → holder_number a ≢ 0 → cell a ≡ dash
+unfolding number cell
+refused_cell (Err r) h = refl
+refused_cell (Ok x) h = absurd (h refl)
 
 -- ---- cells
 
@@ -100,8 +96,7 @@ module _ (v : Volume) (disk row : ℕ) (s : sound v ≡ true) (d : disk < disks 
       let x = f.block_there_law.0 in
       let below = ((look_ups_of v s).live_of_block p x f.spot_within f.block_there_law.1).0 in
       let small : x < 10 ^ column_width = omega (arith, open_most v s) in
-      let there : says v disk row ≡ Has (record { 0 = x }) =
-      answer_judged v p ∙ accepted_when (holder_table v p) Refused (block_there v p) 0 (sym r) refl ∙ rw f.block_there_law.1 in
+      let there : says v disk row ≡ Ok (record { 0 = x }) = answer_judged v p ∙ accepted_when (holder_table v p) (λ k. Err (refusal_with k)) _ r ∙ rw f.block_there_law.1 in
       rw there (column_read x small)
 
   pub cell_told : CellTold v disk row
@@ -109,7 +104,7 @@ module _ (v : Volume) (disk row : ℕ) (s : sound v ≡ true) (d : disk < disks 
       let there = cell_of_holder v disk row d h in
       record {
         block = λ e. rw there (block_cell e);
-        no_block = λ f. (only_15 f, there ∙ refused_cell v (spot_at disk row) f);
+        no_block = λ f. (only_15 f, there ∙ refused_cell (says v disk row) f);
       }
 
   pub at_rest_all_told : v.growing ≡ 0 → holder_number (says v disk row) ≡ 0

@@ -6,13 +6,14 @@ use native.Mathlib.Nat.{suc-mul}
 use native.Mathlib.Numerals.{add-one}
 use native.Mathlib.Omega.{arith}
 use lib.ListN.{length, length-append}
+use Rattle.std.specs.Prelude.{Result, Ok, Err}
+use Rattle.base.specs.declared.Refusal.{Refusal}
 use Rattle.base.specs.Below.{joined}
 use Rattle.base.proofs.Lists.{length_joined}
+use Rattle.layout.specs.declared.Block.{Block}
 use Rattle.record.specs.Decimal.{column_width, decimal}
 use Rattle.record.proofs.Lengths.{length_decimal}
 use Rattle.volume.specs.declared.Volume.{Volume}
-use Rattle.volume.specs.declared.HolderAnswer.{HolderAnswer}
-use Rattle.volume.specs.declared.HolderAnswer.TheVariants.{Refused, Has}
 use Rattle.volume.specs.Calls.{holder_reply}
 use Rattle.volume.specs.States.{disks}
 use Rattle.wall_chart.specs.Chart.{heading, row_width, dash, cell, spot_at, cell_at, line_bytes, line, heading_line, row_line, chart}
@@ -21,10 +22,10 @@ pub length_heading : length heading ≡ row_width
 unfolding heading
 length_heading = refl
 
-pub length_cell : (says : HolderAnswer) → length (cell says) ≡ column_width
+pub length_cell : (says : Result Block Refusal) → length (cell says) ≡ column_width
 unfolding cell dash
-length_cell (Refused k) = refl
-length_cell (Has x) = length_decimal column_width x.0
+length_cell (Err r) = refl
+length_cell (Ok x) = length_decimal column_width x.0
 
 pub length_cell_at : (v : Volume) (row disk : ℕ) → length (cell_at v row disk) ≡ column_width
 length_cell_at v row disk = length_cell (holder_reply v (spot_at disk row)).answer

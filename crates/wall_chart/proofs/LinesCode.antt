@@ -9,8 +9,8 @@ use Rattle.base.specs.Below.{joined}
 use Rattle.base.proofs.Lists.{sets_append, front_stored, joined_back, whole_stored, length_joined}
 use Rattle.record.specs.Decimal.{column_width}
 use Rattle.record.specs.Sector.{line_feed}
-use Rattle.wall_chart.specs.Chart.{heading, row_width, text_bytes, line_bytes, line}
-use Rattle.wall_chart.proofs.Lengths.{length_heading, length_line}
+use Rattle.wall_chart.specs.Chart.{row_width, text_bytes, line_bytes, line}
+use Rattle.wall_chart.proofs.Lengths.{length_line}
 
 -- a line's first six bytes
 pub start_stored : (m l start : List ℕ) → length start ≡ row_width → row_width ≤ length m → l ≡ start → l ++ drop row_width m ≡ sets m 0 start

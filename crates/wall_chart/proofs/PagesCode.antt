@@ -3,7 +3,6 @@ use Prim.Native.Nat.{ℕ, suc, ◌+◌, ◌*◌, ◌≤◌, ◌<◌}
 use mathlib.Core.Path.{◌≡◌, refl, sym, ap, ◌∙◌}
 use mathlib.Core.Bool.{true}
 use mathlib.Core.List.{List, [], ◌∷◌, ◌++◌}
-use mathlib.Core.Logic.{◌≢◌}
 use native.Mathlib.Nat.{zero-add, suc-mul, mul-le-mul, mul-le-mul_right}
 use native.Mathlib.Numerals.{add-one}
 use native.Mathlib.Omega.{arith}
@@ -11,10 +10,12 @@ use lib.Dec.{ltb}
 use lib.ListN.{length, drop}
 use lib.Seq.{sets, length-sets}
 use borrow.Author.Tests.{ltb-false}
+use Rattle.std.specs.Prelude.{Err}
+use Rattle.base.specs.declared.Refusal.{Refusal}
 use Rattle.base.specs.Below.{joined}
 use Rattle.base.specs.Refusals.{refusal}
 use Rattle.base.proofs.Lists.{sets_append, front_stored}
-use Rattle.base.proofs.Refusals.{passed, held, refused_first, passed_first}
+use Rattle.base.proofs.Refusals.{passed, held, passed_first}
 use Rattle.layout.specs.Limits.{most_disks, most_rows}
 use Rattle.medium.specs.Medium.{record_bytes, observe}
 use Rattle.volume.specs.declared.Volume.{Volume}
@@ -22,7 +23,7 @@ use Rattle.volume.specs.Calls.{sector_table}
 use Rattle.volume.specs.Records.{is_sound_record}
 use Rattle.volume.specs.Sound.{sound}
 use Rattle.volume.specs.States.{disks}
-use Rattle.volume.proofs.Judged.{refused_when, accepted_when}
+use Rattle.volume.proofs.Judged.{Tells, tells_before, refused_when, accepted_when}
 use Rattle.wall_chart.specs.Chart.{line_bytes, heading_line, row_line, chart}
 use Rattle.wall_chart.specs.Pages.{untouched, with_chart, page_short, chart_table, charted, record_state, record_chart_table, record_charted}
 use Rattle.wall_chart.proofs.Lengths.{length_heading_line, length_chart}
@@ -75,27 +76,28 @@ module _ (v : Volume) (m : List ℕ) (long : length (chart v) ≤ length m) wher
 
 -- ---- what is told and left
 
-module _ (v : Volume) (page : List ℕ) (k : ℕ) (e : k ≡ refusal (chart_table v (length page))) where
-  pub chart_refused : k ≢ 0 → charted v page ≡ untouched page k
-  unfolding charted
-  chart_refused h = refused_when (chart_table v (length page)) (untouched page) (with_chart v page) k e h
+-- a refusal, and the page as it was
+module _ (page : List ℕ) (r : Refusal) where
+  pub chart_refused : (v : Volume) → Tells (refusal (chart_table v (length page))) r → record { answer = Err r; page = page } ≡ charted v page
+  unfolding charted untouched
+  chart_refused v f = rw (refused_when (chart_table v (length page)) (untouched page) (with_chart v page) f.0, f.1)
 
-  pub chart_accepted : k ≡ 0 → charted v page ≡ with_chart v page
-  unfolding charted
-  chart_accepted h = accepted_when (chart_table v (length page)) (untouched page) (with_chart v page) k e h
+  pub record_refused : (bytes : List ℕ) → Tells (refusal (sector_table (observe bytes))) r → record { answer = Err r; page = page } ≡ record_charted bytes page
+  unfolding record_charted record_chart_table untouched
+  record_refused bytes f =
+      let g = tells_before (sector_table (observe bytes)) ((16, page_short (record_state bytes) (length page)) ∷ []) r f in
+      rw (refused_when (record_chart_table bytes (length page)) (untouched page) (with_chart (record_state bytes) page) g.0, g.1)
 
-  pub chart_fits : k ≡ 0 → (sound v ≡ true) × (length (chart v) ≤ length page)
+module _ (v : Volume) (page : List ℕ) (e : refusal (chart_table v (length page)) ≡ 0) where
+  pub chart_accepted : charted v page ≡ with_chart v page
+  unfolding charted
+  chart_accepted = accepted_when (chart_table v (length page)) (untouched page) (with_chart v page) e
+
+  pub chart_fits : (sound v ≡ true) × (length (chart v) ≤ length page)
   unfolding chart_table page_short
-  chart_fits h =
-      let a = held 1 (sound v) _ (omega arith) (sym e ∙ h) in
+  chart_fits =
+      let a = held 1 (sound v) _ (omega arith) e in
       (a.0, ltb-false (length page) (length (chart v)) (passed 16 (page_short v (length page)) [] (omega arith) a.1).0)
-
--- of a record that is refused
-pub record_refused : (bytes page : List ℕ) (k : ℕ) → k ≡ refusal (sector_table (observe bytes)) → k ≢ 0 → record_charted bytes page ≡ untouched page k
-unfolding record_charted record_chart_table
-record_refused bytes page k e h =
-    let before = refused_first (sector_table (observe bytes)) ((16, page_short (record_state bytes) (length page)) ∷ []) (λ z. h (e ∙ z)) in
-    refused_when (record_chart_table bytes (length page)) (untouched page) (with_chart (record_state bytes) page) k (e ∙ sym before) h
 
 -- of a sound state's record, the state's own chart
 pub record_taken : (bytes page : List ℕ) → refusal (sector_table (observe bytes)) ≡ 0 → sound (record_state bytes) ≡ true

@@ -1,12 +1,12 @@
 -- Document 02, W1: the bytes of the wall chart of a state. Bytes are numbers here.
-use Rattle.std.specs.Prelude.{ℕ, ◌+◌, ◌*◌, List, [], ◌∷◌, ◌++◌, replicate}
+use Rattle.std.specs.Prelude.{ℕ, ◌+◌, ◌*◌, List, [], ◌∷◌, ◌++◌, replicate, Result, Ok, Err}
+use Rattle.base.specs.declared.Refusal.{Refusal}
 use Rattle.base.specs.Below.{joined}
+use Rattle.layout.specs.declared.Block.{Block}
 use Rattle.layout.specs.declared.Spot.{Spot}
 use Rattle.record.specs.Decimal.{space, column_width, decimal}
 use Rattle.record.specs.Sector.{line_feed}
 use Rattle.volume.specs.declared.Volume.{Volume}
-use Rattle.volume.specs.declared.HolderAnswer.{HolderAnswer}
-use Rattle.volume.specs.declared.HolderAnswer.TheVariants.{Refused, Has}
 use Rattle.volume.specs.Calls.{holder_reply}
 use Rattle.volume.specs.States.{disks}
 
@@ -23,9 +23,9 @@ unfoldable pub dash : List ℕ
 dash = replicate 9 space ++ (0x2D ∷ [])
 
 -- "each spot's block, or "-" where holder says 15, in ten": the cell of a spot, by what holder says of it
-unfoldable pub cell : (says : HolderAnswer) → List ℕ
-cell (Refused k) = dash
-cell (Has x) = decimal column_width x.0
+unfoldable pub cell : (says : Result Block Refusal) → List ℕ
+cell (Err r) = dash
+cell (Ok x) = decimal column_width x.0
 
 abbrev pub spot_at : (disk row : ℕ) → Spot
 spot_at disk row = record { disk = disk; row = record { 0 = row } }

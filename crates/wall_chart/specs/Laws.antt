@@ -1,18 +1,19 @@
 -- What is proved of the chart and of pages filled with it: `ChartLaws`. `proofs/Theorems.antt` has the proof.
-use Rattle.std.specs.Prelude.{ℕ, ◌+◌, ◌*◌, ◌≤◌, ◌<◌, ◌≡◌, Bool, true, List, ◌≢◌, length, take, drop, get_or}
+use Rattle.std.specs.Prelude.{ℕ, ◌+◌, ◌*◌, ◌≤◌, ◌<◌, ◌≡◌, Bool, true, List, ◌≢◌, length, take, drop, get_or, Result}
+use Rattle.base.specs.declared.Refusal.{Refusal}
 use Rattle.base.specs.Refusals.{refusal}
+use Rattle.layout.specs.declared.Block.{Block}
 use Rattle.record.specs.declared.Column.TheVariants.{Number, Blank, NotANumber}
 use Rattle.record.specs.Decimal.{column_width, decimal, column_fold, read_column}
 use Rattle.record.specs.Sector.{line_feed}
 use Rattle.volume.specs.declared.Volume.{Volume}
-use Rattle.volume.specs.declared.HolderAnswer.{HolderAnswer}
-use Rattle.volume.specs.Answers.{holder_number, block_told}
+use Rattle.volume.specs.Answers.{number, holder_number, block_told}
 use Rattle.volume.specs.Calls.{holder_reply}
 use Rattle.volume.specs.Records.{record_of}
 use Rattle.volume.specs.Sound.{sound}
 use Rattle.volume.specs.States.{disks}
 use Rattle.wall_chart.specs.Chart.{heading, row_width, dash, cell, spot_at, text_bytes, line_bytes, chart}
-use Rattle.wall_chart.specs.Pages.{number, bytes_used, Filled, chart_table, charted, record_state, record_chart_table, record_charted}
+use Rattle.wall_chart.specs.Pages.{bytes_used, Filled, chart_table, charted, record_state, record_chart_table, record_charted}
 
 -- ---- places in a chart
 
@@ -28,7 +29,7 @@ bytes_of v from count = take count (drop from (chart v))
 abbrev pub cell_bytes : (v : Volume) (disk row : ℕ) → List ℕ
 cell_bytes v disk row = bytes_of v (line_start v (row + 1) + text_bytes disk) column_width
 
-abbrev pub says : (v : Volume) (disk row : ℕ) → HolderAnswer
+abbrev pub says : (v : Volume) (disk row : ℕ) → Result Block Refusal
 says v disk row = (holder_reply v (spot_at disk row)).answer
 
 -- The cell of a spot: read as a column of the record is read, it holds the block that holder says; or it is "-", and holder says 15.

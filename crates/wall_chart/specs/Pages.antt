@@ -1,37 +1,33 @@
 -- Document 02, W1: a lent page filled with the chart of a state, or of a record's state. "The library fills a lent page, says how much
 -- it used and leaves the rest as it was."
-use Rattle.std.specs.Prelude.{ℕ, Bool, not, List, [], ◌∷◌, ◌++◌, ltb, length}
+use Rattle.std.specs.Prelude.{ℕ, Bool, not, List, [], ◌∷◌, ◌++◌, ltb, length, Result, Ok, Err}
 use Rattle.std.proofs.lemmas.List.Edits.{sets}
+use Rattle.base.specs.declared.Refusal.{Refusal}
+use Rattle.base.specs.Refusals.{refusal_with}
 use Rattle.medium.specs.Medium.{observe}
 use Rattle.volume.specs.declared.Volume.{Volume}
 use Rattle.volume.specs.Calls.{judged, sector_table}
 use Rattle.volume.specs.Records.{state_read}
 use Rattle.volume.specs.Sound.{sound}
-use Rattle.wall_chart.specs.declared.ChartAnswer.{ChartAnswer}
-use Rattle.wall_chart.specs.declared.ChartAnswer.TheVariants.{Refused, Used}
 use Rattle.wall_chart.specs.Chart.{chart}
 
--- The number that each case of an answer stands for, and its one figure: how much of the page was used.
-unfoldable pub number : (a : ChartAnswer) → ℕ
-number (Refused k) = k
-number (Used n) = 0
-
-unfoldable pub bytes_used : (a : ChartAnswer) → ℕ
-bytes_used (Refused k) = 0
-bytes_used (Used n) = n
+-- The one figure of an answer, beside its number: how much of the page was used.
+unfoldable pub bytes_used : (a : Result ℕ Refusal) → ℕ
+bytes_used (Err r) = 0
+bytes_used (Ok n) = n
 
 -- What is answered, and what the page then holds.
 pub record Filled : Type 0 where
-  pub answer : ChartAnswer
+  pub answer : Result ℕ Refusal
   pub page : List ℕ
 
 -- "with the page untouched"
 unfoldable pub untouched : (page : List ℕ) (k : ℕ) → Filled
-untouched page k = record { answer = Refused k; page = page }
+untouched page k = record { answer = Err (refusal_with k); page = page }
 
 -- the chart from the page's first byte on, the rest as it was
 unfoldable pub with_chart : (v : Volume) (page : List ℕ) → Filled
-with_chart v page = record { answer = Used (length (chart v)); page = sets page 0 (chart v) }
+with_chart v page = record { answer = Ok (length (chart v)); page = sets page 0 (chart v) }
 
 -- "16 when the page is too short for the chart"
 unfoldable pub page_short : (v : Volume) (page_bytes : ℕ) → Bool

@@ -9,10 +9,3 @@ mod lines;
 mod pages;
 
 pub use pages::{put_chart, put_chart_of_record};
-
-// The answer: refused with a number, or so many bytes of the page used.
-#[derive(Clone, Copy)]
-pub enum ChartAnswer {
-    Refused(usize),
-    Used(usize),
-}

@@ -6,8 +6,9 @@ ghost use Rattle.layout.specs.Limits.{most_disks};
 ghost use Rattle.record.specs.Decimal.{decimal};
 ghost use Rattle.wall_chart.specs.Chart.{heading, cell, cell_at, text_bytes, line_bytes, heading_line, row_line};
 
-use layout::{Row, Spot};
-use volume::{HolderAnswer, Volume};
+use base::Refusal;
+use layout::{Block, Row, Spot};
+use volume::Volume;
 
 const ROW_WIDTH: usize = 6;
 
@@ -54,15 +55,14 @@ pub(crate) fn put_heading_line(line: &mut [u8], disks: usize)
 }
 
 // Puts a cell into ten bytes: the block that lives at a spot or, where none does, "-".
-fn put_cell(part: &mut [u8], says: HolderAnswer)
+fn put_cell(part: &mut [u8], says: Result<Block, Refusal>)
     requires { length part.old ≡ 10 }
     ensures { part.new ≡ cell says }
 {
-    let HolderAnswer::Has(x) = says else {
-        part.copy_from_slice(b"         -");
-        return;
-    };
-    record::put_number(part, x.0);
+    match says {
+        Ok(x) => record::put_number(part, x.0),
+        Err(_) => part.copy_from_slice(b"         -"),
+    }
 }
 
 // Puts the cells of row b into a line, from byte 6 on.

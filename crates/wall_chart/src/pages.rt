@@ -2,15 +2,15 @@
 ghost use Rattle.std.specs.Prelude.{◌≡◌, true, ◌+◌, ◌*◌, ◌≤◌, length};
 ghost use Rattle.std.proofs.lemmas.List.Edits.{sets};
 ghost use Rattle.base.specs.Below.{joined};
-ghost use Rattle.base.specs.Refusals.{refusal};
+ghost use Rattle.base.specs.Refusals.{refusal, checked};
 ghost use Rattle.layout.specs.Limits.{most_disks, most_rows};
 ghost use Rattle.volume.specs.Sound.{sound};
 ghost use Rattle.wall_chart.specs.Chart.{line_bytes, row_line, chart};
 ghost use Rattle.wall_chart.specs.Pages.{chart_table, charted, record_charted};
 
-use super::ChartAnswer;
 use super::lines::{put_heading_line, put_row_line, text_bytes};
-use volume::{Answer, Volume};
+use base::Refusal;
+use volume::Volume;
 
 // The bytes of a chart: a line for each row, and the first one.
 fn chart_bytes(rows: usize, disks: usize) -> usize
@@ -50,41 +50,35 @@ fn put_lines(page: &mut [u8], v: Volume) -> usize
     chart_bytes(v.rows, disks)
 }
 
-fn chart_refusal(v: Volume, len: usize) -> usize
-    ensures { result ≡ refusal (chart_table v len) }
+// The tests of the state and of a page of so many bytes.
+fn check_chart(v: &Volume, len: usize) -> Result<(), Refusal>
+    ensures { result ≡ checked (refusal (chart_table v.now len)) }
 {
     if !v.is_sound() {
-        return 1;
+        return Err(Refusal::NotSound);
     }
     if len < chart_bytes(v.rows, v.disk_count()) {
-        return 16;
+        return Err(Refusal::PageTooShort);
     }
-    0
+    Ok(())
 }
 
-// Puts the chart of a state at the start of a lent page, and leaves the rest of the page as it was.
-pub fn put_chart(page: &mut [u8], v: Volume) -> ChartAnswer
+// Puts the chart of a state at the start of a lent page, leaves the rest of the page as it was, and gives the chart's
+// length.
+pub fn put_chart(page: &mut [u8], v: Volume) -> Result<usize, Refusal>
     ensures value { result ≡ (charted v page.old).answer }
     ensures page_after { page.new ≡ (charted v page.old).page }
 {
-    let k = chart_refusal(v, page.len());
-    if k != 0 {
-        return ChartAnswer::Refused(k);
-    }
-    let used = put_lines(page, v);
-    ChartAnswer::Used(used)
+    check_chart(&v, page.len())?;
+    Ok(put_lines(page, v))
 }
 
 // The same for the state of a record sector, of which only the first 512 bytes are read.
-pub fn put_chart_of_record(page: &mut [u8], sector: &[u8]) -> ChartAnswer
+pub fn put_chart_of_record(page: &mut [u8], sector: &[u8]) -> Result<usize, Refusal>
     ensures value { result ≡ (record_charted sector.now page.old).answer }
     ensures page_after { page.new ≡ (record_charted sector.now page.old).page }
 {
     let reply = Volume::from_sector(sector);
-    let answer = reply.answer;
-    if let Answer::Refused(number) = answer {
-        return ChartAnswer::Refused(number);
-    }
-    let v = reply.state;
-    put_chart(page, v)
+    reply.answer?;
+    put_chart(page, reply.state)
 }
