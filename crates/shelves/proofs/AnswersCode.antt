@@ -1,15 +1,13 @@
 -- What the code that answers a view needs: that no number of bytes wraps, and the answer as it is found.
 use Prim.Native.Nat.{ℕ, ◌*◌, ◌≤◌, ◌<◌, ◌^◌}
-use mathlib.Core.Path.{◌≡◌, refl, sym, ◌∙◌}
+use mathlib.Core.Path.{◌≡◌, refl, sym}
 use mathlib.Core.Bool.{true}
-use mathlib.Core.Logic.{◌≢◌}
 use native.Mathlib.Omega.{arith}
 use borrow.Author.Tests.{ne_eqb}
 use Rattle.std.specs.Prelude.{Ok, Err}
 use Rattle.base.specs.declared.Refusal.{Refusal}
 use Rattle.base.specs.declared.Refusal.TheVariants.{BlockNotOpen}
 use Rattle.base.specs.Refusals.{refusal, refusal_number, checked}
-use Rattle.base.proofs.Refusals.{checked_refused, checked_passed}
 use Rattle.layout.specs.declared.Spot.{Spot}
 use Rattle.layout.specs.Tally.{open_blocks, live_spot_of}
 use Rattle.medium.specs.declared.Geometry.{Geometry}
@@ -24,7 +22,7 @@ use Rattle.volume.proofs.LookUpLaws.{live_inside}
 use Rattle.shelves.specs.declared.ViewStart.{ViewStart}
 use Rattle.shelves.specs.Shelves.{start_on_shelf}
 use Rattle.shelves.specs.Views.{shelves_table, view_table, view_answer}
-use Rattle.shelves.proofs.Judged.{Tells, tells, tells_before}
+use Rattle.volume.proofs.Judged.{Tells, tells, tells_before, err_tells, ok_takes}
 use Rattle.shelves.proofs.Tests.{shelves_fit, not_open, none_refuses, answer_found}
 
 -- so many of the disks: blocks on them, and their bytes
@@ -56,11 +54,11 @@ module _ (v : Volume) (first second k x : ℕ) where
 
   pub shelves_refused : (r : Refusal) → Err r ≡ checked (refusal (shelves_table v first second k)) → Err r ≡ view_answer v first second k x
   unfolding view_table
-  shelves_refused r e = view_refused r (tells_before (shelves_table v first second k) _ r (checked_refused _ r (sym e)))
+  shelves_refused r e = view_refused r (tells_before (shelves_table v first second k) _ r (err_tells _ r e))
 
   module _ (u : Unit {0}) (e : Ok u ≡ checked (refusal (shelves_table v first second k))) where
     passed_shelves : refusal (shelves_table v first second k) ≡ 0
-    passed_shelves = checked_passed _ u (sym e)
+    passed_shelves = ok_takes _ u e
 
     -- a state that the tests of the shelves pass
     pub state_sound : sound v ≡ true

@@ -6,6 +6,5 @@ pub mod SameViews
 pub mod Showing
 pub mod Shown
 pub mod Standing
-pub mod Judged
 pub mod Tests
 pub mod Theorems

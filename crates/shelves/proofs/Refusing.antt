@@ -4,22 +4,19 @@ use mathlib.Core.Path.{◌≡◌, refl, sym, ◌∙◌}
 use mathlib.Core.Bool.{true}
 use mathlib.Core.Logic.{◌≢◌, inl, inr}
 use native.Mathlib.Omega.{arith}
-use lib.Dec.{ltb}
 use Rattle.std.specs.Prelude.{Err}
 use Rattle.base.specs.Refusals.{refusal, refusal_number, refusal_with, refusals}
 use Rattle.base.proofs.Refusals.{number_back}
-use Rattle.layout.specs.Tally.{live_spot_of}
 use Rattle.volume.specs.declared.Volume.{Volume}
+use Rattle.volume.specs.Answers.{number}
 use Rattle.volume.specs.Sound.{sound}
-use Rattle.volume.specs.States.{tally_of}
 use Rattle.volume.proofs.Judged.{judged_cases}
 use Rattle.shelves.specs.Laws.{Fitting, ViewRefuses}
-use Rattle.shelves.specs.Shelves.{start_on_shelf}
 use Rattle.shelves.specs.Views.{ViewAnswer, shelves_table, view_table, view_answer, view_number}
 use Rattle.shelves.proofs.Tests.{not_sound, no_disk, many_disks, first_short, second_short, all_fit, shelves_first, not_open, none_refuses}
 
 pub view_told : (v : Volume) (first second k x : ℕ) → view_number (view_answer v first second k x) ≡ refusal (view_table v first second k x)
-unfolding view_answer view_number view_table shelves_table refusal_number refusal_with refusals
+unfolding view_answer number view_table shelves_table refusal_number refusal_with refusals
 view_told v first second k x =
     let table = view_table v first second k x in
     judged_cases (λ (a : ViewAnswer). view_number a ≡ refusal table) table (λ n. Err (refusal_with n)) _ (λ e. sym e) (number_back table refl)

@@ -54,7 +54,7 @@ module _ (v : Volume) (first second : List ℕ) (k x : ℕ) where
 
   -- one block long
   shown_length : (a : ViewAnswer) → StandsHere a → view_number a ≡ 0 → length (part_shown v.size first second a) ≡ v.size
-  unfolding Stands part_shown view_number
+  unfolding Stands part_shown number
   shown_length (Err r) s h = absurd (s h)
   shown_length (Ok (First at)) s h = length-take-le v.size (drop at first) (simp length-drop (omega (arith, s.1, s.2)))
   shown_length (Ok (Second at)) s h = length-take-le v.size (drop at second) (simp length-drop (omega (arith, s.1, s.2)))
@@ -70,7 +70,7 @@ module _ (v : Volume) (first second : List ℕ) (k x : ℕ) where
 
 -- a refusal shows nothing
 pub shown_empty : (z : ℕ) (first second : List ℕ) (a : ViewAnswer) → view_number a ≢ 0 → part_shown z first second a ≡ []
-unfolding part_shown view_number
+unfolding part_shown number
 shown_empty z first second (Err r) h = refl
 shown_empty z first second (Ok (First at)) h = absurd (h refl)
 shown_empty z first second (Ok (Second at)) h = absurd (h refl)
@@ -166,8 +166,8 @@ module _ (v : Volume) (first second : List ℕ) (k x : ℕ) where
     pub read_done : (piece : List ℕ) → length piece ≡ v.size → read_outcome v x piece (observe all) ≡ read_effect v x (observe all)
     unfolding read_outcome observe
     read_done piece e =
-        accepted_when (read_table v x (length piece) (length all)) (λ n. refused v n piece) (read_effect v x (observe all)) 0
-        (rw e (sym accepted ∙ same_refusal facts.fitting)) refl
+        accepted_when (read_table v x (length piece) (length all)) (λ n. refused v n piece) (read_effect v x (observe all))
+        (rw e (sym (same_refusal facts.fitting) ∙ accepted))
 
     pub one_block : length (view_of v first second k x) ≡ v.size
     unfolding view_of

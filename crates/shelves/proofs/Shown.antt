@@ -40,8 +40,7 @@ module _ (s : System) (k x : ℕ) (piece : List ℕ) (read_well : is_accepted ca
   unfolding outcome call_outcome read_outcome observe
   read_bytes =
       ap (λ (out : Outcome). out.piece)
-      (accepted_when (read_table (memory_of s) x (length piece) (length (medium_of s))) (λ k. refused (memory_of s) k piece) (read_effect (memory_of s) x seen) 0
-      (sym passes) refl)
+      (accepted_when (read_table (memory_of s) x (length piece) (length (medium_of s))) (λ k. refused (memory_of s) k piece) (read_effect (memory_of s) x seen) passes)
 
   -- and the view shows what it gives
   shown : (view_number (view_answer (memory_of s) (length (first_shelf s k)) (length (second_shelf s k)) k x) ≡ 0)

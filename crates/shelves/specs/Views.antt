@@ -2,9 +2,10 @@
 -- that is shown.
 use Rattle.std.specs.Prelude.{ℕ, Bool, not, List, [], ◌∷◌, ◌++◌, eqb, leb, ltb, length, take, drop, Result, Ok, Err}
 use Rattle.base.specs.declared.Refusal.{Refusal}
-use Rattle.base.specs.Refusals.{refusal_number, refusal_with}
+use Rattle.base.specs.Refusals.{refusal_with}
 use Rattle.layout.specs.Tally.{open_blocks, live_spot_of}
 use Rattle.volume.specs.declared.Volume.{Volume}
+use Rattle.volume.specs.Answers.{number}
 use Rattle.volume.specs.Calls.{judged}
 use Rattle.volume.specs.Sound.{sound}
 use Rattle.volume.specs.States.{geometry, disks, tally_of}
@@ -37,9 +38,8 @@ view_answer v first_bytes second_bytes k x =
     judged (view_table v first_bytes second_bytes k x) (λ n. Err (refusal_with n)) (Ok (start_on_shelf (geometry v) k (live_spot_of (tally_of v) x)))
 
 -- the number of an answer
-unfoldable pub view_number : (a : ViewAnswer) → ℕ
-view_number (Err r) = refusal_number r
-view_number (Ok start) = 0
+abbrev pub view_number : (a : ViewAnswer) → ℕ
+view_number a = number a
 
 -- "the block's Z bytes as a part of the one shelf that has its spot"; "A refusal shows an empty part."
 unfoldable pub part_shown : (z : ℕ) (first second : List ℕ) (a : ViewAnswer) → List ℕ

@@ -48,7 +48,7 @@ fn start_on_shelf(g: Geometry, k: usize, p: Spot) -> ViewStart
     ViewStart::Second(at - g.bytes_needed(k))
 }
 
-// Where a view of block x starts, with shelves of so many bytes. At rest no marks are asked: that takes fewer instructions.
+// Where a view of block x starts, with shelves of so many bytes.
 pub fn view_answer(
     v: Volume,
     first: usize,
@@ -66,10 +66,6 @@ pub fn view_answer(
         size: v.size,
         rows: v.rows,
     };
-    if v.growing == 0 {
-        let p = layout::spot_of(&v.counts, v.growths, v.rows, x);
-        return Ok(start_on_shelf(g, k, p));
-    }
     let p = v.live_spot(x);
     Ok(start_on_shelf(g, k, p))
 }

@@ -9,7 +9,7 @@ use Rattle.volume.specs.Sound.{sound}
 use Rattle.volume.specs.States.{geometry, disks}
 use Rattle.shelves.specs.Shelves.{second_needs}
 use Rattle.shelves.proofs.AnswersCode.{needs_asked, bytes_fit, rows_fit}
-use Rattle.shelves.proofs.Judged.{tells, err_checked, ok_checked}
+use Rattle.volume.proofs.Judged.{tells, err_checked, ok_checked}
 use Rattle.shelves.proofs.Tests.{not_sound, no_disk, many_disks, first_short, second_short, all_fit}
 use Rattle.shelves.proofs.answers.check_shelves.Goals as goal
 use Rattle.shelves.proofs.answers.check_shelves.Goals.{Else-disks-k, Else-not-is_sound, then-k-eq0-via-then-k-eq0, then-k-eq0-via-else-k-eq0+then-disks-k}

@@ -1,15 +1,14 @@
 -- `view_answer` meets its contract.
 use Prim.Native.Nat.{◌<◌}
-use mathlib.Core.Path.{◌≡◌, refl, ◌∙◌}
+use mathlib.Core.Path.{◌≡◌, refl}
 use mathlib.Core.Bool.{true}
 use Rattle.std.proofs.lemmas.Result.{err_from_is_err_and}
-use Rattle.layout.specs.Tally.{open_blocks, live_spot_of}
+use Rattle.layout.specs.Tally.{open_blocks}
 use Rattle.volume.specs.Sound.{sound}
 use Rattle.volume.specs.States.{geometry, tally_of}
-use Rattle.volume.proofs.LiveCode.{rest_asks, rest_spot}
 use Rattle.shelves.proofs.AnswersCode.{shelves_refused, state_sound, block_refused, start_asked, view_found}
 use Rattle.shelves.proofs.answers.view_answer.Goals as goal
-use Rattle.shelves.proofs.answers.view_answer.Goals.{After-spot_of-p, Else-open_blocks-x, In_ok-check_shelves}
+use Rattle.shelves.proofs.answers.view_answer.Goals.{Else-open_blocks-x, In_ok-check_shelves}
 
 pub returns-in_err-check_shelves : goal.returns-in_err-check_shelves
 returns-in_err-check_shelves c =
@@ -28,29 +27,6 @@ returns-then-open_blocks-x c = block_refused _ _ _ _ _ _ c.in_ok-check_shelves.e
 is_open : (c : Else-open_blocks-x) → c.args.x.0 < open_blocks (tally_of c.args.v)
 is_open c = rw c.open_blocks.ensures at c.if-open_blocks-x.false
 
--- ---- at rest
-
-pub spot_of-p-requires : goal.spot_of-p-requires
-spot_of-p-requires c =
-    let asked = rest_asks _ c.if-v-eq0.true _ (is_sound (goal.at.spot_of-p-requires c).In_ok-check_shelves) (is_open (goal.at.spot_of-p-requires c).Else-open_blocks-x) in
-    record { limits = asked.0; x_bound = asked.1 }
-
-only_spot : (c : After-spot_of-p) → c.spot_of-p.result ≡ live_spot_of (tally_of c.args.v) c.args.x.0
-only_spot c = c.spot_of-p.ensures ∙ rest_spot _ c.if-v-eq0.true _
-
-pub start_on_shelf-requires : goal.start_on_shelf-requires
-unfolding geometry
-start_on_shelf-requires c =
-    let asked = start_asked _ (is_sound (goal.at.start_on_shelf-requires c).In_ok-check_shelves) _ (is_open (goal.at.start_on_shelf-requires c).Else-open_blocks-x) _ refl _ (only_spot (goal.at.start_on_shelf-requires c).After-spot_of-p) in
-    record { size_nonzero = asked.0; p_bound = asked.1 }
-
-pub returns-then-v-eq0 : goal.returns-then-v-eq0
-unfolding geometry
-returns-then-v-eq0 c =
-    view_found _ _ _ _ _ _ c.in_ok-check_shelves.ensures (is_open (goal.at.returns-then-v-eq0 c).Else-open_blocks-x) _ (only_spot (goal.at.returns-then-v-eq0 c).After-spot_of-p) _ _ refl c.start_on_shelf.ensures
-
--- ---- while a growth runs
-
 pub live_spot-p-requires : goal.live_spot-p-requires
 live_spot-p-requires c =
     record {
@@ -58,12 +34,12 @@ live_spot-p-requires c =
       x_bound = is_open (goal.at.live_spot-p-requires c).Else-open_blocks-x;
     }
 
-pub start_on_shelf-requires-2 : goal.start_on_shelf-requires-2
+pub start_on_shelf-requires : goal.start_on_shelf-requires
 unfolding geometry
-start_on_shelf-requires-2 c =
-    let asked = start_asked _ (is_sound (goal.at.start_on_shelf-requires-2 c).In_ok-check_shelves) _ (is_open (goal.at.start_on_shelf-requires-2 c).Else-open_blocks-x) _ refl _ c.live_spot-p.ensures in
+start_on_shelf-requires c =
+    let asked = start_asked _ (is_sound (goal.at.start_on_shelf-requires c).In_ok-check_shelves) _ (is_open (goal.at.start_on_shelf-requires c).Else-open_blocks-x) _ refl _ c.live_spot-p.ensures in
     record { size_nonzero = asked.0; p_bound = asked.1 }
 
 pub returns : goal.returns
 unfolding geometry
-returns c = view_found _ _ _ _ _ _ c.in_ok-check_shelves.ensures (is_open (goal.at.returns c).Else-open_blocks-x) _ c.live_spot-p.ensures _ _ refl c.start_on_shelf-2.ensures
+returns c = view_found _ _ _ _ _ _ c.in_ok-check_shelves.ensures (is_open (goal.at.returns c).Else-open_blocks-x) _ c.live_spot-p.ensures _ _ refl c.start_on_shelf.ensures
