@@ -11,6 +11,8 @@ use layout::{Block, Spot};
 use medium::Geometry;
 use volume::Volume;
 
+// Kept: the bytes of both shelves and k are three numbers, as `view_answer`, which others call, takes them.
+
 // The tests of the state and of the shelves.
 fn check_shelves(v: &Volume, first: usize, second: usize, k: usize) -> Result<(), Refusal>
     ensures { result ≡ checked (refusal (shelves_table v.now first second k)) }
