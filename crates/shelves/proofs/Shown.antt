@@ -5,10 +5,9 @@ use mathlib.Core.Bool.{true}
 use mathlib.Core.List.{List}
 use mathlib.Core.Logic.{◌≢◌}
 use lib.ListN.{length, replicate, length-replicate}
-use borrow.Author.Tests.{eqb-true}
 use Rattle.base.specs.Refusals.{refusal}
 use Rattle.medium.specs.Medium.{Observations, observe}
-use Rattle.volume.specs.Answers.{number, accepted}
+use Rattle.volume.specs.Answers.{accepted}
 use Rattle.volume.specs.Calls.{Outcome, refused, read_table, read_effect, read_outcome}
 use Rattle.volume.specs.States.{disks}
 use Rattle.promise.specs.Calls.{read}
@@ -16,7 +15,7 @@ use Rattle.promise.specs.Lists.{call_outcome, System, medium_of, memory_of, outc
 use Rattle.promise.specs.Promise.{system_after}
 use Rattle.promise.proofs.FlushedSaves.{read_at_end}
 use Rattle.volume.proofs.Accepted.{read_accepted}
-use Rattle.volume.proofs.Judged.{accepted_when}
+use Rattle.volume.proofs.Judged.{accepted_when, accepted_number}
 use Rattle.volume.proofs.Theorems.{volume_laws}
 use Rattle.shelves.specs.Views.{view_answer, view_number, view_of}
 use Rattle.shelves.proofs.Theorems.{view_laws}
@@ -30,8 +29,8 @@ module _ (s : System) (k x : ℕ) (piece : List ℕ) (read_well : is_accepted ca
 
   -- the read passes its tests
   passes : refusal (read_table (memory_of s) x (length piece) (length (medium_of s))) ≡ 0
-  unfolding accepted outcome call_outcome observe
-  passes = sym (volume_laws.read_refuses (memory_of s) x piece seen).number_told ∙ eqb-true (number (outcome call_outcome (read x piece) s).reply.answer) 0 read_well
+  unfolding outcome call_outcome observe
+  passes = sym (volume_laws.read_refuses (memory_of s) x piece seen).number_told ∙ accepted_number _ read_well
 
   whole : length piece ≡ (memory_of s).size
   whole = (read_accepted (memory_of s) x (length piece) (length (medium_of s)) passes).piece_whole
