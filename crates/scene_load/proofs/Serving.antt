@@ -10,9 +10,9 @@ use Rattle.base.specs.Below.{count, sum}
 use Rattle.base.specs.Refusals.{refusal}
 use Rattle.base.proofs.Counting.{count_ext, count_none, sum_ext, sum_none, sum_swap, sum_by_value}
 use Rattle.layout.specs.Limits.{most_disks}
-use Rattle.layout.specs.Tally.{open_blocks, live_spot_of}
+use Rattle.layout.specs.Tally.{live_address_of, open_blocks, live_spot_of}
 use Rattle.volume.specs.declared.Volume.{Volume}
-use Rattle.volume.specs.Answers.{address_number, spot_told}
+use Rattle.volume.specs.Answers.{number, spot_told}
 use Rattle.volume.specs.Calls.{address_table}
 use Rattle.volume.specs.Sound.{sound}
 use Rattle.volume.specs.States.{disks, tally_of}
@@ -24,8 +24,8 @@ use Rattle.scene_load.specs.Loads.{scene_at, names, served_of_scene, served_of_f
 module _ (v : Volume) (e : sound v ≡ true) where
   -- an open block's address names the disk of its live spot, which is there
   pub names_live : (d x : ℕ) → x < open_blocks (tally_of v) → names v d x ≡ eqb (live_spot_of (tally_of v) x).disk d
-  unfolding names address_number spot_told
-  names_live d x h = rw (address_found v x (refusal (address_table v x)) refl (is_open v x e h))
+  unfolding names number spot_told live_address_of
+  names_live d x h = rw (address_found v x (is_open v x e h))
 
   pub live_disk : (x : ℕ) → x < open_blocks (tally_of v) → (live_spot_of (tally_of v) x).disk < disks v
   unfolding tally_of disks
