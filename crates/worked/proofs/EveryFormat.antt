@@ -1,6 +1,6 @@
 -- Lists that are not lawful, and lists that are, from every accepted format: `not_empty`.
 use Prim.Native.Nat.{ℕ, ◌*◌, ◌<◌}
-use mathlib.Core.Bool.{Bool, true, false, not, ◌&&◌}
+use mathlib.Core.Bool.{Bool, true, false, not, ◌&&◌, false≢true}
 use mathlib.Core.List.{List, [], ◌∷◌}
 use mathlib.Core.Option.{Option, none, some}
 use mathlib.Core.Path.{◌≡◌, refl, sym, ap, ◌∙◌, subst}
@@ -87,7 +87,7 @@ unfolding format_outcome refused accepted number rows_hold disks_hold
 some_block z s n o =
     judged_cases (λ (out : Outcome). accepted out.reply.answer ≡ true → 0 < n * s) (format_table z s n o.byte_count) (λ k. refused zeros k []) _
     (λ e _. let f = format_accepted z s n o.byte_count e in mul-pos (from_one n most_disks f.disks_hold_law).0 (from_one s most_rows f.rows_hold_law).0)
-    (λ f ok. absurd (f (eqb-true _ 0 ok)))
+    (λ f ok. absurd (false≢true ok))
 
 -- flushed is no restart
 no_restart : {P : Type 0} → flushed ≡ restart → P

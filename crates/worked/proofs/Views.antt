@@ -10,6 +10,7 @@ use borrow.Author.Tests.{eqb-true}
 use Rattle.volume.specs.Answers.{accepted}
 use Rattle.volume.specs.States.{disks}
 use Rattle.volume.proofs.Accepted.{read_accepted}
+use Rattle.volume.proofs.Judged.{accepted_number}
 use Rattle.volume.proofs.Theorems.{volume_laws}
 use Rattle.promise.specs.Calls.{read}
 use Rattle.promise.specs.Lists.{Event, runs, cut, System, IsUp, memory_of, medium_of, outcome, is_accepted, call_outcome, after, after_all, NoEarlyCut, Lawful}
@@ -66,9 +67,9 @@ read_well =
     (length-replicate {A = ℕ} 512 0)).is_accepted_law
 
 some_disk : 1 ≤ disks (memory_of here)
-unfolding accepted outcome call_outcome observe
+unfolding outcome call_outcome observe
 some_disk =
-    let passes = sym (volume_laws.read_refuses (memory_of here) 0 (block_of 0) (observe (medium_of here))).number_told ∙ eqb-true _ 0 read_well in
+    let passes = sym (volume_laws.read_refuses (memory_of here) 0 (block_of 0) (observe (medium_of here))).number_told ∙ accepted_number _ read_well in
     let f = read_accepted (memory_of here) 0 (length (block_of 0)) (length (medium_of here)) passes in
     let w = live_within (memory_of here) 0 f.is_sound f.block_open in
     omega (arith, w.0)

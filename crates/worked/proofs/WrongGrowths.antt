@@ -10,7 +10,7 @@ use Rattle.layout.specs.Tally.{Mode, calls_left_of}
 use Rattle.record.specs.Sector.{fields_hold, marks_hold, spaces_hold, is_record, read_record}
 use Rattle.volume.specs.Answers.{is_finished, told_finished}
 use Rattle.volume.specs.Calls.{restart_table}
-use Rattle.volume.specs.Records.{state_read, is_sound_record}
+use Rattle.volume.specs.Records.{state_found, state_read, is_sound_record}
 use Rattle.promise.specs.Calls.{Call, grow, grow_beyond_doubling, copy, advance, restart, is_advance}
 use Rattle.promise.specs.Model.{Model}
 use Rattle.promise.specs.Promise.{Start}

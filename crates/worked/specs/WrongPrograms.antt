@@ -1,11 +1,11 @@
 -- Programs that demand 3 shuts out (document 01, "What each contract carries" and "Near errors"; document 02, W4), each of them ours but for a
 -- call or two: `ShutOut`, and for drives that keep no store `ShutOutWithoutCache`. `proofs/WrongReads.antt` and `proofs/WrongGrowths.antt` have
 -- for each a list, computed, at which it breaks a part of the demand.
-use Rattle.std.specs.Prelude.{ℕ, ◌-◌, ◌*◌, Bool, true, false, cond, not, ◌&&◌, ◌||◌, List, [], ◌++◌, ltb, eqb, length, take}
+use Rattle.std.specs.Prelude.{ℕ, ◌-◌, ◌*◌, Bool, true, false, cond, not, ◌&&◌, ◌||◌, List, [], ◌++◌, ltb, eqb, length, take, Ok}
 use Rattle.layout.specs.Tally.{open_blocks, calls_left_of, next_block, window_full, last_window}
 use Rattle.medium.specs.Medium.{Observations, no_store, record_store}
 use Rattle.volume.specs.declared.Advanced.TheVariants.{Recorded, Finished}
-use Rattle.volume.specs.declared.Answer.TheVariants.{CallsLeft}
+use Rattle.volume.specs.declared.Told.TheVariants.{CallsLeft}
 use Rattle.volume.specs.declared.Volume.{Volume}
 use Rattle.volume.specs.Answers.{accepted}
 use Rattle.volume.specs.Calls.{Outcome, refused, reporting, telling, judged, is_none, grow_effect, grow_outcome_of, copy_outcome, checkpoint_outcome, advance_table, advance_effect, advance_outcome, read_table, block_rows, write_table, write_effect, write_outcome, read_outcome, restart_table, restart_outcome, flushed_outcome}
@@ -132,7 +132,7 @@ made_up_count =
     (λ limited count v o.
     let ours = grow_outcome_of limited v count o in
     record {
-      reply = record { state = ours.reply.state; answer = cond (accepted ours.reply.answer) (CallsLeft 7) ours.reply.answer };
+      reply = record { state = ours.reply.state; answer = cond (accepted ours.reply.answer) (Ok (CallsLeft 7)) ours.reply.answer };
       store = ours.store;
       piece = [];
     })
