@@ -4,7 +4,6 @@
 
 use std::io;
 use std::io::{BufWriter, Read, Write};
-use wall_chart::ChartAnswer;
 
 fn main(rt: HostRuntime) -> io::Result<()> {
     let mut sector = Vec::new(rt.alloc());
@@ -13,8 +12,8 @@ fn main(rt: HostRuntime) -> io::Result<()> {
     let answer = wall_chart::put_chart_of_record(&mut page, &sector);
     let mut out = BufWriter::new(rt.alloc(), io::writer(&rt))?;
     match answer {
-        ChartAnswer::Refused(k) => writeln!(out, "{k}")?,
-        ChartAnswer::Used(used) => out.write_all(&page[..used])?,
+        Ok(used) => out.write_all(&page[..used])?,
+        Err(refusal) => writeln!(out, "{}", refusal.number())?,
     }
     out.flush()
 }
