@@ -9,6 +9,5 @@ invariant_of-result c =
     let growth = c.newest_growth-growth.result in
     let few = windows_most growth.old growth.added h.rows growth.within_limits.added in
     record {
-      rows_most = h.within_limits.rows_most;
       number_most = omega (arith, c.window_count.ensures, few, h.within_limits.rows_most);
     }
