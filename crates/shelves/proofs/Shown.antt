@@ -1,13 +1,12 @@
 -- `ViewPromise`, from demand 3: a view shows what a read at that place of the list would give.
 use Prim.Native.Nat.{ℕ, ◌≤◌}
-use mathlib.Core.Path.{◌≡◌, refl, sym, ap, ◌∙◌}
+use mathlib.Core.Path.{◌≡◌, sym, ap, ◌∙◌}
 use mathlib.Core.Bool.{true}
 use mathlib.Core.List.{List}
 use mathlib.Core.Logic.{◌≢◌}
 use lib.ListN.{length, replicate, length-replicate}
 use Rattle.base.specs.Refusals.{refusal}
 use Rattle.medium.specs.Medium.{Observations, observe}
-use Rattle.volume.specs.Answers.{accepted}
 use Rattle.volume.specs.Calls.{Outcome, refused, read_table, read_effect, read_outcome}
 use Rattle.volume.specs.States.{disks}
 use Rattle.promise.specs.Calls.{read}
