@@ -6,7 +6,7 @@ import re
 
 PARTS = ('src', 'specs', 'proofs')
 FUNCTION = re.compile(r'^([ \t]*)(?:pub(?:\(\w+\))? +)?(?:extern +"C" +)?fn +(\w+)', re.M)
-OWNER = re.compile(r'^impl +(\w+)', re.M)
+OWNER = re.compile(r'^impl(?:<[^>]*>)? +(\w+)', re.M)
 TYPE = re.compile(r'^(?:pub(?:\(\w+\))? +)?(?:struct|enum) +(\w+)', re.M)
 OFFERED = re.compile(r'^pub use (\w+)::(\w+);', re.M)
 CONSTANT = re.compile(r'\bconst +(\w+)')
