@@ -10,9 +10,12 @@ GHOST = re.compile(r'^[ \t]*ghost use [^;]*;\n', re.M)
 CLAUSE = re.compile(r'^[ \t]*(?:requires|ensures)\b[^{\n]*(?=\{)', re.M)
 ATTRIBUTE = re.compile(r'^[ \t]*#!?\[(?:tactic|cycle|unsafe\(no_mangle)\b[^\]]*\]\n+', re.M)
 GHOST_MEMBER = re.compile(r'^[ \t]*(?:pub )?ghost \w+(?:: | = )(?=\{)', re.M)
+OF_A_TRAIT = re.compile(r'^impl(?:<[^>]*>)? [^{]* for [^{]*(?=\{)', re.M)
+COLLECT = re.compile(r'\.collect\((?=\w)')
+COLLECTED = 'use kit::alloc::Collected;\n'
 MODEL = re.compile(r'^impl(?:<[^>]*>)? Model for [^{]*(?=\{)', re.M)
 EXPORT = re.compile(r'\bextern "C" (?=fn\b)')
-STD = re.compile(r'\bstd::(?=(?:io|num)\b)')
+STD = re.compile(r'\bstd::(?=(?:alloc|io|num)\b)')
 HANDLE = re.compile(r'\bHostRuntime\b')
 PRIVATE = re.compile(r'^([ \t]*)(?:pub\(crate\) )?(?=(?:fn|struct|enum|mod|const) )', re.M)
 TYPE = re.compile(r'^(?:#\[derive\(([^)]*)\)\]\n)?((?:#\[repr[^\n]*\n)?pub (?:struct|enum) )', re.M)
@@ -52,6 +55,19 @@ def without_blocks(text, begin):
     return text
 
 
+def without_visibility(text):
+    """The text with the functions of the impls of traits as the traits have them."""
+    for found in reversed(list(OF_A_TRAIT.finditer(text))):
+        end = end_of_braces(text, found.end())
+        text = text[:found.end()] + re.sub(r'^( +)pub (?=fn )', r'\1', text[found.end():end], flags=re.M) + text[end:]
+    return text
+
+
+def collected(text):
+    """The text with what collects on an allocator."""
+    return COLLECTED + COLLECT.sub('.collect_in(', text) if COLLECT.search(text) else text
+
+
 def derived(found):
     """The head of a type with what it derives in Rust."""
     copied = found.group(1) is None or 'Copy' in found.group(1)
@@ -63,6 +79,7 @@ def as_rust(text):
     text = without_blocks(without_blocks(GHOST.sub('', without_contracts(text)), MODEL), GHOST_MEMBER)
     text = PRIVATE.sub(lambda m: m.group(1) + 'pub ', EXPORT.sub('', ATTRIBUTE.sub('', text)))
     text = STRUCT.sub(lambda m: FIELD.sub(r'\1pub ', m.group()), TYPE.sub(derived, text))
+    text = collected(without_visibility(text))
     return HANDLE.sub('kit::HostRuntime', STD.sub('kit::', text).replace('Vec::new(rt.alloc())', 'Vec::new()'))
 
 

@@ -20,7 +20,7 @@ from translation import constants_of, translate, witness_names, wrong_constants
 
 RUST = os.path.join(os.path.dirname(os.path.abspath(__file__)), 'rust')
 KIT = ('wrong', 'kit')
-OPTIONS = ['--edition=2021', '-Copt-level=1', '-Coverflow-checks=on', '-Cdebuginfo=0', '--cap-lints=allow']
+OPTIONS = ['--edition=2024', '-Copt-level=1', '-Coverflow-checks=on', '-Cdebuginfo=0', '--cap-lints=allow']
 # Of the processor, not of the clock, for a run that takes tenths of one: what else runs does not matter.
 MOST_SECONDS = 3
 STACK_BYTES = 1 << 28

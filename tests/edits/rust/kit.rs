@@ -26,8 +26,8 @@ pub fn end() {
 pub struct HostRuntime;
 
 impl HostRuntime {
-    pub fn alloc(&self) -> Global {
-        Global
+    pub fn alloc(&self) -> alloc::Global {
+        alloc::Global
     }
 
     pub fn reader(&self) -> Input {
@@ -35,8 +35,29 @@ impl HostRuntime {
     }
 }
 
-/// The allocator, of which nothing is asked here.
-pub struct Global;
+pub mod alloc {
+    /// The allocator, of which nothing is asked here.
+    #[derive(Clone, Copy)]
+    pub struct Global;
+
+    #[derive(Debug)]
+    pub struct AllocError;
+
+    impl From<AllocError> for std::io::Error {
+        fn from(_: AllocError) -> Self {
+            std::io::ErrorKind::OutOfMemory.into()
+        }
+    }
+
+    /// Iterators that collect on an allocator.
+    pub trait Collected: Iterator + Sized {
+        fn collect_in(self, _: Global) -> Result<Vec<Self::Item>, AllocError> {
+            Ok(self.collect())
+        }
+    }
+
+    impl<I: Iterator> Collected for I {}
+}
 
 pub struct Input;
 
@@ -64,7 +85,7 @@ impl std::io::Write for Output {
 }
 
 pub mod io {
-    pub use super::buffered::BufWriter;
+    pub use super::buffered::{BufRead, BufWriter};
     pub use std::io::{Read, Result, Write};
 
     pub fn writer(_: &super::HostRuntime) -> super::Output {
@@ -73,10 +94,18 @@ pub mod io {
 }
 
 mod buffered {
+    pub struct BufRead;
+
+    impl BufRead {
+        pub fn split<R: std::io::BufRead>(from: R, _: super::alloc::Global, byte: u8) -> std::io::Split<R> {
+            std::io::BufRead::split(from, byte)
+        }
+    }
+
     pub struct BufWriter;
 
     impl BufWriter {
-        pub fn new<W: std::io::Write>(_: super::Global, to: W) -> std::io::Result<std::io::BufWriter<W>> {
+        pub fn new<W: std::io::Write>(_: super::alloc::Global, to: W) -> std::io::Result<std::io::BufWriter<W>> {
             Ok(std::io::BufWriter::new(to))
         }
     }
