@@ -3,14 +3,13 @@ use Prim.Native.Nat.{ℕ}
 use mathlib.Core.Path.{◌≡◌, refl, sym, ap, ◌∙◌}
 use mathlib.Core.Bool.{Bool, true, false, cond, ◌&&◌}
 use mathlib.Core.List.{List, [], ◌∷◌}
-use mathlib.Core.Logic.{◌≢◌}
-use native.Mathlib.Omega.{arith}
 use lib.Dec.{eqb}
-use lib.ListN.{length, set}
-use borrow.Author.Tests.{eq-eqb, ne_eqb}
-use Rattle.std.specs.Prelude.{Result}
+use lib.ListN.{length}
+use borrow.Author.Tests.{eqb-true}
+use Rattle.std.specs.Prelude.{Option, Some, None, Result, Ok, Err}
 use Rattle.std.specs.Result.{result_unwrap_or}
 use Rattle.base.specs.declared.Refusal.{Refusal}
+use Rattle.base.specs.Refusals.{refusal_number, refusals, refusal_with}
 use Rattle.base.proofs.Booleans.{by_test}
 use Rattle.medium.specs.declared.Geometry.{Geometry}
 use Rattle.medium.specs.Medium.{observe, apply}
@@ -24,48 +23,58 @@ use Rattle.promise.specs.Lists.{call_outcome}
 use Rattle.capi.specs.Exported.{Left, wrong_length, state_fits, untouched, handed_back, looked_up, call_left, read_left, write_left}
 use Rattle.capi.specs.Clients.{words_of_spans, made_number, spans_left, client_fits, client_read_left, client_write_left}
 use Rattle.capi.specs.Words.{words_of, state_from, are_state}
+use Rattle.capi.proofs.ExportedCode.{given_none, given_some}
 use Rattle.capi.proofs.WordLaws.{state_words_law, words_back}
 
--- four words, each stored
-pub four_put : (words : List ℕ) (a b c d : ℕ) → length words ≡ span_words → set (set (set (set words 0 a) 1 b) 2 c) 3 d ≡ a ∷ b ∷ c ∷ d ∷ []
-four_put [] a b c d e = absurd (omega (arith, e))
-four_put (w ∷ []) a b c d e = absurd (omega (arith, e))
-four_put (w ∷ (x ∷ [])) a b c d e = absurd (omega (arith, e))
-four_put (w ∷ (x ∷ (y ∷ []))) a b c d e = absurd (omega (arith, e))
-four_put (w ∷ (x ∷ (y ∷ (z ∷ [])))) a b c d e = refl
-four_put (w ∷ (x ∷ (y ∷ (z ∷ (v ∷ words))))) a b c d e = absurd (omega (arith, e))
+-- ---- a table of words
+
+-- what `spans_of` answers
+abbrev pub table_of : (words : List ℕ) → Option Spans
+table_of words = cond (eqb (length words) span_words) (Some (spans_from words)) None
+
+no_table : (words : List ℕ) → table_of words ≡ None → eqb (length words) span_words ≡ false
+no_table words h = given_none (eqb (length words) span_words) (spans_from words) h
+
+table_there : (words : List ℕ) (t : Spans) → table_of words ≡ Some t → (eqb (length words) span_words ≡ true) × (t ≡ spans_from words)
+table_there words t h = given_some (eqb (length words) span_words) (spans_from words) t h
+
+pub table_length : (words : List ℕ) (t : Spans) → table_of words ≡ Some t → length words ≡ span_words
+table_length words t h = eqb-true (length words) span_words (table_there words t h).0
 
 -- ---- a table made
 
-pub spans_not_made : (words : List ℕ) → length words ≢ span_words → (wrong_length ≡ (spans_left words).number) × (words ≡ (spans_left words).words)
+pub spans_not_made : (words : List ℕ) → table_of words ≡ None → (wrong_length ≡ (spans_left words).number) × (words ≡ (spans_left words).words)
 unfolding spans_left untouched
-spans_not_made words h = rw (ne_eqb (length words) span_words h) (refl, refl)
+spans_not_made words h = rw (no_table words h) (refl, refl)
 
-pub spans_made : (words : List ℕ) → length words ≡ span_words → (t : Spans) → t ≡ spans_from words → (m : Result Spans Refusal) → made (record { zero = t.zero; one = t.one }) ≡ m
-    → (after : List ℕ) → after ≡ words_of_spans (result_unwrap_or m no_spans) → (made_number m ≡ (spans_left words).number) × (after ≡ (spans_left words).words)
+number_made : (m : Result Spans Refusal) → number m ≡ made_number m
+unfolding number made_number
+number_made (Ok t) = refl
+number_made (Err r) = refl
+
+pub spans_made : (words : List ℕ) (t : Spans) → table_of words ≡ Some t → (m : Result Spans Refusal) → m ≡ made (record { zero = t.zero; one = t.one })
+    → (k : ℕ) (after : List ℕ) → k ≡ number m → after ≡ words_of_spans (result_unwrap_or m no_spans)
+    → (k ≡ (spans_left words).number) × (after ≡ (spans_left words).words)
 unfolding spans_left looked_up given
-spans_made words h t e m f after g =
-    let same : m ≡ made (spans_from words) = sym f ∙ ap made e in
-    rw (eq-eqb (length words) span_words h) (ap made_number same, g ∙ ap (λ (m : Result Spans Refusal). words_of_spans (result_unwrap_or m no_spans)) same)
+spans_made words t h m f k after g e =
+    let there = table_there words t h in
+    let same : m ≡ made (spans_from words) = f ∙ ap made there.1 in
+    rw there.0 (g ∙ number_made m ∙ ap made_number same, e ∙ ap (λ (m : Result Spans Refusal). words_of_spans (result_unwrap_or m no_spans)) same)
 
 -- ---- a client's read and write
 
 -- a table of the right length: the state's words decide
-fits_state : (spans words : List ℕ) → length spans ≡ span_words → client_fits spans words ≡ are_state words
+fits_state : (spans words : List ℕ) → eqb (length spans) span_words ≡ true → client_fits spans words ≡ are_state words
 unfolding client_fits state_fits
-fits_state spans words n = rw (eq-eqb (length spans) span_words n) (and_true (are_state words))
+fits_state spans words n = rw n (and_true (are_state words))
   where
     and_true : (b : Bool) → (b && true) ≡ b
     and_true true = refl
     and_true false = refl
 
-no_fit : (spans words : List ℕ) → length spans ≢ span_words → client_fits spans words ≡ false
+no_fit : (spans words : List ℕ) → table_of spans ≡ None → client_fits spans words ≡ false
 unfolding client_fits
-no_fit spans words n = rw (ne_eqb (length spans) span_words n) refl
-
--- what `Spans::allows` told
-pub told_allowed : (t u : Spans) (client x : ℕ) (told b : Bool) → t ≡ u → told ≡ allowed t client x → told ≡ b → allowed u client x ≡ b
-told_allowed t u client x told b e f g = rw e at (sym f ∙ g)
+no_fit spans words h = rw (no_table spans h) refl
 
 -- the number outside the span
 abbrev outside_number : (words : List ℕ) → ℕ
@@ -78,53 +87,59 @@ module _ (spans : List ℕ) (client : ℕ) (words : List ℕ) (x : ℕ) (piece m
   abbrev written_here : Left
   written_here = client_write_left spans client words x piece (observe m)
 
-  pub read_not_made : length spans ≢ span_words → (wrong_length ≡ read_here.number) × (piece ≡ read_here.piece)
+  pub read_not_made : table_of spans ≡ None → (wrong_length ≡ read_here.number) × (piece ≡ read_here.piece)
   unfolding client_read_left untouched
   read_not_made n = rw (no_fit spans words n) (refl, refl)
 
-  pub write_not_made : (g : Geometry) → length spans ≢ span_words
+  pub write_not_made : (g : Geometry) → table_of spans ≡ None
       → (wrong_length ≡ written_here.number) × ((words ≡ written_here.words) × (m ≡ apply g written_here.store m))
   unfolding client_write_left untouched apply
   write_not_made g n = rw (no_fit spans words n) (refl, (refl, refl))
 
-  module _ (n : length spans ≡ span_words) where
+  module _ (t : Spans) (there : table_of spans ≡ Some t) where
+    n : eqb (length spans) span_words ≡ true
+    n = (table_there spans t there).0
+
+    own_table : (b : Bool) → allowed t client x ≡ b → allowed (spans_from spans) client x ≡ b
+    own_table b h = rw (table_there spans t there).1 at h
+
     -- outside the span
-    pub outside_read : allowed (spans_from spans) client x ≡ false → (k : ℕ) → k ≡ outside_number words → (k ≡ read_here.number) × (piece ≡ read_here.piece)
-    unfolding client_read_left handed_back untouched refused number
+    pub outside_read : allowed t client x ≡ false → (k : ℕ) → k ≡ outside_number words → (k ≡ read_here.number) × (piece ≡ read_here.piece)
+    unfolding client_read_left handed_back untouched refused number refusal_with refusals refusal_number
     outside_read out k h =
         by_test (are_state words)
         (λ a. by_test (sound (state_from words))
-        (λ s. rw (fits_state spans words n, a, client_laws.read_21 (spans_from spans) client (state_from words) x piece (observe m) s out) (rw (a, s) at h, refl))
+        (λ s. rw (fits_state spans words n, a, client_laws.read_21 (spans_from spans) client (state_from words) x piece (observe m) s (own_table false out)) (rw (a, s) at h, refl))
         (λ s. rw (fits_state spans words n, a, client_laws.read_1 (spans_from spans) client (state_from words) x piece (observe m) s) (rw (a, s) at h, refl)))
         (λ a. rw (fits_state spans words n, a) (rw a at h, refl))
 
-    pub outside_write : (g : Geometry) → allowed (spans_from spans) client x ≡ false → (k : ℕ) → k ≡ outside_number words
+    pub outside_write : (g : Geometry) → allowed t client x ≡ false → (k : ℕ) → k ≡ outside_number words
         → (k ≡ written_here.number) × ((words ≡ written_here.words) × (m ≡ apply g written_here.store m))
-    unfolding client_write_left handed_back untouched refused number apply
+    unfolding client_write_left handed_back untouched refused number refusal_with refusals refusal_number apply
     outside_write g out k h =
         by_test (are_state words)
         (λ a.
         let back : words ≡ words_of (state_from words) = sym (words_back words (state_words_law words a)) in
         by_test (sound (state_from words))
-        (λ s. rw (fits_state spans words n, a, client_laws.write_21 (spans_from spans) client (state_from words) x piece (observe m) s out) (rw (a, s) at h, (back, refl)))
+        (λ s. rw (fits_state spans words n, a, client_laws.write_21 (spans_from spans) client (state_from words) x piece (observe m) s (own_table false out)) (rw (a, s) at h, (back, refl)))
         (λ s. rw (fits_state spans words n, a, client_laws.write_1 (spans_from spans) client (state_from words) x piece (observe m) s) (rw (a, s) at h, (back, refl))))
         (λ a. rw (fits_state spans words n, a) (rw a at h, (refl, refl)))
 
     -- in it: what the volume's own call leaves
     own_read : allowed (spans_from spans) client x ≡ true → read_here ≡ read_left words x piece (observe m)
     unfolding client_read_left call_left call_outcome client_fits
-    own_read own = rw (eq-eqb (length spans) span_words n, client_laws.read_own (spans_from spans) client (state_from words) x piece (observe m) own) refl
+    own_read own = rw (n, client_laws.read_own (spans_from spans) client (state_from words) x piece (observe m) own) refl
 
     own_write : allowed (spans_from spans) client x ≡ true → written_here ≡ write_left words x piece (observe m)
     unfolding client_write_left call_left call_outcome client_fits
-    own_write own = rw (eq-eqb (length spans) span_words n, client_laws.write_own (spans_from spans) client (state_from words) x piece (observe m) own) refl
+    own_write own = rw (n, client_laws.write_own (spans_from spans) client (state_from words) x piece (observe m) own) refl
 
-    pub read_inside : allowed (spans_from spans) client x ≡ true → (k : ℕ) (after : List ℕ)
+    pub read_inside : allowed t client x ≡ true → (k : ℕ) (after : List ℕ)
         → (k ≡ (read_left words x piece (observe m)).number) × (after ≡ (read_left words x piece (observe m)).piece) → (k ≡ read_here.number) × (after ≡ read_here.piece)
-    read_inside own k after made = rw (own_read own) made
+    read_inside own k after made = rw (own_read (own_table true own)) made
 
-    pub write_inside : (g : Geometry) → allowed (spans_from spans) client x ≡ true → (k : ℕ) (after stored : List ℕ)
+    pub write_inside : (g : Geometry) → allowed t client x ≡ true → (k : ℕ) (after stored : List ℕ)
         → (k ≡ (write_left words x piece (observe m)).number)
         × ((after ≡ (write_left words x piece (observe m)).words) × (stored ≡ apply g (write_left words x piece (observe m)).store m))
         → (k ≡ written_here.number) × ((after ≡ written_here.words) × (stored ≡ apply g written_here.store m))
-    write_inside g own k after stored made = rw (own_write own) made
+    write_inside g own k after stored made = rw (own_write (own_table true own)) made

@@ -1,18 +1,22 @@
 -- What the code of the exported functions needs: the tests of the lengths, and what load puts and leaves.
-use Prim.Native.Nat.{ℕ}
+use Prim.Native.Nat.{ℕ, ◌-◌}
 use mathlib.Core.Path.{◌≡◌, refl, sym, ap, ◌∙◌}
 use mathlib.Core.Bool.{Bool, true, false, cond, ◌&&◌}
 use mathlib.Core.List.{List, [], ◌∷◌, ◌++◌, append-nil}
 use mathlib.Core.Logic.{◌≢◌}
 use native.Mathlib.Omega.{arith}
 use lib.Dec.{eqb}
-use lib.ListN.{length, take, drop, set, drop_of_length-le}
+use lib.ListN.{length, take, drop, set, replicate, drop_of_length-le}
 use borrow.Author.Tests.{eqb-true, eq-eqb, ne_eqb}
+use Rattle.std.specs.Prelude.{Option, Some, None, Result, Ok, Err}
+use Rattle.std.specs.Result.{result_unwrap_or}
+use Rattle.std.proofs.lemmas.Option.{none-some, same_Some}
+use Rattle.base.specs.declared.Refusal.{Refusal}
 use Rattle.base.specs.Refusals.{refusal}
 use Rattle.base.proofs.Booleans.{and_left, and_right, by_test}
 use Rattle.medium.specs.declared.Geometry.{Geometry}
 use Rattle.medium.specs.Medium.{Observations, observe, apply}
-use Rattle.volume.specs.declared.Answer.{Answer}
+use Rattle.volume.specs.declared.Told.{Told}
 use Rattle.volume.specs.declared.Reply.{Reply}
 use Rattle.volume.specs.declared.Volume.{Volume}
 use Rattle.volume.specs.Answers.{number}
@@ -21,9 +25,8 @@ use Rattle.volume.specs.Calls.{refused, doing, format_table, format_effect, form
 use Rattle.promise.specs.Calls.{Call}
 use Rattle.promise.specs.Lists.{call_outcome}
 use Rattle.move_table.specs.Entries.{place_of}
-use Rattle.scene_load.specs.declared.Load.{Load}
 use Rattle.scene_load.specs.declared.Scene.{Scene}
-use Rattle.scene_load.specs.Loads.{load_of, load_number}
+use Rattle.scene_load.specs.Loads.{Load, load_of, load_number, served_told}
 use Rattle.capi.specs.Exported.{Left, wrong_length, lengths_fit, state_fits, untouched, handed_back, looked_up, call_left, look_up_left, state_taken, load_left, table_move_left}
 use Rattle.capi.specs.Figures.{load_figures, table_move_figures}
 use Rattle.capi.specs.Words.{state_words, pending_word, words_of, state_from, are_state}
@@ -42,63 +45,81 @@ pub lengths_right : (words : List ℕ) (n : ℕ) (figures : List ℕ) → length
 unfolding lengths_fit
 lengths_right words n figures e f = rw (eq-eqb (length words) state_words e, eq-eqb (length figures) n f)
 
--- what `state_fits` tells
-pub record Fits (words : List ℕ) (n : ℕ) (figures : List ℕ) : Type 0 where
+-- what `state_beside` answers: the state of the words, where the lent slices fit
+abbrev pub beside : (words : List ℕ) (n : ℕ) (figures : List ℕ) → Option Volume
+beside words n figures = cond (are_state words && eqb (length figures) n) (Some (state_from words)) None
+
+-- what it tells, where it gives a state
+pub record Fits (words : List ℕ) (n : ℕ) (figures : List ℕ) (v : Volume) : Type 0 where
   pub fits : state_fits words n figures ≡ true
   pub are_state_law : are_state words ≡ true
   pub words_length : length words ≡ state_words
   pub figures_length : length figures ≡ n
+  pub state_there : v ≡ state_from words
 
-module _ (words : List ℕ) (n : ℕ) (figures : List ℕ) (told : Bool) (e : told ≡ (are_state words && eqb (length figures) n)) where
-  pub fits_not : told ≡ false → state_fits words n figures ≡ false
-  unfolding state_fits
-  fits_not h = sym e ∙ h
+pub given_some : {A : Type 0} (b : Bool) (x y : A) → cond b (Some x) None ≡ Some y → (b ≡ true) × (y ≡ x)
+given_some true x y h = (refl, sym (same_Some x y h))
+given_some false x y h = absurd (none-some y h)
 
-  pub fitting : told ≡ true → Fits words n figures
+pub given_none : {A : Type 0} (b : Bool) (x : A) → cond b (Some x) None ≡ None → b ≡ false
+given_none true x h = absurd (none-some x (sym h))
+given_none false x h = refl
+
+module _ (words : List ℕ) (n : ℕ) (figures : List ℕ) where
+  pub fits_not : beside words n figures ≡ None → state_fits words n figures ≡ false
   unfolding state_fits
-  fitting h =
-      let both : (are_state words && eqb (length figures) n) ≡ true = sym e ∙ h in
-      let state = and_left (are_state words) (eqb (length figures) n) both in
+  fits_not h = given_none (are_state words && eqb (length figures) n) (state_from words) h
+
+  pub fitting : (v : Volume) → beside words n figures ≡ Some v → Fits words n figures v
+  unfolding state_fits
+  fitting v h =
+      let both = given_some (are_state words && eqb (length figures) n) (state_from words) v h in
+      let state = and_left (are_state words) (eqb (length figures) n) both.0 in
       record {
-        fits = both;
+        fits = both.0;
         are_state_law = state;
         words_length = (state_words_law words state).count;
-        figures_length = eqb-true (length figures) n (and_right (are_state words) (eqb (length figures) n) both);
+        figures_length = eqb-true (length figures) n (and_right (are_state words) (eqb (length figures) n) both.0);
+        state_there = both.1;
       }
 
--- what `is_state` tells, where no figures are lent
-module _ (words : List ℕ) (told : Bool) (e : told ≡ are_state words) where
-  no_figures : told ≡ (are_state words && eqb (length {A = ℕ} []) 0)
-  no_figures = e ∙ and_true (are_state words)
+-- what `state_of` answers, where no figures are lent
+module _ (words : List ℕ) where
+  abbrev pub there : Option Volume
+  there = cond (are_state words) (Some (state_from words)) None
+
+  no_figures : there ≡ beside words 0 []
+  no_figures = ap (λ (b : Bool). cond b (Some (state_from words)) None) (and_true (are_state words))
     where
       and_true : (b : Bool) → b ≡ (b && true)
       and_true true = refl
       and_true false = refl
 
-  pub no_state : told ≡ false → state_fits words 0 [] ≡ false
-  no_state = fits_not words 0 [] told no_figures
+  pub no_state : there ≡ None → state_fits words 0 [] ≡ false
+  no_state h = fits_not words 0 [] (sym no_figures ∙ h)
 
-  pub state_told : told ≡ true → Fits words 0 []
-  state_told = fitting words 0 [] told no_figures
+  pub state_told : (v : Volume) → there ≡ Some v → Fits words 0 [] v
+  state_told v h = fitting words 0 [] v (sym no_figures ∙ h)
 
 -- what a call on a state leaves, as the code makes it: where the lent slices do not fit, and where they do
-module _ (n : ℕ) (figures_of : Answer → List ℕ) (c : Call) (words figures piece m : List ℕ) where
+module _ (n : ℕ) (figures_of : Result Told Refusal → List ℕ) (c : Call) (words figures piece m : List ℕ) where
   abbrev left : Left
   left = call_left n figures_of c words figures piece (observe m)
 
-  pub call_not_made : (g : Geometry) (told : Bool) → told ≡ (are_state words && eqb (length figures) n) → told ≡ false
+  pub call_not_made : (g : Geometry) → beside words n figures ≡ None
       → (wrong_length ≡ left.number) × ((words ≡ left.words) × ((figures ≡ left.figures) × (m ≡ apply g left.store m)))
   unfolding call_left untouched apply
-  call_not_made g told e h = rw (fits_not words n figures told e h) (refl, (refl, (refl, refl)))
+  call_not_made g h = rw (fits_not words n figures h) (refl, (refl, (refl, refl)))
 
-  pub call_made : Fits words n figures → (v : Volume) → v ≡ state_from words
-      → (r : Reply) (stored : List ℕ)
+  pub call_made : (v : Volume) → beside words n figures ≡ Some v
+      → (r : Reply Told) (stored : List ℕ)
       → (r ≡ (call_outcome c v (observe m)).reply) × (stored ≡ apply (geometry v) (call_outcome c v (observe m)).store m)
       → (k : ℕ) (next told : List ℕ) → (k ≡ number r.answer) × ((next ≡ words_of r.state) × (told ≡ figures_of r.answer))
       → (k ≡ left.number) × ((next ≡ left.words) × ((told ≡ left.figures) × (stored ≡ apply (geometry (state_from words)) left.store m)))
   unfolding call_left handed_back
-  call_made f v e r stored made k next told handed =
-      let same = rw e at made in
+  call_made v h r stored made k next told handed =
+      let f = fitting words n figures v h in
+      let same = rw f.state_there at made in
       rw (f.fits, ← same.0) (handed.0, (handed.1.0, (handed.1.1, same.1)))
 
 -- the same of a look-up
@@ -106,15 +127,15 @@ module _ (n number : ℕ) (told words figures : List ℕ) where
   abbrev left_by_look_up : Left
   left_by_look_up = look_up_left n number told words figures
 
-  pub look_up_not_made : (fits : Bool) → fits ≡ (are_state words && eqb (length figures) n) → fits ≡ false
+  pub look_up_not_made : beside words n figures ≡ None
       → (wrong_length ≡ left_by_look_up.number) × (figures ≡ left_by_look_up.figures)
   unfolding look_up_left untouched
-  look_up_not_made fits e h = rw (fits_not words n figures fits e h) (refl, refl)
+  look_up_not_made h = rw (fits_not words n figures h) (refl, refl)
 
-  pub look_up_made : Fits words n figures → (k : ℕ) (after : List ℕ) → k ≡ number → after ≡ told
+  pub look_up_made : (v : Volume) → beside words n figures ≡ Some v → (k : ℕ) (after : List ℕ) → k ≡ number → after ≡ told
       → (k ≡ left_by_look_up.number) × (after ≡ left_by_look_up.figures)
   unfolding look_up_left looked_up
-  look_up_made f k after e g = rw f.fits (e, g)
+  look_up_made v h k after e g = rw (fitting words n figures v h).fits (e, g)
 
 -- putting what is pending into the words puts the state, where nothing else of it differs
 pub pending_put : (words : List ℕ) → are_state words ≡ true → (u v : Volume) → u ≡ v → OnlyPending (state_from words) v
@@ -131,14 +152,21 @@ unfolding format_outcome format_effect doing refused apply
 format_stores z s n o g k m after =
     by_test (eqb (refusal (format_table z s n o.byte_count)) 0) (λ t. rw t (λ e. e)) (λ t. rw t (λ e. e))
 
--- the figures of a load: the numbers put behind the place, which is put first
+-- the figures of a load: the place put first, and the numbers behind it
 pub load_put : (figures served put : List ℕ) (place told : ℕ) → length figures ≡ 17 → put ≡ served → told ≡ place
-    → set (take 1 figures ++ (put ++ drop 16 (drop 1 figures))) 0 told ≡ place ∷ served
+    → take 1 (set figures 0 told) ++ (put ++ drop (length (set figures 0 told) - 1) (drop 1 (set figures 0 told))) ≡ place ∷ served
 load_put figures served put place told e p q = rw (p, q) (first_put figures e)
   where
-    first_put : (words : List ℕ) → length words ≡ 17 → set (take 1 words ++ (served ++ drop 16 (drop 1 words))) 0 place ≡ place ∷ served
+    first_put : (words : List ℕ) → length words ≡ 17
+        → take 1 (set words 0 place) ++ (served ++ drop (length (set words 0 place) - 1) (drop 1 (set words 0 place))) ≡ place ∷ served
     first_put [] f = absurd (omega arith)
-    first_put (x ∷ rest) f = rw (drop_of_length-le rest {i = 16} (omega arith)) (ap (place ∷◌) (append-nil served))
+    first_put (x ∷ rest) f = rw (drop_of_length-le rest {i = length (place ∷ rest) - 1} (omega arith)) (ap (place ∷◌) (append-nil served))
+
+-- the numbers of a load, or zeros
+pub served_or_zeros : (load : Load) → result_unwrap_or load (replicate 16 0) ≡ served_told load
+unfolding served_told
+served_or_zeros (Ok served) = refl
+served_or_zeros (Err r) = refl
 
 -- what the calls of `streterva_load` leave is what it says: where the lengths fit, the state is that of the words
 module _ (words : List ℕ) (scenes : List Scene) (figures : List ℕ) where
@@ -147,7 +175,7 @@ module _ (words : List ℕ) (scenes : List Scene) (figures : List ℕ) where
   taken e = rw (and_left (are_state words) (eqb (length figures) 17) e)
 
   pub load_left_law : (v : Volume) (load : Load) (n : ℕ) (after : List ℕ) → v ≡ state_taken words → load ≡ load_of v scenes
-      → (n ≡ cond (state_fits words 17 figures) (load_number load.answer) wrong_length)
+      → (n ≡ cond (state_fits words 17 figures) (load_number load) wrong_length)
       × (after ≡ cond (state_fits words 17 figures) (load_figures load) figures)
       → (n ≡ (load_left words scenes figures).number) × (after ≡ (load_left words scenes figures).figures)
   unfolding look_up_left looked_up untouched

@@ -8,20 +8,20 @@ use mathlib.Core.Logic.{◌≢◌}
 use native.Mathlib.Omega.{arith}
 use lib.Dec.{eqb}
 use lib.ListN.{length, take, replicate}
+use Rattle.std.specs.Prelude.{Result, Ok, Err}
+use Rattle.base.specs.declared.Refusal.{Refusal}
 use Rattle.base.specs.Refusals.{refusal}
 use Rattle.base.proofs.Booleans.{cond_cases, and_left}
 use Rattle.base.proofs.Refusals.{all_numbers, never_told}
+use Rattle.layout.specs.declared.Address.{Address}
+use Rattle.layout.specs.declared.Block.{Block}
 use Rattle.layout.specs.declared.Spot.{Spot}
 use Rattle.layout.specs.Limits.{most_disks}
 use Rattle.medium.specs.Medium.{Observations}
 use Rattle.volume.specs.declared.Pending.{Pending}
 use Rattle.volume.specs.declared.Volume.{Volume}
-use Rattle.volume.specs.declared.Answer.{Answer}
-use Rattle.volume.specs.declared.Answer.TheVariants.{Refused, Done, CallsLeft, Told}
-use Rattle.volume.specs.declared.AddressAnswer.{AddressAnswer}
-use Rattle.volume.specs.declared.AddressAnswer.TheVariants as address
-use Rattle.volume.specs.declared.HolderAnswer.{HolderAnswer}
-use Rattle.volume.specs.declared.HolderAnswer.TheVariants as holder
+use Rattle.volume.specs.declared.Told.{Told}
+use Rattle.volume.specs.declared.Told.TheVariants as told
 use Rattle.volume.specs.Answers.{number, calls_told, block_copied, part_copied, address_number, holder_number, block_told}
 use Rattle.volume.specs.Calls.{Outcome, refused, judged, format_table, format_outcome, restart_table, doubling_rows, grow_table_of, grow_table, grow_beyond_doubling_table, write_table, write_outcome, read_table, read_outcome, flushed_table, flushed_effect, flushed_outcome, doing, write_effect, read_effect, copy_table, checkpoint_table, advance_table, address_table, address_reply, holder_table, holder_reply}
 use Rattle.volume.specs.Laws.{Refuses}
@@ -35,9 +35,8 @@ use Rattle.promise.specs.Lists.{call_outcome}
 use Rattle.scene_load.specs.declared.Scene.{Scene}
 use Rattle.scene_load.specs.Loads.{place_told, load_table, load_of, load_number}
 use Rattle.scene_load.proofs.Theorems.{load_laws}
-use Rattle.shelves.specs.declared.ViewAnswer.{ViewAnswer}
-use Rattle.shelves.specs.declared.ViewAnswer.TheVariants as view
-use Rattle.shelves.specs.Views.{shelves_table, view_table, view_answer, view_number}
+use Rattle.shelves.specs.declared.ViewStart.TheVariants.{First, Second}
+use Rattle.shelves.specs.Views.{ViewAnswer, shelves_table, view_table, view_answer, view_number}
 use Rattle.shelves.proofs.Refusing.{view_told}
 use Rattle.capi.specs.Exported.{Left, wrong_length, lengths_fit, state_fits, untouched, handed_back, looked_up, look_up_left, call_left, format_left, restart_left, grow_left, grow_beyond_doubling_left, copy_left, checkpoint_left, advance_left, write_left, read_left, flushed_left, address_left, holder_left, view_left, load_left}
 use Rattle.capi.specs.Figures.{part_number, did_told, no_figures, calls_figures, advance_figures, address_figures, holder_figures, view_figures}
@@ -68,7 +67,7 @@ unfolding view_table shelves_table
 view_number_law v first second k x =
     other_number (view_table v first second k x) _ (view_told v first second k x) refl
 
-pub load_number_law : (v : Volume) (scenes : List Scene) → load_number (load_of v scenes).answer ≢ wrong_length
+pub load_number_law : (v : Volume) (scenes : List Scene) → load_number (load_of v scenes) ≢ wrong_length
 unfolding load_table
 load_number_law v scenes = other_number (load_table v scenes (length scenes)) _ (load_laws.load_refuses v scenes).number_told refl
 
@@ -89,41 +88,36 @@ call_number flushed v o = other_number (flushed_table v) _ (volume_laws.flushed_
 
 -- ---- figures of refusals
 
-calls_zero : (a : Answer) → number a ≢ 0 → calls_figures a ≡ replicate 1 0
+calls_zero : (a : Result Told Refusal) → number a ≢ 0 → calls_figures a ≡ replicate 1 0
 unfolding number calls_told
-calls_zero (Refused k) h = refl
-calls_zero Done h = refl
-calls_zero (CallsLeft n) h = absurd (h refl)
-calls_zero (Told did n) h = absurd (h refl)
+calls_zero (Err r) h = refl
+calls_zero (Ok t) h = absurd (h refl)
 
-advance_zero : (a : Answer) → number a ≢ 0 → advance_figures a ≡ replicate 4 0
+advance_zero : (a : Result Told Refusal) → number a ≢ 0 → advance_figures a ≡ replicate 4 0
 unfolding number calls_told did_told block_copied part_copied part_number
-advance_zero (Refused k) h = refl
-advance_zero Done h = refl
-advance_zero (CallsLeft n) h = absurd (h refl)
-advance_zero (Told did n) h = absurd (h refl)
+advance_zero (Err r) h = refl
+advance_zero (Ok t) h = absurd (h refl)
 
-address_zero : (a : AddressAnswer) → address_number a ≢ 0 → address_figures a ≡ replicate 6 0
-unfolding address_number address_figures
-address_zero (address.Refused k) h = refl
-address_zero (address.At p reason moves) h = absurd (h refl)
+address_zero : (a : Result Address Refusal) → number a ≢ 0 → address_figures a ≡ replicate 6 0
+unfolding number address_figures
+address_zero (Err r) h = refl
+address_zero (Ok found) h = absurd (h refl)
 
-holder_zero : (a : HolderAnswer) → holder_number a ≢ 0 → holder_figures a ≡ replicate 1 0
-unfolding holder_number block_told
-holder_zero (holder.Refused k) h = refl
-holder_zero (holder.Has x) h = absurd (h refl)
+holder_zero : (a : Result Block Refusal) → number a ≢ 0 → holder_figures a ≡ replicate 1 0
+unfolding number block_told
+holder_zero (Err r) h = refl
+holder_zero (Ok x) h = absurd (h refl)
 
 view_zero : (a : ViewAnswer) → view_number a ≢ 0 → view_figures a ≡ replicate 2 0
-unfolding view_number view_figures
-view_zero (view.Refused k) h = refl
-view_zero (view.First at) h = absurd (h refl)
-view_zero (view.Second at) h = absurd (h refl)
+unfolding number view_figures
+view_zero (Err r) h = refl
+view_zero (Ok start) h = absurd (h refl)
 
 -- ---- refused calls
 
 -- a call that has refused a state
-module _ (words : List ℕ) (figure_count : ℕ) (piece : List ℕ) (figures_of : Answer → List ℕ)
-    (zero_figures : (a : Answer) → number a ≢ 0 → figures_of a ≡ replicate figure_count 0) where
+module _ (words : List ℕ) (figure_count : ℕ) (piece : List ℕ) (figures_of : Result Told Refusal → List ℕ)
+    (zero_figures : (a : Result Told Refusal) → number a ≢ 0 → figures_of a ≡ replicate figure_count 0) where
   pub refused_left : {table : List (ℕ × Bool)} {v : Volume} {out : Outcome} (fits : Bool) (other : Left) → Refuses table v piece out
       → words_of v ≡ words → fits ≡ true → (cond fits (handed_back figures_of out) other).number ≢ 0
       → RefusedLeft words figure_count piece (cond fits (handed_back figures_of out) other)
@@ -153,7 +147,7 @@ module _ (words : List ℕ) where
   fits_back figure_count figures e =
       words_back words (state_words_law words (and_left (are_state words) (eqb (length figures) figure_count) e))
 
-  module _ (figure_count : ℕ) (figures_of : Answer → List ℕ) (zero_figures : (a : Answer) → number a ≢ 0 → figures_of a ≡ replicate figure_count 0)
+  module _ (figure_count : ℕ) (figures_of : Result Told Refusal → List ℕ) (zero_figures : (a : Result Told Refusal) → number a ≢ 0 → figures_of a ≡ replicate figure_count 0)
     where
       call_refused : {table : List (ℕ × Bool)} (c : Call) (figures piece : List ℕ) (o : Observations)
           → Refuses table (state_from words) piece (call_outcome c (state_from words) o)
@@ -230,12 +224,12 @@ module _ (words : List ℕ) where
 
   pub load_refused : (scenes : List Scene) (figures : List ℕ)
       → state_fits words 17 figures ≡ true → (load_left words scenes figures).number ≢ 0
-      → (load_left words scenes figures).figures ≡ place_told (load_of (state_from words) scenes).answer ∷ replicate most_disks 0
+      → (load_left words scenes figures).figures ≡ place_told (load_of (state_from words) scenes) ∷ replicate most_disks 0
   unfolding look_up_left looked_up
   load_refused scenes figures e h =
       let told = load_laws.load_refuses (state_from words) scenes in
       let refuses = rw e at h in
-      rw e (ap (place_told (load_of (state_from words) scenes).answer ∷◌) (told.no_numbers (λ z. refuses (told.number_told ∙ z))))
+      rw e (ap (place_told (load_of (state_from words) scenes) ∷◌) (told.no_numbers (λ z. refuses (told.number_told ∙ z))))
 
 -- ---- restart, which hands back a state of zeros
 

@@ -1,5 +1,5 @@
 -- The words of a state and the state of words: both conversions give back what they were given.
-use Prim.Native.Nat.{ℕ, zero, suc, ◌+◌, ◌/◌, ◌%◌, ◌≤◌}
+use Prim.Native.Nat.{ℕ, zero, suc, ◌+◌, ◌/◌, ◌%◌, ◌≤◌, ◌<◌}
 use mathlib.Core.Path.{◌≡◌, refl, sym, ap}
 use mathlib.Core.Bool.{Bool, true, false, cond}
 use mathlib.Core.List.{List, [], ◌∷◌, ◌++◌, append_assoc}
@@ -7,7 +7,8 @@ use native.Mathlib.Omega.{arith}
 use lib.Dec.{eqb, leb}
 use lib.ListN.{length, take, drop, get_or, set, length-append, length-take, length-drop}
 use lib.Seq.{take_at, get_or-append-add}
-use borrow.Author.Tests.{eqb-true, leb-true}
+use mathlib.Core.Logic.{◌≢◌}
+use borrow.Author.Tests.{eqb-true, leb-true, ne_eqb}
 use Rattle.base.specs.Below.{table}
 use Rattle.base.proofs.Booleans.{and_left, and_right}
 use Rattle.base.proofs.Lists.{table_self}
@@ -101,3 +102,18 @@ state_words_law words e =
       count = eqb-true _ _ (and_left (eqb (length words) state_words) (leb (get_or words 15 0) most_pending) e);
       pending_most = leb-true _ _ (and_right (eqb (length words) state_words) (leb (get_or words 15 0) most_pending) e);
     }
+
+-- and when words are those of a state
+module _ (words : List ℕ) where
+  pub other_length : length words ≢ state_words → are_state words ≡ false
+  unfolding are_state
+  other_length h = rw (ne_eqb (length words) state_words h)
+
+  module _ (e : length words ≡ state_words) where
+    pub too_pending : most_pending < get_or words 15 0 → are_state words ≡ false
+    unfolding are_state
+    too_pending h = grind (arith, e, h)
+
+    pub words_of_state : get_or words 15 0 ≤ most_pending → are_state words ≡ true
+    unfolding are_state
+    words_of_state h = grind (arith, e, h)

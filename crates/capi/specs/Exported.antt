@@ -1,10 +1,11 @@
 -- What each exported function leaves: the number that it returns, the lent words of the state, the lent figures, its store and the lent
 -- piece. It is the outcome of the state that the words hold: of the call that demand 3 speaks of, of format or a look-up, of a view or of a load.
 -- The table of moves needs no state.
-use Rattle.std.specs.Prelude.{ℕ, Bool, cond, ◌&&◌, List, [], eqb, length}
+use Rattle.std.specs.Prelude.{ℕ, Bool, cond, ◌&&◌, List, [], eqb, length, Result}
+use Rattle.base.specs.declared.Refusal.{Refusal}
 use Rattle.layout.specs.declared.Spot.{Spot}
 use Rattle.medium.specs.Medium.{Observations, Store, no_store}
-use Rattle.volume.specs.declared.Answer.{Answer}
+use Rattle.volume.specs.declared.Told.{Told}
 use Rattle.volume.specs.declared.Volume.{Volume}
 use Rattle.volume.specs.Answers.{number, address_number, holder_number}
 use Rattle.volume.specs.Calls.{Outcome, format_outcome, restart_outcome, flushed_outcome, address_reply, holder_reply}
@@ -42,7 +43,7 @@ unfoldable pub untouched : (words figures piece : List ℕ) → Left
 untouched words figures piece = record { number = wrong_length; words = words; figures = figures; store = no_store; piece = piece }
 
 -- what a call hands back, in words and figures
-unfoldable pub handed_back : (figures_of : Answer → List ℕ) (o : Outcome) → Left
+unfoldable pub handed_back : (figures_of : Result Told Refusal → List ℕ) (o : Outcome) → Left
 handed_back figures_of o =
     record {
       number = number o.reply.answer;
@@ -66,7 +67,7 @@ restart_left words figures o =
     cond (lengths_fit words 1 figures) (handed_back calls_figures (restart_outcome o)) (untouched words figures [])
 
 -- a call of demand 3 on the state that the words hold
-unfoldable pub call_left : (figure_count : ℕ) (figures_of : Answer → List ℕ) (c : Call) (words figures piece : List ℕ) (o : Observations) → Left
+unfoldable pub call_left : (figure_count : ℕ) (figures_of : Result Told Refusal → List ℕ) (c : Call) (words figures piece : List ℕ) (o : Observations) → Left
 call_left figure_count figures_of c words figures piece o =
     cond (state_fits words figure_count figures) (handed_back figures_of (call_outcome c (state_from words) o)) (untouched words figures piece)
 
@@ -119,7 +120,7 @@ state_taken words = cond (are_state words) (state_from words) zeros
 
 abbrev pub load_left : (words : List ℕ) (scenes : List Scene) (figures : List ℕ) → Left
 load_left words scenes figures =
-    let load = load_of (state_from words) scenes in look_up_left 17 (load_number load.answer) (load_figures load) words figures
+    let load = load_of (state_from words) scenes in look_up_left 17 (load_number load) (load_figures load) words figures
 
 -- "1: state not sound", asked alone
 abbrev pub soundness_left : (words : List ℕ) → Left

@@ -48,7 +48,7 @@ pub record CapiLaws : Type 0 where
   pub address_number_law : (v : Volume) (x : ℕ) → address_number (address_reply v x).answer ≢ wrong_length
   pub holder_number_law : (v : Volume) (p : Spot) → holder_number (holder_reply v p).answer ≢ wrong_length
   pub view_number_law : (v : Volume) (first second k x : ℕ) → view_number (view_answer v first second k x) ≢ wrong_length
-  pub load_number_law : (v : Volume) (scenes : List Scene) → load_number (load_of v scenes).answer ≢ wrong_length
+  pub load_number_law : (v : Volume) (scenes : List Scene) → load_number (load_of v scenes) ≢ wrong_length
   -- a refused call leaves the words and the piece as they were, has zeros as figures and stores nothing
   pub grow_refused : (words : List ℕ) (count : ℕ) (figures : List ℕ) (o : Observations)
       → state_fits words 1 figures ≡ true → (grow_left words count figures o).number ≢ 0 → RefusedLeft words 1 [] (grow_left words count figures o)
@@ -75,7 +75,7 @@ pub record CapiLaws : Type 0 where
   -- a refused load has zeros as numbers, beside the place that it tells
   pub load_refused : (words : List ℕ) (scenes : List Scene) (figures : List ℕ)
       → state_fits words 17 figures ≡ true → (load_left words scenes figures).number ≢ 0
-      → (load_left words scenes figures).figures ≡ place_told (load_of (state_from words) scenes).answer ∷ replicate most_disks 0
+      → (load_left words scenes figures).figures ≡ place_told (load_of (state_from words) scenes) ∷ replicate most_disks 0
   pub write_refused : (words : List ℕ) (x : ℕ) (piece : List ℕ) (o : Observations)
       → state_fits words 0 [] ≡ true → (write_left words x piece o).number ≢ 0 → RefusedLeft words 0 piece (write_left words x piece o)
   pub read_refused : (words : List ℕ) (x : ℕ) (piece : List ℕ) (o : Observations)

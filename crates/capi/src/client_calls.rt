@@ -1,5 +1,5 @@
 // Two clients on one volume. The span table crosses as four lent words.
-ghost use Rattle.std.specs.Prelude.{◌≡◌, cond, length};
+ghost use Rattle.std.specs.Prelude.{◌≡◌, cond, eqb, length, Some, None};
 ghost use Rattle.medium.specs.Medium.{observe, apply};
 ghost use Rattle.volume.specs.Sound.{sound};
 ghost use Rattle.volume.specs.States.{geometry};
@@ -9,51 +9,52 @@ ghost use Rattle.capi.specs.Exported.{wrong_length};
 ghost use Rattle.capi.specs.Words.{state_from, are_state};
 
 use super::WRONG_LENGTH;
+use super::figures::number;
 use super::pieces::{streterva_read, streterva_write};
-use super::words::{is_state, state_of};
-use spans::{NO_SPANS, SPAN_WORDS, Span, Spans};
+use super::words::state_of;
+use base::Refusal;
+use spans::{NO_SPANS, Span, Spans};
 
-// The span table of words.
-fn spans_of(words: &[usize]) -> Spans
-    requires { length words.now ≡ span_words }
-    ensures { result ≡ spans_from words.now }
+// The span table of words, where they are as many as a table's.
+fn spans_of(words: &[usize]) -> Option<Spans>
+    ensures { result ≡ cond (eqb (length words.now) span_words) (Some (spans_from words.now)) None }
 {
+    let [zero_first, zero_count, one_first, one_count] = *words else {
+        return None;
+    };
     let zero = Span {
-        first: words[0],
-        count: words[1],
+        first: zero_first,
+        count: zero_count,
     };
     let one = Span {
-        first: words[2],
-        count: words[3],
+        first: one_first,
+        count: one_count,
     };
-    Spans { zero, one }
+    Some(Spans { zero, one })
 }
 
 // Stores a span table into its words.
+#[tactic(auto, unfolding(crate::specs::Clients::words_of_spans))]
 fn put_spans(words: &mut [usize], table: Spans)
     requires { length words.old ≡ span_words }
     ensures { words.new ≡ words_of_spans table }
 {
-    let zero = table.zero;
-    let one = table.one;
-    words[0] = zero.first;
-    words[1] = zero.count;
-    words[2] = one.first;
-    words[3] = one.count;
+    let Spans { zero, one } = table;
+    words.copy_from_slice(&[zero.first, zero.count, one.first, one.count]);
 }
 
 // What a call outside the client's span is refused with. A state that does not fit comes first, then 1.
 fn outside(words: &[usize]) -> usize
     ensures { result ≡ cond (are_state words.now) (cond (sound (state_from words.now)) 21 1) wrong_length }
 {
-    if !is_state(words) {
+    let Some(v) = state_of(words) else {
         return WRONG_LENGTH;
-    }
-    let v = state_of(words);
+    };
     if v.is_sound() {
-        return 21;
+        Refusal::OutsideSpan.number()
+    } else {
+        Refusal::NotSound.number()
     }
-    1
 }
 
 // Makes a span table, or refuses with 21 and leaves zeros.
@@ -62,20 +63,12 @@ pub extern "C" fn streterva_spans(spans: &mut [usize]) -> usize
     ensures value { result ≡ (spans_left spans.old).number }
     ensures spans_after { spans.new ≡ (spans_left spans.old).words }
 {
-    if spans.len() != SPAN_WORDS {
+    let Some(asked) = spans_of(spans) else {
         return WRONG_LENGTH;
-    }
-    let asked = spans_of(spans);
-    match spans::make_spans(asked.zero, asked.one) {
-        Ok(table) => {
-            put_spans(spans, table);
-            0
-        }
-        Err(refusal) => {
-            put_spans(spans, NO_SPANS);
-            refusal.number()
-        }
-    }
+    };
+    let made = spans::make_spans(asked.zero, asked.one);
+    put_spans(spans, made.unwrap_or(NO_SPANS));
+    number(&made)
 }
 
 // Fills a piece with a block, through the client's span. It calls `streterva_read`, which tests the state, and not the call
@@ -93,10 +86,10 @@ pub extern "C" fn streterva_client_read(
     ensures value { result ≡ (client_read_left spans.now client state.now block piece.old (observe medium.now)).number }
     ensures piece_after { piece.new ≡ (client_read_left spans.now client state.now block piece.old (observe medium.now)).piece }
 {
-    if spans.len() != SPAN_WORDS {
+    let Some(table) = spans_of(spans) else {
         return WRONG_LENGTH;
-    }
-    if !spans_of(spans).allows(client, block) {
+    };
+    if !table.allows(client, block) {
         return outside(state);
     }
     streterva_read(state, medium, block, piece)
@@ -116,10 +109,10 @@ pub extern "C" fn streterva_client_write(
     ensures state_after { state.new ≡ (client_write_left spans.now client state.old block piece.now (observe medium.old)).words }
     ensures medium_after { medium.new ≡ apply (geometry (state_from state.old)) (client_write_left spans.now client state.old block piece.now (observe medium.old)).store medium.old }
 {
-    if spans.len() != SPAN_WORDS {
+    let Some(table) = spans_of(spans) else {
         return WRONG_LENGTH;
-    }
-    if !spans_of(spans).allows(client, block) {
+    };
+    if !table.allows(client, block) {
         return outside(state);
     }
     streterva_write(state, medium, block, piece)

@@ -1,38 +1,39 @@
 // Answers as numbers and figures.
 ghost use Rattle.std.specs.Prelude.{◌≡◌, [], ◌∷◌};
 ghost use Rattle.std.proofs.Math.Option.{some};
-ghost use Rattle.volume.specs.Answers.{number, calls_told, copied_block, copied_part, address_number, holder_number, block_told};
+ghost use Rattle.volume.specs.Answers.{number, calls_told, copied_block, copied_part, block_told};
 ghost use Rattle.capi.specs.Figures.{part_number, did_number, advance_figures, reason_figures, address_figures, view_figures};
-ghost use Rattle.shelves.specs.Views.{view_number};
 
-use layout::{Part, Reason};
-use shelves::ViewAnswer;
-use volume::{AddressAnswer, Advanced, Answer, HolderAnswer};
+use base::Refusal;
+use layout::{Address, Block, Part, Reason};
+use shelves::ViewStart;
+use volume::{Advanced, Told};
 
-// The number of an answer: 0 where the call was accepted.
-pub fn number(a: Answer) -> usize
-    ensures { result ≡ number a }
+// The number of an answer: its refusal's, or 0 where the call was accepted.
+// Kept: plain numbers, as all figures below: the C interface has them.
+#[tactic(auto, unfolding(volume::specs::Answers::number))]
+pub fn number<T>(answer: &Result<T, Refusal>) -> usize
+    ensures { result ≡ number answer.now }
 {
-    match a {
-        Answer::Refused(k) => k,
-        Answer::Done => 0,
-        Answer::CallsLeft(_) => 0,
-        Answer::Told(_, _) => 0,
+    match answer {
+        Ok(_) => 0,
+        Err(refusal) => refusal.number(),
     }
 }
 
 // The advance calls left that an answer reports.
-pub fn calls_told(a: Answer) -> usize
-    ensures { result ≡ calls_told a }
+#[tactic(auto, unfolding(volume::specs::Answers::calls_told))]
+pub fn calls_told(answer: Result<Told, Refusal>) -> usize
+    ensures { result ≡ calls_told answer }
 {
-    match a {
-        Answer::Refused(_) => 0,
-        Answer::Done => 0,
-        Answer::CallsLeft(n) => n,
-        Answer::Told(_, n) => n,
+    match answer {
+        Err(_) | Ok(Told::Done) => 0,
+        Ok(Told::CallsLeft(n)) => n,
+        Ok(Told::Advanced(_, n)) => n,
     }
 }
 
+#[tactic(auto, unfolding(crate::specs::Figures::part_number))]
 fn part_number(part: Part) -> usize
     ensures { result ≡ part_number (some part) }
 {
@@ -43,6 +44,7 @@ fn part_number(part: Part) -> usize
     }
 }
 
+#[tactic(auto, unfolding(crate::specs::Figures::did_number, crate::specs::Figures::part_number, volume::specs::Answers::copied_block, volume::specs::Answers::copied_part))]
 fn did_figures(did: Advanced) -> [usize; 3]
     ensures { result ≡ did_number did ∷ copied_block did ∷ part_number (copied_part did) ∷ [] }
 {
@@ -54,20 +56,22 @@ fn did_figures(did: Advanced) -> [usize; 3]
 }
 
 // The figures of an advance.
-pub fn advance_figures(a: Answer) -> [usize; 4]
-    ensures { result ≡ advance_figures a }
+#[tactic(auto, unfolding(crate::specs::Figures::did_told, crate::specs::Figures::part_number, volume::specs::Answers::calls_told, volume::specs::Answers::block_copied, volume::specs::Answers::part_copied))]
+pub fn advance_figures(answer: Result<Told, Refusal>) -> [usize; 4]
+    ensures { result ≡ advance_figures answer }
 {
-    match a {
-        Answer::Refused(_) => [0, 0, 0, 0],
-        Answer::Done => [0, 0, 0, 0],
-        Answer::CallsLeft(n) => [n, 0, 0, 0],
-        Answer::Told(did, n) => {
-            let f = did_figures(did);
-            [n, f[0], f[1], f[2]]
+    match answer {
+        Err(_) => [0, 0, 0, 0],
+        Ok(Told::Done) => [0, 0, 0, 0],
+        Ok(Told::CallsLeft(n)) => [n, 0, 0, 0],
+        Ok(Told::Advanced(did, n)) => {
+            let [what, block, part] = did_figures(did);
+            [n, what, block, part]
         }
     }
 }
 
+#[tactic(auto, unfolding(crate::specs::Figures::reason_number, crate::specs::Figures::part_number, layout::specs::Reasons::growth_told, volume::specs::Answers::part_told))]
 fn reason_figures(reason: Reason) -> [usize; 3]
     ensures { result ≡ reason_figures reason }
 {
@@ -78,65 +82,37 @@ fn reason_figures(reason: Reason) -> [usize; 3]
     }
 }
 
-pub fn address_number(a: AddressAnswer) -> usize
-    ensures { result ≡ address_number a }
-{
-    match a {
-        AddressAnswer::Refused(k) => k,
-        AddressAnswer::At(_, _, _) => 0,
-    }
-}
-
 // The figures of address.
-pub fn address_figures(a: AddressAnswer) -> [usize; 6]
-    ensures { result ≡ address_figures a }
+#[tactic(auto, unfolding(crate::specs::Figures::address_figures))]
+pub fn address_figures(answer: Result<Address, Refusal>) -> [usize; 6]
+    ensures { result ≡ address_figures answer }
 {
-    match a {
-        AddressAnswer::Refused(_) => [0, 0, 0, 0, 0, 0],
-        AddressAnswer::At(p, reason, moves) => {
-            let f = reason_figures(reason);
-            let row = p.row;
-            [p.disk, row.0, f[0], f[1], f[2], moves]
+    match answer {
+        Err(_) => [0, 0, 0, 0, 0, 0],
+        Ok(found) => {
+            let [why, growth, part] = reason_figures(found.reason);
+            let spot = found.spot;
+            [spot.disk, spot.row.0, why, growth, part, found.moves]
         }
     }
 }
 
-pub fn holder_number(a: HolderAnswer) -> usize
-    ensures { result ≡ holder_number a }
-{
-    match a {
-        HolderAnswer::Refused(k) => k,
-        HolderAnswer::Has(_) => 0,
-    }
-}
-
 // The block that holder tells.
-pub fn block_told(a: HolderAnswer) -> usize
-    ensures { result ≡ block_told a }
+#[tactic(auto, unfolding(volume::specs::Answers::block_told))]
+pub fn block_told(answer: Result<Block, Refusal>) -> usize
+    ensures { result ≡ block_told answer }
 {
-    match a {
-        HolderAnswer::Refused(_) => 0,
-        HolderAnswer::Has(x) => x.0,
-    }
-}
-
-pub fn view_number(a: ViewAnswer) -> usize
-    ensures { result ≡ view_number a }
-{
-    match a {
-        ViewAnswer::Refused(k) => k,
-        ViewAnswer::First(_) => 0,
-        ViewAnswer::Second(_) => 0,
-    }
+    answer.map_or(0, |x| x.0)
 }
 
 // The figures of view.
-pub fn view_figures(a: ViewAnswer) -> [usize; 2]
-    ensures { result ≡ view_figures a }
+#[tactic(auto, unfolding(crate::specs::Figures::view_figures))]
+pub fn view_figures(answer: Result<ViewStart, Refusal>) -> [usize; 2]
+    ensures { result ≡ view_figures answer }
 {
-    match a {
-        ViewAnswer::Refused(_) => [0, 0],
-        ViewAnswer::First(at) => [1, at],
-        ViewAnswer::Second(at) => [2, at],
+    match answer {
+        Err(_) => [0, 0],
+        Ok(ViewStart::First(at)) => [1, at],
+        Ok(ViewStart::Second(at)) => [2, at],
     }
 }

@@ -1,4 +1,7 @@
 // Both grows, copy, checkpoint and advance.
+//
+// Kept: the two grows, copy and checkpoint stay four functions that differ in their call alone: C has four names, and what
+// they share is `state_beside` and `hand_back`.
 ghost use Rattle.std.specs.Prelude.{◌≡◌};
 ghost use Rattle.medium.specs.Medium.{observe, apply};
 ghost use Rattle.volume.specs.States.{geometry};
@@ -6,8 +9,8 @@ ghost use Rattle.capi.specs.Exported.{grow_left, grow_beyond_doubling_left, copy
 ghost use Rattle.capi.specs.Words.{state_from};
 
 use super::figures::{advance_figures, number};
-use super::handed::{hand_back, put, put_state};
-use super::words::{state_fits, state_of};
+use super::handed::{hand_back, put_state};
+use super::words::state_beside;
 use super::{ADVANCE_FIGURES, CALLS_FIGURES, WRONG_LENGTH};
 use layout::Block;
 
@@ -24,10 +27,9 @@ pub extern "C" fn streterva_grow(
     ensures figures_after { figures.new ≡ (grow_left state.old count figures.old (observe medium.old)).figures }
     ensures medium_after { medium.new ≡ apply (geometry (state_from state.old)) (grow_left state.old count figures.old (observe medium.old)).store medium.old }
 {
-    if !state_fits(state, figures.len(), CALLS_FIGURES) {
+    let Some(v) = state_beside(state, figures.len(), CALLS_FIGURES) else {
         return WRONG_LENGTH;
-    }
-    let v = state_of(state);
+    };
     let reply = v.grow(medium, count);
     hand_back(reply, state, figures)
 }
@@ -45,10 +47,9 @@ pub extern "C" fn streterva_grow_beyond_doubling(
     ensures figures_after { figures.new ≡ (grow_beyond_doubling_left state.old count figures.old (observe medium.old)).figures }
     ensures medium_after { medium.new ≡ apply (geometry (state_from state.old)) (grow_beyond_doubling_left state.old count figures.old (observe medium.old)).store medium.old }
 {
-    if !state_fits(state, figures.len(), CALLS_FIGURES) {
+    let Some(v) = state_beside(state, figures.len(), CALLS_FIGURES) else {
         return WRONG_LENGTH;
-    }
-    let v = state_of(state);
+    };
     let reply = v.grow_beyond_doubling(medium, count);
     hand_back(reply, state, figures)
 }
@@ -66,10 +67,9 @@ pub extern "C" fn streterva_copy(
     ensures figures_after { figures.new ≡ (copy_left state.old block figures.old (observe medium.old)).figures }
     ensures medium_after { medium.new ≡ apply (geometry (state_from state.old)) (copy_left state.old block figures.old (observe medium.old)).store medium.old }
 {
-    if !state_fits(state, figures.len(), CALLS_FIGURES) {
+    let Some(v) = state_beside(state, figures.len(), CALLS_FIGURES) else {
         return WRONG_LENGTH;
-    }
-    let v = state_of(state);
+    };
     let reply = v.copy(medium, Block(block));
     hand_back(reply, state, figures)
 }
@@ -86,12 +86,11 @@ pub extern "C" fn streterva_checkpoint(
     ensures figures_after { figures.new ≡ (checkpoint_left state.old figures.old (observe medium.old)).figures }
     ensures medium_after { medium.new ≡ apply (geometry (state_from state.old)) (checkpoint_left state.old figures.old (observe medium.old)).store medium.old }
 {
-    if !state_fits(state, figures.len(), CALLS_FIGURES) {
+    let Some(v) = state_beside(state, figures.len(), CALLS_FIGURES) else {
         return WRONG_LENGTH;
-    }
-    let v = state_of(state);
-    let recorded = v.checkpoint(medium);
-    hand_back(recorded, state, figures)
+    };
+    let reply = v.checkpoint(medium);
+    hand_back(reply, state, figures)
 }
 
 // Copies the next block or, when none is left in the window, records the copies.
@@ -106,15 +105,11 @@ pub extern "C" fn streterva_advance(
     ensures figures_after { figures.new ≡ (advance_left state.old figures.old (observe medium.old)).figures }
     ensures medium_after { medium.new ≡ apply (geometry (state_from state.old)) (advance_left state.old figures.old (observe medium.old)).store medium.old }
 {
-    if !state_fits(state, figures.len(), ADVANCE_FIGURES) {
+    let Some(v) = state_beside(state, figures.len(), ADVANCE_FIGURES) else {
         return WRONG_LENGTH;
-    }
-    let v = state_of(state);
+    };
     let reply = v.advance(medium);
-    let next = reply.state;
-    let answer = reply.answer;
-    put_state(state, next);
-    let told = advance_figures(answer);
-    put(figures, &told);
-    number(answer)
+    put_state(state, reply.state);
+    figures.copy_from_slice(&advance_figures(reply.answer));
+    number(&reply.answer)
 }

@@ -6,27 +6,14 @@ ghost use Rattle.capi.specs.Words.{state_words, pending_word, words_of};
 
 use super::figures::{calls_told, number};
 use super::words::{pending_word, words_of};
-use volume::{Pending, Reply, Volume};
-
-// Stores numbers into a slice of as many.
-pub fn put(to: &mut [usize], from: &[usize])
-    requires { length to.old ≡ length from.now }
-    ensures { to.new ≡ from.now }
-{
-    let mut i = 0;
-    while i < from.len() {
-        to[i] = from[i];
-        i += 1;
-    }
-}
+use volume::{Pending, Reply, Told, Volume};
 
 // Stores a state into its words.
 pub fn put_state(words: &mut [usize], v: Volume)
     requires { length words.old ≡ state_words }
     ensures { words.new ≡ words_of v }
 {
-    let next = words_of(v);
-    put(words, &next);
+    words.copy_from_slice(&words_of(v));
 }
 
 // Stores what is pending into the words of a state.
@@ -38,16 +25,14 @@ pub fn put_pending(words: &mut [usize], pending: Pending)
 }
 
 // Hands back a reply that reports the calls left: the state, the figure, the number.
-pub fn hand_back(reply: Reply, words: &mut [usize], figures: &mut [usize]) -> usize
+pub fn hand_back(reply: Reply<Told>, words: &mut [usize], figures: &mut [usize]) -> usize
     requires words_len { length words.old ≡ state_words }
     requires figures_len { length figures.old ≡ 1 }
     ensures value { result ≡ number reply.answer }
     ensures words_after { words.new ≡ words_of reply.state }
     ensures figures_after { figures.new ≡ calls_figures reply.answer }
 {
-    let state = reply.state;
-    let answer = reply.answer;
-    put_state(words, state);
-    figures[0] = calls_told(answer);
-    number(answer)
+    put_state(words, reply.state);
+    figures[0] = calls_told(reply.answer);
+    number(&reply.answer)
 }

@@ -1,61 +1,59 @@
 // The load of a scene list. The walk over the lent scenes is `scene_load`'s; what is tested and put stands in functions on plain
 // numbers, so that the exported one only calls.
 ghost use Rattle.std.specs.Prelude.{◌≡◌, cond};
-ghost use Rattle.scene_load.specs.Loads.{load_number, place_told};
+ghost use Rattle.scene_load.specs.Loads.{load_number, place_told, served_told};
 ghost use Rattle.capi.specs.Exported.{wrong_length, state_fits, state_taken, load_left};
 ghost use Rattle.capi.specs.Figures.{load_figures};
 
-use super::handed::put;
-use super::words::{is_state, state_fits, state_of};
+use super::words::{state_beside, state_of};
 use super::{LOAD_FIGURES, WRONG_LENGTH};
-use scene_load::{Load, LoadAnswer, Scene};
+use scene_load::{LoadRefusal, Scene};
 use volume::Volume;
 
 // The state of words, or the state of zeros where they are no state's.
 fn state_or_zeros(words: &[usize]) -> Volume
     ensures { result ≡ state_taken words.now }
 {
-    if !is_state(words) {
-        return Volume::zeros();
-    }
-    state_of(words)
+    state_of(words).unwrap_or(Volume::zeros())
 }
 
 // The number of a load.
-fn load_number(a: LoadAnswer) -> usize
-    ensures { result ≡ load_number a }
+#[tactic(auto, unfolding(scene_load::specs::Loads::load_number))]
+fn load_number(load: &Result<[usize; 16], LoadRefusal>) -> usize
+    ensures { result ≡ load_number load.now }
 {
-    match a {
-        LoadAnswer::Refused(k) => k,
-        LoadAnswer::SceneRefused(_) => 17,
-        LoadAnswer::Counted => 0,
+    match load {
+        Ok(_) => 0,
+        Err(refusal) => refusal.number(),
     }
 }
 
 // The place that a load tells.
-fn place_told(a: LoadAnswer) -> usize
-    ensures { result ≡ place_told a }
+#[tactic(auto, unfolding(scene_load::specs::Loads::place_told))]
+fn place_told(load: &Result<[usize; 16], LoadRefusal>) -> usize
+    ensures { result ≡ place_told load.now }
 {
-    match a {
-        LoadAnswer::Refused(_) => 0,
-        LoadAnswer::SceneRefused(place) => place,
-        LoadAnswer::Counted => 0,
+    match load {
+        Ok(_) | Err(LoadRefusal::NotSound) => 0,
+        Err(LoadRefusal::NoSuchScene(place)) => *place,
     }
 }
 
 // Puts the figures of a load, and gives its number.
-fn hand_load(state: &[usize], load: Load, figures: &mut [usize]) -> usize
-    ensures { (result ≡ cond (state_fits state.now 17 figures.old) (load_number load.answer) wrong_length)
+fn hand_load(
+    state: &[usize],
+    load: Result<[usize; 16], LoadRefusal>,
+    figures: &mut [usize],
+) -> usize
+    ensures { (result ≡ cond (state_fits state.now 17 figures.old) (load_number load) wrong_length)
         × (figures.new ≡ cond (state_fits state.now 17 figures.old) (load_figures load) figures.old) }
 {
-    if !state_fits(state, figures.len(), LOAD_FIGURES) {
+    let Some(_) = state_beside(state, figures.len(), LOAD_FIGURES) else {
         return WRONG_LENGTH;
-    }
-    let served = load.served;
-    put(&mut figures[1..17], &served);
-    let answer = load.answer;
-    figures[0] = place_told(answer);
-    load_number(answer)
+    };
+    figures[0] = place_told(&load);
+    figures[1..].copy_from_slice(&load.unwrap_or([0; 16]));
+    load_number(&load)
 }
 
 // How many blocks of the listed scenes each disk serves.

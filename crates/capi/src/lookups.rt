@@ -2,11 +2,8 @@
 ghost use Rattle.std.specs.Prelude.{◌≡◌};
 ghost use Rattle.capi.specs.Exported.{address_left, holder_left, view_left};
 
-use super::figures::{
-    address_figures, address_number, block_told, holder_number, view_figures, view_number,
-};
-use super::handed::put;
-use super::words::{state_fits, state_of};
+use super::figures::{address_figures, block_told, number, view_figures};
+use super::words::state_beside;
 use super::{ADDRESS_FIGURES, HOLDER_FIGURES, VIEW_FIGURES, WRONG_LENGTH};
 use layout::{Block, Row, Spot};
 
@@ -16,15 +13,12 @@ pub extern "C" fn streterva_address(state: &[usize], block: usize, figures: &mut
     ensures value { result ≡ (address_left state.now block figures.old).number }
     ensures figures_after { figures.new ≡ (address_left state.now block figures.old).figures }
 {
-    if !state_fits(state, figures.len(), ADDRESS_FIGURES) {
+    let Some(v) = state_beside(state, figures.len(), ADDRESS_FIGURES) else {
         return WRONG_LENGTH;
-    }
-    let v = state_of(state);
+    };
     let reply = v.address(Block(block));
-    let answer = reply.answer;
-    let told = address_figures(answer);
-    put(figures, &told);
-    address_number(answer)
+    figures.copy_from_slice(&address_figures(reply.answer));
+    number(&reply.answer)
 }
 
 // The block that lives at a spot.
@@ -38,18 +32,16 @@ pub extern "C" fn streterva_holder(
     ensures value { result ≡ (holder_left state.now (record { disk = disk; row = record { 0 = row } }) figures.old).number }
     ensures figures_after { figures.new ≡ (holder_left state.now (record { disk = disk; row = record { 0 = row } }) figures.old).figures }
 {
-    if !state_fits(state, figures.len(), HOLDER_FIGURES) {
+    let Some(v) = state_beside(state, figures.len(), HOLDER_FIGURES) else {
         return WRONG_LENGTH;
-    }
-    let v = state_of(state);
+    };
     let p = Spot {
         disk,
         row: Row(row),
     };
     let reply = v.holder(p);
-    let answer = reply.answer;
-    figures[0] = block_told(answer);
-    holder_number(answer)
+    figures[0] = block_told(reply.answer);
+    number(&reply.answer)
 }
 
 // On which of two shelves, with disks 0 to k-1 on the first, a block is, and at which byte of it.
@@ -65,12 +57,10 @@ pub extern "C" fn streterva_view(
     ensures value { result ≡ (view_left state.now first second k block figures.old).number }
     ensures figures_after { figures.new ≡ (view_left state.now first second k block figures.old).figures }
 {
-    if !state_fits(state, figures.len(), VIEW_FIGURES) {
+    let Some(v) = state_beside(state, figures.len(), VIEW_FIGURES) else {
         return WRONG_LENGTH;
-    }
-    let v = state_of(state);
+    };
     let answer = shelves::view_answer(v, first, second, k, Block(block));
-    let told = view_figures(answer);
-    put(figures, &told);
-    view_number(answer)
+    figures.copy_from_slice(&view_figures(answer));
+    number(&answer)
 }

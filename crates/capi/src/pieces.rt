@@ -8,7 +8,7 @@ ghost use Rattle.capi.specs.Words.{state_from};
 use super::WRONG_LENGTH;
 use super::figures::number;
 use super::handed::put_pending;
-use super::words::{is_state, state_of};
+use super::words::state_of;
 use layout::Block;
 
 // Saves a piece as a block.
@@ -23,15 +23,12 @@ pub extern "C" fn streterva_write(
     ensures state_after { state.new ≡ (write_left state.old block piece.now (observe medium.old)).words }
     ensures medium_after { medium.new ≡ apply (geometry (state_from state.old)) (write_left state.old block piece.now (observe medium.old)).store medium.old }
 {
-    if !is_state(state) {
+    let Some(v) = state_of(state) else {
         return WRONG_LENGTH;
-    }
-    let v = state_of(state);
+    };
     let reply = v.write(medium, Block(block), piece);
-    let next = reply.state;
-    let answer = reply.answer;
-    put_pending(state, next.pending);
-    number(answer)
+    put_pending(state, reply.state.pending);
+    number(&reply.answer)
 }
 
 // Fills a piece with a block.
@@ -45,11 +42,9 @@ pub extern "C" fn streterva_read(
     ensures value { result ≡ (read_left state.now block piece.old (observe medium.now)).number }
     ensures piece_after { piece.new ≡ (read_left state.now block piece.old (observe medium.now)).piece }
 {
-    if !is_state(state) {
+    let Some(v) = state_of(state) else {
         return WRONG_LENGTH;
-    }
-    let v = state_of(state);
+    };
     let reply = v.read(medium, Block(block), piece);
-    let answer = reply.answer;
-    number(answer)
+    number(&reply.answer)
 }

@@ -5,7 +5,7 @@ ghost use Rattle.capi.specs.Exported.{format_left, restart_left, flushed_left, s
 
 use super::figures::number;
 use super::handed::{hand_back, put_pending, put_state};
-use super::words::{is_state, state_of};
+use super::words::state_of;
 use super::{CALLS_FIGURES, STATE_WORDS, WRONG_LENGTH};
 use volume::Volume;
 
@@ -26,10 +26,8 @@ pub extern "C" fn streterva_format(
         return WRONG_LENGTH;
     }
     let reply = Volume::format(medium, size, rows, disks);
-    let next = reply.state;
-    let answer = reply.answer;
-    put_state(state, next);
-    number(answer)
+    put_state(state, reply.state);
+    number(&reply.answer)
 }
 
 // Takes the state from the record, after a power cut or at any time.
@@ -59,15 +57,12 @@ pub extern "C" fn streterva_flushed(state: &mut [usize]) -> usize
     ensures value { result ≡ (flushed_left state.old).number }
     ensures state_after { state.new ≡ (flushed_left state.old).words }
 {
-    if !is_state(state) {
+    let Some(v) = state_of(state) else {
         return WRONG_LENGTH;
-    }
-    let v = state_of(state);
+    };
     let reply = v.flushed();
-    let down = reply.state;
-    let answer = reply.answer;
-    put_pending(state, down.pending);
-    number(answer)
+    put_pending(state, reply.state.pending);
+    number(&reply.answer)
 }
 
 // 0 where the words hold a sound state, else 1.
@@ -75,12 +70,8 @@ pub extern "C" fn streterva_flushed(state: &mut [usize]) -> usize
 pub extern "C" fn streterva_soundness(state: &[usize]) -> usize
     ensures { result ≡ (soundness_left state.now).number }
 {
-    if !is_state(state) {
+    let Some(v) = state_of(state) else {
         return WRONG_LENGTH;
-    }
-    let v = state_of(state);
-    if v.is_sound() {
-        return 0;
-    }
-    1
+    };
+    if v.is_sound() { 0 } else { 1 }
 }

@@ -3,9 +3,9 @@ ghost use Rattle.std.specs.Prelude.{◌≡◌};
 ghost use Rattle.capi.specs.Exported.{table_move_left};
 ghost use Rattle.capi.specs.Figures.{table_move_figures};
 
-use super::handed::put;
 use super::{TABLE_MOVE_FIGURES, WRONG_LENGTH};
 
+#[tactic(auto, unfolding(crate::specs::Figures::table_move_figures))]
 fn table_move_figures(place: Option<usize>) -> [usize; 2]
     ensures { result ≡ table_move_figures place }
 {
@@ -29,7 +29,6 @@ pub extern "C" fn streterva_table_move(
     if figures.len() != TABLE_MOVE_FIGURES {
         return WRONG_LENGTH;
     }
-    let told = table_move_figures(move_table::offset(m, n, mark));
-    put(figures, &told);
+    figures.copy_from_slice(&table_move_figures(move_table::offset(m, n, mark)));
     0
 }

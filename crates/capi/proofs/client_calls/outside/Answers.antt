@@ -1,6 +1,17 @@
-use mathlib.Core.Path.{sym, ◌∙◌}
-use Rattle.capi.proofs.WordLaws.{state_words_law}
+-- `outside` meets its contract.
+use mathlib.Core.Path.{sym}
+use Rattle.base.specs.Refusals.{refusal_number}
+use Rattle.capi.proofs.ExportedCode.{state_told}
 use Rattle.capi.proofs.client_calls.outside.Goals as goal
 
-pub state_of-v-requires : goal.state_of-v-requires
-state_of-v-requires c = (state_words_law _ (sym c.is_state.ensures ∙ c.if-not-is_state.false)).count
+pub returns-then-is_sound : goal.returns-then-is_sound
+unfolding refusal_number
+returns-then-is_sound c =
+    let t = state_told _ _ (sym c.in-Some.ensures) in
+    rw (t.are_state_law, ← t.state_there, ← c.is_sound.ensures, c.if-is_sound.true) c.number.ensures
+
+pub returns-else-is_sound : goal.returns-else-is_sound
+unfolding refusal_number
+returns-else-is_sound c =
+    let t = state_told _ _ (sym c.in-Some.ensures) in
+    rw (t.are_state_law, ← t.state_there, ← c.is_sound.ensures, c.if-is_sound.false) c.number-else-is_sound.ensures

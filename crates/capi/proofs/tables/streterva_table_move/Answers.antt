@@ -10,6 +10,6 @@ returns-then-figures-ne-TABLE_MOVE_FIGURES c =
 
 pub returns : goal.returns
 returns c =
-    let made = rw c.offset.ensures at c.table_move_figures-told.ensures in
-    let h = table_looked_up _ _ _ _ c.if-figures-ne-TABLE_MOVE_FIGURES.false _ (c.put.ensures ∙ made) in
+    let made = rw c.offset.ensures at c.table_move_figures.ensures in
+    let h = table_looked_up _ _ _ _ c.if-figures-ne-TABLE_MOVE_FIGURES.false _ (c.copy_from_slice.ensures.after ∙ made) in
     record { value = h.0; figures_after = h.1 }
