@@ -1,10 +1,7 @@
 -- `advance_figures` meets its contract.
-use mathlib.Core.Path.{◌≡◌, ap, ◌∙◌}
+use mathlib.Core.Path.{◌≡◌}
 use lib.ListN.{length}
 use borrow.Author.Rules.{rules}
-use Rattle.std.specs.Prelude.{Result, Ok}
-use Rattle.base.specs.declared.Refusal.{Refusal}
-use Rattle.volume.specs.declared.Told.{Told}
 use Rattle.volume.specs.Answers.{calls_told, block_copied, part_copied}
 use Rattle.capi.specs.Figures.{did_told}
 use Rattle.capi.proofs.WordsCode.{three_listed}
@@ -14,5 +11,5 @@ pub returns-in-Ok-Advanced : goal.returns-in-Ok-Advanced
 unfolding calls_told did_told block_copied part_copied
 returns-in-Ok-Advanced c =
     let e : length c.did_figures.result ≡ 3 = search rules in
-    let told = c.in-Ok-Advanced.is ∙ ap (λ (t : Told). Ok {E = Refusal} t) c.in-Ok-Advanced.field-0-is in
-    rw (told, three_listed _ e, c.did_figures.ensures)
+    let told = rw c.in-Ok-Advanced.is at c.in-Ok-Advanced.field-0-is in
+    rw (c.in-Ok-Advanced.is, told, three_listed _ e, c.did_figures.ensures)
