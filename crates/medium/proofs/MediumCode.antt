@@ -1,12 +1,11 @@
 -- What the code needs besides: that nothing on the way to a place wraps, a part that was lent, and bytes copied within the medium.
 use Prim.Native.Nat.{ℕ, ◌+◌, ◌-◌, ◌*◌, ◌^◌, ◌≤◌, ◌<◌}
-use mathlib.Core.Path.{◌≡◌, ◌∙◌, sym}
+use mathlib.Core.Path.{◌≡◌, ◌∙◌}
 use mathlib.Core.List.{List, ◌++◌}
 use native.Mathlib.Nat.{le-mul_of_pos_right}
 use native.Mathlib.Omega.{arith}
 use lib.ListN.{length, take, drop, length-take, length-drop}
-use Rattle.std.specs.List.{copy_within}
-use Rattle.std.proofs.lemmas.List.Edits.{sets, sets-eq}
+use Rattle.std.proofs.lemmas.List.Edits.{sets}
 use Rattle.medium.specs.Medium.{record_bytes}
 use Rattle.base.proofs.Lists.{part_back_law}
 
@@ -25,11 +24,10 @@ copied_in m piece l at size long h e =
 pub copied_out : (m l : List ℕ) (at n : ℕ) → l ≡ take (at + n - at) (drop at m) → l ≡ take n (drop at m)
 copied_out m l at n e = let k : at + n - at ≡ n = omega arith in rw k at e
 
--- n bytes from one place to another
-pub copied_within : (m l : List ℕ) (from to n : ℕ) → from + n ≤ length m → to + n ≤ length m → l ≡ copy_within m from (from + n) to
-    → l ≡ sets m to (take n (drop from m))
-copied_within m l from to n f t e =
-    let k : from + n - from ≡ n = omega arith in
+-- n bytes from one place to another, through a list that holds them
+pub copied_across : (m held l : List ℕ) (from to n : ℕ) → from + n ≤ length m → to + n ≤ length m → held ≡ take (from + n - from) (drop from m)
+    → l ≡ held → take to m ++ (l ++ drop (to + n - to) (drop to m)) ≡ sets m to (take n (drop from m))
+copied_across m held l from to n f t e k =
+    let part : held ≡ take n (drop from m) = copied_out m held from n e in
     let long : length (take n (drop from m)) ≡ n = simp (length-take, length-drop) (omega arith) in
-    let fits : to + length (take n (drop from m)) ≤ length m = rw long t in
-    (rw k at e) ∙ sym (rw long at (sets-eq (take n (drop from m)) m to fits))
+    copied_in m (take n (drop from m)) l to n long t (k ∙ part)
