@@ -30,6 +30,7 @@ impl GrowthDisks {
     ghost use Rattle.layout.specs.Growth.{part_of, new_disk, disk_after, row_in_window, moves_from, old_block_spot, added_disk, added_spot, spot_after, old_change, change_of, added_index, old_disk, spot_before};
 
     // The growth from so many disks by so many, if it is within the limits.
+    #[inline(always)]
     pub fn new(old: usize, added: usize) -> Option<GrowthDisks>
         ensures within { IsSome result ↔ Grows old added }
         ensures numbers { IfSome result (λ g. (g.old ≡ old) × (g.added ≡ added)) }

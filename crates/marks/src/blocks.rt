@@ -88,6 +88,7 @@ impl Stage {
     }
 
     // The live spot of block x, where p is its old spot in a growth under way, its only one with none.
+    #[inline(always)]
     pub fn live_spot(self, h: History, x: Block, p: Spot) -> Spot
         requires while_growing { let counts = history h.growths h.counts.now in (self.growing ≡ 0) ⊎ ((0 < h.growths) × (p.disk < old_count counts)) }
         ensures { let counts = history h.entry.growths h.entry.counts.now in result ≡ cond (eqb self.growing 0) p (live_from (old_count counts) (added_count counts) h.entry.rows self.window (marks_of self.recorded) x.0 p) }

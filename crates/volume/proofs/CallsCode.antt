@@ -15,7 +15,7 @@ use Rattle.volume.specs.declared.Told.{Told}
 use Rattle.volume.specs.declared.Told.TheVariants as told
 use Rattle.volume.specs.declared.Volume.{Volume}
 use Rattle.volume.specs.Calls.{doing, reporting, telling}
-use Rattle.volume.specs.Records.{record_of}
+use Rattle.volume.specs.Records.{numbers_of, record_of}
 use Rattle.volume.specs.Sound.{size_holds, rows_hold, disks_hold, sound}
 use Rattle.volume.specs.States.{geometry, history_of, disks, tally_of, with_pending, pending_with, after_store}
 use Rattle.volume.proofs.ByteBounds.{bytes_bound}
@@ -47,7 +47,13 @@ module _ (v w u : Volume) (store : Store) (n : w ≡ v) (m : u ≡ with_pending 
   pub state_after : u ≡ after_store v store
   state_after = rw n at m
 
-  -- what is pending is no part of soundness
+  -- what is pending is no part of the record
+  pub pending_stored : (g : Geometry) (before after : List ℕ) → after ≡ apply (geometry u) (record_store (record_of u)) before
+      → after ≡ apply g (record_store (record_of v)) before
+  unfolding apply record_of numbers_of with_pending
+  pending_stored g before after made = rw state_after at made
+
+  -- nor of soundness
   pub sound_after : sound v ≡ true → sound u ≡ true
   sound_after e = rw state_after (pending_sound v (pending_with v.pending store) ∙ e)
 

@@ -41,7 +41,7 @@ use Rattle.volume.specs.Records.{record_of}
 use Rattle.volume.specs.Sound.{sound}
 use Rattle.volume.specs.States.{geometry, history_of, disks, tally_of, with_pending, record_pending, block_pending, pending_with, with_growth, with_mark, with_copy, checkpointed}
 use Rattle.volume.proofs.Accepted.{AdvanceFacts, CopyFacts}
-use Rattle.volume.proofs.CallsCode.{record_stored, tell_made}
+use Rattle.volume.proofs.CallsCode.{pending_stored, tell_made}
 use Rattle.volume.proofs.CopyLaws.{moves_open}
 use Rattle.volume.proofs.Judged.{Tells, tells_before}
 use Rattle.volume.proofs.LiveCode.{counts_now, history_limits}
@@ -242,10 +242,11 @@ module _ (v : Volume) (o : Observations) where
     records_told u m did known q made =
         rw records (tell_made (checkpointed v) w u (checkpoint_store v) n m q (checkpoint_told (checkpointed v)) (rw (known, n) at made))
 
-    pub records_stored : (g : Geometry) (m after : List ℕ) → after ≡ apply (geometry w) (record_store (record_of w)) m
-        → after ≡ apply g advanced.store m
-    unfolding telling checkpoint_store
-    records_stored g m after made = rw records (record_stored w (checkpointed v) g m after n made)
+    pub records_stored : (u : Volume) → u ≡ with_pending w (record_pending w.pending) → (g : Geometry) (before after : List ℕ)
+        → after ≡ apply (geometry u) (record_store (record_of u)) before → after ≡ apply g advanced.store before
+    unfolding telling checkpoint_store pending_with
+    records_stored u m g before after made =
+        rw records (pending_stored (checkpointed v) w u (checkpoint_store v) n m g before after made)
 
   module _ (x : Block) (part : Part) (e : next_block (tally_of v) ≡ some x.0) (p : part ≡ part_moved v.rows (history_of v) x.0) where
     copies : advanced ≡ telling (with_copy v x.0) (Copied x part) (copy_store v x.0 o)

@@ -36,11 +36,12 @@ impl Volume {
     }
 
     // The state with the number of advance calls left.
-    pub(crate) fn report(self) -> Reply<Told>
-        requires { sound self ≡ true }
-        ensures { result ≡ record { state = self; answer = Ok (CallsLeft (calls_left_of (tally_of self))) } }
+    pub(crate) fn report(&self) -> Reply<Told>
+        requires { sound self.now ≡ true }
+        ensures { result ≡ record { state = self.now; answer = Ok (CallsLeft (calls_left_of (tally_of self.now))) } }
     {
-        self.accept(Told::CallsLeft(self.calls_left()))
+        let left = self.calls_left();
+        self.accept(Told::CallsLeft(left))
     }
 
     pub(crate) fn check_format(
@@ -174,11 +175,12 @@ impl Volume {
         if let Err(refusal) = self.check_grow(limited, count, medium.len()) {
             return self.refuse(refusal);
         }
-        let v = self.grown(count);
+        let v = self.grown(count).after_record();
         v.store_record(medium);
-        v.after_record().report()
+        v.report()
     }
 
+    #[inline(always)]
     pub(crate) fn check_read(&self, x: Block, piece: usize, len: usize) -> Result<(), Refusal>
         ensures { result ≡ checked (refusal (read_table self.now x.0 piece len)) }
     {

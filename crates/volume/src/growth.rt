@@ -14,7 +14,7 @@ ghost use Rattle.volume.specs.declared.Told.TheVariants as told;
 use super::{Advanced, MarkedSpot, Reply, Told, Volume};
 use base::Refusal;
 use layout::{Block, Spot};
-use marks::NextCopy;
+use marks::{NextCopy, Stage};
 
 impl Volume {
     // The state with mark j copied.
@@ -29,29 +29,42 @@ impl Volume {
     }
 
     // The state that a checkpoint records.
-    pub(crate) fn checkpointed(self) -> Volume
-        requires { (sound self ≡ true) × (self.growing ≢ 0) }
-        ensures { result ≡ checkpointed self }
+    pub(crate) fn checkpointed(&self) -> Volume
+        requires { (sound self.now ≡ true) × (self.now.growing ≢ 0) }
+        ensures { result ≡ checkpointed self.now }
     {
-        let t = self.growths;
-        let counts = self.counts;
         let w = self.window;
-        let copied = self.copied;
         if !self.stage().all_copied(self.history()) {
-            return self.with_growth(t, counts, self.growing, w, copied, copied);
+            return self.in_stage(Stage {
+                growing: self.growing,
+                window: w,
+                recorded: self.copied,
+                copied: self.copied,
+            });
         }
         if w + 1 == window::window_count(self.newest_growth(), self.rows) {
-            return self.with_growth(t, counts, 0, 0, 0, 0);
+            return self.in_stage(Stage {
+                growing: 0,
+                window: 0,
+                recorded: 0,
+                copied: 0,
+            });
         }
-        self.with_growth(t, counts, self.growing, w + 1, 0, 0)
+        self.in_stage(Stage {
+            growing: self.growing,
+            window: w + 1,
+            recorded: 0,
+            copied: 0,
+        })
     }
 
     // The state with what an advance did and the number of advance calls left.
-    pub(crate) fn tell(self, did: Advanced) -> Reply<Told>
-        requires { sound self ≡ true }
-        ensures { result ≡ record { state = self; answer = Ok (told.Advanced did (calls_left_of (tally_of self))) } }
+    pub(crate) fn tell(&self, did: Advanced) -> Reply<Told>
+        requires { sound self.now ≡ true }
+        ensures { result ≡ record { state = self.now; answer = Ok (told.Advanced did (calls_left_of (tally_of self.now))) } }
     {
-        self.accept(Told::Advanced(did, self.calls_left()))
+        let left = self.calls_left();
+        self.accept(Told::Advanced(did, left))
     }
 
     // What a checkpoint that left this state did.
@@ -145,9 +158,9 @@ impl Volume {
         if let Err(refusal) = self.check_checkpoint(medium.len()) {
             return self.refuse(refusal);
         }
-        let next = self.checkpointed();
+        let next = self.checkpointed().after_record();
         next.store_record(medium);
-        next.after_record().report()
+        next.report()
     }
 
     // Copies the next block or, when none is left in the window, records the copies.
@@ -175,9 +188,11 @@ impl Volume {
         if let Err(refusal) = self.check_record_store() {
             return self.refuse(refusal);
         }
-        let v = self.checkpointed();
+        let next = self.checkpointed();
+        let did = next.checkpoint_told();
+        let v = next.after_record();
         v.store_record(medium);
-        v.after_record().tell(v.checkpoint_told())
+        v.tell(did)
     }
 
     // The advance that copies a block.

@@ -75,6 +75,7 @@ impl Volume {
     }
 
     // The live spot of block x.
+    #[inline(always)]
     pub fn live_spot(&self, x: Block) -> Spot
         requires sound_state { sound self.now ≡ true }
         requires x_bound { x.0 < open_blocks (tally_of self.now) }

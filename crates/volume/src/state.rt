@@ -3,9 +3,10 @@ ghost use Rattle.std.specs.Prelude.{◌≡◌, ◌≤◌, ◌<◌, length};
 ghost use Rattle.layout.specs.Limits.{most_growths};
 ghost use Rattle.medium.specs.Medium.{record_store, apply};
 ghost use Rattle.volume.specs.Records.{record_of, state_of};
-ghost use Rattle.volume.specs.States.{geometry, new_state, with_growth, zeros, grown};
+ghost use Rattle.volume.specs.States.{geometry, new_state, with_growth, in_stage, zeros, grown};
 
 use super::{Pending, Volume};
+use marks::Stage;
 use record::Record;
 
 impl Volume {
@@ -75,6 +76,19 @@ impl Volume {
             recorded,
             copied,
             ..self
+        }
+    }
+
+    // The same history, in another stage of a growth.
+    pub(crate) fn in_stage(&self, stage: Stage) -> Volume
+        ensures { result ≡ in_stage self.now stage.growing stage.window stage.recorded stage.copied }
+    {
+        Volume {
+            growing: stage.growing,
+            window: stage.window,
+            recorded: stage.recorded,
+            copied: stage.copied,
+            ..*self
         }
     }
 

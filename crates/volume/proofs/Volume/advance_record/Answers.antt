@@ -41,7 +41,7 @@ pub tell-requires : goal.tell-requires
 unfolding pending_with checkpoint_store
 tell-requires c =
     let s = c.requires.sound_state in
-    sound_after _ _ _ (checkpoint_store c.args.self) c.checkpointed-v.ensures c.after_record.ensures (checkpointed_sound _ s.0 s.1)
+    sound_after _ _ _ (checkpoint_store c.args.self) c.checkpointed-next.ensures c.after_record-v.ensures (checkpointed_sound _ s.0 s.1)
 
 pub returns : goal.returns
 unfolding advance_outcome observe
@@ -50,8 +50,8 @@ returns c =
     let due = record_due _ _ (facts (goal.at.returns c).Start) c.requires.next in
     let e = rw due at (checked_takes _ _ c.check_record_store.ensures c.in_default.not-Err) in
     let d = c.requires.next in
-    let n = c.checkpointed-v.ensures in
+    let n = c.checkpointed-next.ensures in
     record {
-      value = accepted_reply _ v [] _ e _ (records_told v _ d _ n _ c.after_record.ensures _ c.checkpoint_told.ensures _ c.tell.ensures);
-      medium_after = accepted_stores _ v [] _ e _ _ _ (records_stored v _ d _ n _ _ _ c.store_record.ensures);
+      value = accepted_reply _ v [] _ e _ (records_told v _ d _ n _ c.after_record-v.ensures _ c.checkpoint_told-did.ensures _ c.tell.ensures);
+      medium_after = accepted_stores _ v [] _ e _ _ _ (records_stored v _ d _ n _ c.after_record-v.ensures _ _ _ c.store_record.ensures);
     }

@@ -21,13 +21,13 @@ all_copied-requires c =
 
 -- whether all are copied
 full : (c : After-all_copied)
-    → let v = c.args.self in
+    → let v = c.args.self.now in
     c.all_copied.result ≡ all_copied v.rows (counts_now v) v.window (marked_blocks v.rows (counts_now v) v.window (marks_of v.copied))
 full c = let e = c.history.ensures in rw (c.stage.ensures, e.growths, e.counts, e.rows) at c.all_copied.ensures
 
 pub returns-then-not-all_copied : goal.returns-then-not-all_copied
 returns-then-not-all_copied c =
-    c.with_growth.ensures ∙ marks_recorded _ _ (full (goal.at.returns-then-not-all_copied c).After-all_copied) (c.if-not-all_copied.true)
+    c.in_stage.ensures ∙ marks_recorded _ _ (full (goal.at.returns-then-not-all_copied c).After-all_copied) (c.if-not-all_copied.true)
 
 pub overflow_add-w : goal.overflow_add-w
 overflow_add-w c = omega (arith, window_most _ c.requires.0 c.requires.1)
@@ -36,7 +36,7 @@ pub returns-then-w-window_count : goal.returns-then-w-window_count
 returns-then-w-window_count c =
     let a = full (goal.at.returns-then-w-window_count c).After-all_copied in
     let g = c.newest_growth.ensures in
-    c.with_growth-then-w-window_count.ensures
+    c.in_stage-then-w-window_count.ensures
     ∙ growth_finished _ _ a c.if-not-all_copied.false c.newest_growth.result g.old g.added _ c.window_count.ensures c.if-w-window_count.true
 
 pub overflow_add-w-2 : goal.overflow_add-w-2
@@ -46,5 +46,5 @@ pub returns : goal.returns
 returns c =
     let a = full (goal.at.returns c).After-all_copied in
     let g = c.newest_growth.ensures in
-    c.with_growth-2.ensures
+    c.in_stage-2.ensures
     ∙ window_finished _ _ a c.if-not-all_copied.false c.newest_growth.result g.old g.added _ c.window_count.ensures c.if-w-window_count.false

@@ -9,7 +9,7 @@ use Rattle.volume.specs.Records.{record_of}
 use Rattle.volume.specs.States.{pending_with, grown}
 use Rattle.volume.proofs.Accepted.{grow_accepted}
 use Rattle.volume.proofs.ByteBounds.{record_room}
-use Rattle.volume.proofs.CallsCode.{record_stored, sound_after, report_made}
+use Rattle.volume.proofs.CallsCode.{pending_stored, sound_after, report_made}
 use Rattle.volume.proofs.Judged.{checked_tells, checked_takes, refused_reply, refused_stores, accepted_reply, accepted_stores}
 use Rattle.volume.proofs.StatesSound.{grown_sound}
 use Rattle.volume.proofs.Volume.start_growth.Goals as goal
@@ -29,8 +29,8 @@ returns-in-Err c =
 clear : (c : In_default) → let a = c.args in refusal (grow_table_of a.limited a.self a.count (length a.medium.now)) ≡ 0
 clear c = checked_takes _ _ c.check_grow.ensures c.in_default.not-Err
 
-pub grown-v-requires : goal.grown-v-requires
-grown-v-requires c = (grow_accepted _ _ _ _ (clear (goal.at.grown-v-requires c).In_default)).may.one_more
+pub grown-requires : goal.grown-requires
+grown-requires c = (grow_accepted _ _ _ _ (clear (goal.at.grown-requires c).In_default)).may.one_more
 
 pub store_record-requires : goal.store_record-requires
 store_record-requires c = record_room _ _ _ (grow_accepted _ _ _ _ (clear (goal.at.store_record-requires c).In_default)).room
@@ -40,7 +40,7 @@ unfolding pending_with
 report-requires c =
     let a = c.args in
     let store = record_store (record_of (grown a.self a.count)) in
-    sound_after _ _ _ store c.grown-v.ensures c.after_record.ensures (grown_sound _ _ _ _ (clear (goal.at.report-requires c).In_default))
+    sound_after _ _ _ store c.grown.ensures c.after_record-v.ensures (grown_sound _ _ _ _ (clear (goal.at.report-requires c).In_default))
 
 pub returns : goal.returns
 unfolding grow_outcome_of grow_effect reporting pending_with observe
@@ -48,9 +48,9 @@ returns c =
     let a = c.args in
     let v = a.self in
     let e = clear (goal.at.returns c).In_default in
-    let n = c.grown-v.ensures in
+    let n = c.grown.ensures in
     let store = record_store (record_of (grown v a.count)) in
     record {
-      value = accepted_reply _ v [] _ e _ (report_made _ _ _ store n c.after_record.ensures _ c.report.ensures);
-      medium_after = accepted_stores _ v [] _ e _ _ _ (record_stored _ _ _ _ _ n c.store_record.ensures);
+      value = accepted_reply _ v [] _ e _ (report_made _ _ _ store n c.after_record-v.ensures _ c.report.ensures);
+      medium_after = accepted_stores _ v [] _ e _ _ _ (pending_stored _ _ _ store n c.after_record-v.ensures _ _ _ c.store_record.ensures);
     }
