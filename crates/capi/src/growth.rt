@@ -30,8 +30,7 @@ pub extern "C" fn streterva_grow(
     let Some(v) = state_beside(state, figures.len(), CALLS_FIGURES) else {
         return WRONG_LENGTH;
     };
-    let reply = v.grow(medium, count);
-    hand_back(reply, state, figures)
+    hand_back(v.grow(medium, count), state, figures)
 }
 
 // Document 02, W7, "the one without 20": starts a growth to so many disks.
@@ -50,8 +49,7 @@ pub extern "C" fn streterva_grow_beyond_doubling(
     let Some(v) = state_beside(state, figures.len(), CALLS_FIGURES) else {
         return WRONG_LENGTH;
     };
-    let reply = v.grow_beyond_doubling(medium, count);
-    hand_back(reply, state, figures)
+    hand_back(v.grow_beyond_doubling(medium, count), state, figures)
 }
 
 // Copies a block to its new spot.
@@ -70,8 +68,7 @@ pub extern "C" fn streterva_copy(
     let Some(v) = state_beside(state, figures.len(), CALLS_FIGURES) else {
         return WRONG_LENGTH;
     };
-    let reply = v.copy(medium, Block(block));
-    hand_back(reply, state, figures)
+    hand_back(v.copy(medium, Block(block)), state, figures)
 }
 
 // Records the copies made.
@@ -89,8 +86,7 @@ pub extern "C" fn streterva_checkpoint(
     let Some(v) = state_beside(state, figures.len(), CALLS_FIGURES) else {
         return WRONG_LENGTH;
     };
-    let reply = v.checkpoint(medium);
-    hand_back(reply, state, figures)
+    hand_back(v.checkpoint(medium), state, figures)
 }
 
 // Copies the next block or, when none is left in the window, records the copies.

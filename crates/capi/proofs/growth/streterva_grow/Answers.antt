@@ -20,7 +20,7 @@ hand_back-requires c =
 pub returns : goal.returns
 unfolding call_outcome
 returns c =
-    let r = c.grow-reply.ensures in
+    let r = c.grow.ensures in
     let b = c.hand_back.ensures in
     let h = call_made 1 calls_figures (grow _) _ _ [] _ _ (sym c.in-Some.ensures) _ _ (r.value, r.medium_after) _ _ _ (b.value, (b.words_after, b.figures_after)) in
     record { value = h.0; state_after = h.1.0; figures_after = h.1.1.0; medium_after = h.1.1.1 }
