@@ -89,10 +89,11 @@ pub extern "C" fn streterva_client_read(
     let Some(table) = spans_of(spans) else {
         return WRONG_LENGTH;
     };
-    if !table.allows(client, block) {
-        return outside(state);
+    if table.allows(client, block) {
+        streterva_read(state, medium, block, piece)
+    } else {
+        outside(state)
     }
-    streterva_read(state, medium, block, piece)
 }
 
 // Saves a piece as a block, through the client's span.
@@ -112,8 +113,9 @@ pub extern "C" fn streterva_client_write(
     let Some(table) = spans_of(spans) else {
         return WRONG_LENGTH;
     };
-    if !table.allows(client, block) {
-        return outside(state);
+    if table.allows(client, block) {
+        streterva_write(state, medium, block, piece)
+    } else {
+        outside(state)
     }
-    streterva_write(state, medium, block, piece)
 }

@@ -8,13 +8,13 @@ returns-in_default c =
     let h = write_not_made c.args.spans.now _ _ _ _ _ _ (sym c.in_default.ensures) in
     record { value = h.0; state_after = h.1.0; medium_after = h.1.1 }
 
-pub returns-then-not-allows : goal.returns-then-not-allows
-returns-then-not-allows c =
-    let h = outside_write c.args.spans.now _ _ _ _ _ _ (sym c.in-Some.ensures) _ (sym c.allows.ensures ∙ c.if-not-allows.true) _ c.outside.ensures in
+pub returns-else-allows : goal.returns-else-allows
+returns-else-allows c =
+    let h = outside_write c.args.spans.now _ _ _ _ _ _ (sym c.in-Some.ensures) _ (sym c.allows.ensures ∙ c.if-allows.false) _ c.outside.ensures in
     record { value = h.0; state_after = h.1.0; medium_after = h.1.1 }
 
-pub returns : goal.returns
-returns c =
+pub returns-then-allows : goal.returns-then-allows
+returns-then-allows c =
     let w = c.streterva_write.ensures in
-    let h = write_inside c.args.spans.now _ _ _ _ _ _ (sym c.in-Some.ensures) _ (sym c.allows.ensures ∙ c.if-not-allows.false) _ _ _ (w.value, (w.state_after, w.medium_after)) in
+    let h = write_inside c.args.spans.now _ _ _ _ _ _ (sym c.in-Some.ensures) _ (sym c.allows.ensures ∙ c.if-allows.true) _ _ _ (w.value, (w.state_after, w.medium_after)) in
     record { value = h.0; state_after = h.1.0; medium_after = h.1.1 }
