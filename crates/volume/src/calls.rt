@@ -175,9 +175,9 @@ impl Volume {
         if let Err(refusal) = self.check_grow(limited, count, medium.len()) {
             return self.refuse(refusal);
         }
-        let v = self.grown(count).after_record();
-        v.store_record(medium);
-        v.report()
+        let next = self.grown(count).after_record();
+        next.store_record(medium);
+        next.report()
     }
 
     #[inline(always)]

@@ -42,19 +42,22 @@ impl Volume {
                 copied: self.copied,
             });
         }
+        let unmarked = Stage {
+            growing: self.growing,
+            window: w,
+            recorded: 0,
+            copied: 0,
+        };
         if w + 1 == window::window_count(self.newest_growth(), self.rows) {
             return self.in_stage(Stage {
                 growing: 0,
                 window: 0,
-                recorded: 0,
-                copied: 0,
+                ..unmarked
             });
         }
         self.in_stage(Stage {
-            growing: self.growing,
             window: w + 1,
-            recorded: 0,
-            copied: 0,
+            ..unmarked
         })
     }
 

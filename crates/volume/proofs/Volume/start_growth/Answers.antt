@@ -40,7 +40,7 @@ unfolding pending_with
 report-requires c =
     let a = c.args in
     let store = record_store (record_of (grown a.self a.count)) in
-    sound_after _ _ _ store c.grown.ensures c.after_record-v.ensures (grown_sound _ _ _ _ (clear (goal.at.report-requires c).In_default))
+    sound_after _ _ _ store c.grown.ensures c.after_record-next.ensures (grown_sound _ _ _ _ (clear (goal.at.report-requires c).In_default))
 
 pub returns : goal.returns
 unfolding grow_outcome_of grow_effect reporting pending_with observe
@@ -51,6 +51,6 @@ returns c =
     let n = c.grown.ensures in
     let store = record_store (record_of (grown v a.count)) in
     record {
-      value = accepted_reply _ v [] _ e _ (report_made _ _ _ store n c.after_record-v.ensures _ c.report.ensures);
-      medium_after = accepted_stores _ v [] _ e _ _ _ (pending_stored _ _ _ store n c.after_record-v.ensures _ _ _ c.store_record.ensures);
+      value = accepted_reply _ v [] _ e _ (report_made _ _ _ store n c.after_record-next.ensures _ c.report.ensures);
+      medium_after = accepted_stores _ v [] _ e _ _ _ (pending_stored _ _ _ store n c.after_record-next.ensures _ _ _ c.store_record.ensures);
     }
