@@ -21,7 +21,6 @@ use Rattle.medium.specs.Medium.{Observations}
 use Rattle.volume.specs.declared.Pending.{Pending}
 use Rattle.volume.specs.declared.Volume.{Volume}
 use Rattle.volume.specs.declared.Told.{Told}
-use Rattle.volume.specs.declared.Told.TheVariants as told
 use Rattle.volume.specs.Answers.{number, calls_told, block_copied, part_copied, address_number, holder_number, block_told}
 use Rattle.volume.specs.Calls.{Outcome, refused, judged, format_table, format_outcome, restart_table, doubling_rows, grow_table_of, grow_table, grow_beyond_doubling_table, write_table, write_outcome, read_table, read_outcome, flushed_table, flushed_effect, flushed_outcome, doing, write_effect, read_effect, copy_table, checkpoint_table, advance_table, address_table, address_reply, holder_table, holder_reply}
 use Rattle.volume.specs.Laws.{Refuses}
@@ -35,7 +34,6 @@ use Rattle.promise.specs.Lists.{call_outcome}
 use Rattle.scene_load.specs.declared.Scene.{Scene}
 use Rattle.scene_load.specs.Loads.{place_told, load_table, load_of, load_number}
 use Rattle.scene_load.proofs.Theorems.{load_laws}
-use Rattle.shelves.specs.declared.ViewStart.TheVariants.{First, Second}
 use Rattle.shelves.specs.Views.{ViewAnswer, shelves_table, view_table, view_answer, view_number}
 use Rattle.shelves.proofs.Refusing.{view_told}
 use Rattle.capi.specs.Exported.{Left, wrong_length, lengths_fit, state_fits, untouched, handed_back, looked_up, look_up_left, call_left, format_left, restart_left, grow_left, grow_beyond_doubling_left, copy_left, checkpoint_left, advance_left, write_left, read_left, flushed_left, address_left, holder_left, view_left, load_left}
