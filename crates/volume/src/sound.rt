@@ -1,7 +1,7 @@
 // The limits and soundness, tested.
-ghost use Rattle.std.specs.Prelude.{◌≡◌, ◌&&◌, eqb};
+ghost use Rattle.std.specs.Prelude.{◌≡◌};
 ghost use Rattle.layout.specs.Limits.{Limits};
-ghost use Rattle.volume.specs.Sound.{size_holds, rows_hold, disks_hold, stage_holds, growth_holds, sound};
+ghost use Rattle.volume.specs.Sound.{size_holds, rows_hold, disks_hold, stage_holds, sound};
 ghost use Rattle.volume.specs.States.{history_of};
 
 use super::Volume;
@@ -40,20 +40,7 @@ pub fn disks_hold(n: usize) -> bool
 }
 
 impl Volume {
-    // Do window and marks fit a growth? A call of its own, so that a state at rest does not pay for it.
-    #[inline(never)]
-    pub(crate) fn growth_holds(&self) -> bool
-        requires { Limits self.now.rows (history_of self.now) }
-        ensures { result ≡ (eqb self.now.growing 1 && growth_holds self.now) }
-    {
-        if self.growing != 1 {
-            return false;
-        }
-        self.stage().in_growth(self.history())
-    }
-
     // Do window and marks fit what `growing` says?
-    #[inline(always)]
     pub(crate) fn stage_holds(&self) -> bool
         requires { Limits self.now.rows (history_of self.now) }
         ensures { result ≡ stage_holds self.now }
@@ -61,7 +48,10 @@ impl Volume {
         if self.growing == 0 {
             return self.stage().at_rest();
         }
-        self.growth_holds()
+        if self.growing != 1 {
+            return false;
+        }
+        self.stage().in_growth(self.history())
     }
 
     // Is the state sound, whatever is pending?
