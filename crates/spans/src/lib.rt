@@ -26,7 +26,7 @@ impl Span {
     fn is_short(self) -> bool
         ensures { result ≡ short self }
     {
-        self.first <= MOST_REACHED && self.count <= MOST_REACHED - self.first
+        self.first.saturating_add(self.count) <= MOST_REACHED
     }
 
     // Is block x in the span?

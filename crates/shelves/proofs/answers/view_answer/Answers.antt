@@ -1,14 +1,12 @@
--- `view_answer` meets its contract.
-use Prim.Native.Nat.{◌<◌}
+-- `view_answer` meets its contract: at rest, and while a growth runs.
 use mathlib.Core.Path.{◌≡◌, refl}
 use mathlib.Core.Bool.{true}
 use Rattle.std.proofs.lemmas.Result.{err_from_is_err_and}
-use Rattle.layout.specs.Tally.{open_blocks}
 use Rattle.volume.specs.Sound.{sound}
-use Rattle.volume.specs.States.{geometry, tally_of}
+use Rattle.volume.specs.States.{geometry}
 use Rattle.shelves.proofs.AnswersCode.{shelves_refused, state_sound, block_refused, start_asked, view_found}
 use Rattle.shelves.proofs.answers.view_answer.Goals as goal
-use Rattle.shelves.proofs.answers.view_answer.Goals.{Else-open_blocks-x, In_ok-check_shelves}
+use Rattle.shelves.proofs.answers.view_answer.Goals.{In_ok-check_shelves}
 
 pub returns-in_err-check_shelves : goal.returns-in_err-check_shelves
 returns-in_err-check_shelves c =
@@ -18,28 +16,46 @@ returns-in_err-check_shelves c =
 is_sound : (c : In_ok-check_shelves) → sound c.args.v ≡ true
 is_sound c = state_sound _ _ _ _ c.args.x.0 _ c.in_ok-check_shelves.ensures
 
-pub open_blocks-requires : goal.open_blocks-requires
-open_blocks-requires c = is_sound (goal.at.open_blocks-requires c).In_ok-check_shelves
+pub open_spot-requires : goal.open_spot-requires
+open_spot-requires c = is_sound (goal.at.open_spot-requires c).In_ok-check_shelves
 
-pub returns-then-open_blocks-x : goal.returns-then-open_blocks-x
-returns-then-open_blocks-x c = block_refused _ _ _ _ _ _ c.in_ok-check_shelves.ensures (rw c.open_blocks.ensures at c.if-open_blocks-x.true)
-
-is_open : (c : Else-open_blocks-x) → c.args.x.0 < open_blocks (tally_of c.args.v)
-is_open c = rw c.open_blocks.ensures at c.if-open_blocks-x.false
-
-pub live_spot-p-requires : goal.live_spot-p-requires
-live_spot-p-requires c =
-    record {
-      sound_state = is_sound (goal.at.live_spot-p-requires c).In_ok-check_shelves;
-      x_bound = is_open (goal.at.live_spot-p-requires c).Else-open_blocks-x;
-    }
+pub returns-in_err-p : goal.returns-in_err-p
+returns-in_err-p c =
+    let p = err_from_is_err_and c.from_residual-in_err-p.result c.from_residual-in_err-p.ensures.1 in
+    let e = c.in_err-p.ensures.refused in
+    rw (p.1, p.2, e.0) (block_refused _ _ _ _ _ _ c.in_ok-check_shelves.ensures e.1)
 
 pub start_on_shelf-requires : goal.start_on_shelf-requires
 unfolding geometry
 start_on_shelf-requires c =
-    let asked = start_asked _ (is_sound (goal.at.start_on_shelf-requires c).In_ok-check_shelves) _ (is_open (goal.at.start_on_shelf-requires c).Else-open_blocks-x) _ refl _ c.live_spot-p.ensures in
+    let found = c.in_ok-p.ensures.found in
+    let asked = start_asked _ (is_sound (goal.at.start_on_shelf-requires c).In_ok-check_shelves) _ found.1 _ refl _ found.0 in
+    record { size_nonzero = asked.0; p_bound = asked.1 }
+
+pub returns-then-v-eq0 : goal.returns-then-v-eq0
+unfolding geometry
+returns-then-v-eq0 c =
+    let found = c.in_ok-p.ensures.found in
+    view_found _ _ _ _ _ _ c.in_ok-check_shelves.ensures found.1 _ found.0 _ _ refl c.start_on_shelf.ensures
+
+pub open_spot-requires-2 : goal.open_spot-requires-2
+open_spot-requires-2 c = is_sound (goal.at.open_spot-requires-2 c).In_ok-check_shelves
+
+pub returns-in_err-p-2 : goal.returns-in_err-p-2
+returns-in_err-p-2 c =
+    let p = err_from_is_err_and c.from_residual-in_err-p-2.result c.from_residual-in_err-p-2.ensures.1 in
+    let e = c.in_err-p-2.ensures.refused in
+    rw (p.1, p.2, e.0) (block_refused _ _ _ _ _ _ c.in_ok-check_shelves.ensures e.1)
+
+pub start_on_shelf-requires-2 : goal.start_on_shelf-requires-2
+unfolding geometry
+start_on_shelf-requires-2 c =
+    let found = c.in_ok-p-2.ensures.found in
+    let asked = start_asked _ (is_sound (goal.at.start_on_shelf-requires-2 c).In_ok-check_shelves) _ found.1 _ refl _ found.0 in
     record { size_nonzero = asked.0; p_bound = asked.1 }
 
 pub returns : goal.returns
 unfolding geometry
-returns c = view_found _ _ _ _ _ _ c.in_ok-check_shelves.ensures (is_open (goal.at.returns c).Else-open_blocks-x) _ c.live_spot-p.ensures _ _ refl c.start_on_shelf.ensures
+returns c =
+    let found = c.in_ok-p-2.ensures.found in
+    view_found _ _ _ _ _ _ c.in_ok-check_shelves.ensures found.1 _ found.0 _ _ refl c.start_on_shelf-2.ensures
