@@ -5,7 +5,6 @@ use mathlib.Core.Bool.{Bool, true, false, cond, ◌&&◌, true≢false}
 use mathlib.Core.List.{List, [], ◌∷◌}
 use mathlib.Core.Option.{Option, none, some}
 use lib.ListN.{length}
-use borrow.Author.Tests.{ne_eqb}
 use Rattle.base.proofs.Booleans.{by_test}
 use Rattle.base.specs.Refusals.{refusal}
 use Rattle.medium.specs.declared.Geometry.{Geometry}

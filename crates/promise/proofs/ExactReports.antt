@@ -5,13 +5,12 @@ use mathlib.Core.Bool.{true, false, false≢true}
 use mathlib.Core.List.{List, [], ◌∷◌}
 use mathlib.Core.Logic.{◌≢◌}
 use mathlib.Core.Option.{Option, none}
-use borrow.Author.Tests.{eqb-true}
 use Rattle.base.proofs.Booleans.{by_test}
 use Rattle.layout.specs.Tally.{not_growing, growing, is_running, Tally, calls_left_of}
 use Rattle.medium.specs.declared.Geometry.{Geometry}
 use Rattle.medium.specs.Medium.{Observations, observe}
 use Rattle.volume.specs.declared.Volume.{Volume}
-use Rattle.volume.specs.Answers.{number, accepted}
+use Rattle.volume.specs.Answers.{accepted}
 use Rattle.volume.specs.Calls.{advance_outcome}
 use Rattle.volume.proofs.Accepted.{advance_accepted}
 use Rattle.volume.proofs.Theorems.{volume_laws}

@@ -7,7 +7,6 @@ use mathlib.Core.Logic.{inl}
 use mathlib.Core.Option.{Option, none, some, none-ne-some, some-injective}
 use native.Mathlib.Omega.{arith}
 use lib.ListN.{length}
-use borrow.Author.Tests.{eqb-true}
 use Rattle.base.specs.Refusals.{refusal}
 use Rattle.base.proofs.Booleans.{by_test}
 use Rattle.layout.specs.History.{disk_count}
@@ -16,7 +15,7 @@ use Rattle.layout.proofs.Theorems.{old_among}
 use Rattle.medium.specs.declared.Geometry.{Geometry}
 use Rattle.medium.specs.Medium.{Observations, observe}
 use Rattle.volume.specs.declared.Volume.{Volume}
-use Rattle.volume.specs.Answers.{number, accepted}
+use Rattle.volume.specs.Answers.{accepted}
 use Rattle.volume.specs.Calls.{write_table, write_outcome}
 use Rattle.volume.proofs.Accepted.{write_accepted}
 use Rattle.volume.proofs.Theorems.{volume_laws}

@@ -9,7 +9,7 @@ use mathlib.Core.Option.{Option, none, some}
 use native.Mathlib.Omega.{arith}
 use lib.Dec.{eqb}
 use lib.ListN.{length, replicate}
-use borrow.Author.Tests.{le-ltb, ne_eqb, eqb-true}
+use borrow.Author.Tests.{le-ltb, ne_eqb}
 use Rattle.base.specs.Refusals.{refusal}
 use Rattle.base.proofs.Booleans.{by_test, clash}
 use Rattle.layout.specs.Tally.{Mode, not_growing, growing, Tally, calls_left_of, next_block, window_full, last_window}
@@ -17,7 +17,7 @@ use Rattle.medium.specs.declared.Geometry.{Geometry}
 use Rattle.medium.specs.Medium.{Observations, observe}
 use Rattle.volume.specs.declared.Pending.{Pending}
 use Rattle.volume.specs.declared.Volume.{Volume}
-use Rattle.volume.specs.Answers.{number, accepted, is_finished, told_finished}
+use Rattle.volume.specs.Answers.{accepted, is_finished, told_finished}
 use Rattle.volume.specs.Calls.{Outcome, refused, telling, too_short, is_none, advance_table, checkpoint_told, advancing, advance_effect, advance_outcome}
 use Rattle.volume.specs.States.{tally_of, none_pending, with_growth, checkpointed}
 use Rattle.volume.proofs.Judged.{judged_cases}

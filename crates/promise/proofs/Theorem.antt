@@ -6,7 +6,7 @@ use mathlib.Core.Logic.{inl, inr}
 use mathlib.Core.List.{List, [], ◌∷◌, ◌++◌}
 use mathlib.Core.Option.{Option, none, some}
 use lib.ListN.{length}
-use borrow.Author.Tests.{le-ltb, lt-leb, eq-eqb, eqb-true}
+use borrow.Author.Tests.{le-ltb, lt-leb, eq-eqb}
 use Rattle.base.specs.Refusals.{refusal}
 use Rattle.layout.specs.Tally.{Mode, not_growing, growing, is_running, Tally, open_blocks, live_spot_of, calls_left_of}
 use Rattle.medium.specs.declared.Geometry.{Geometry}

@@ -1,6 +1,6 @@
 -- A list that leaves a growth running, and calls after it, computed: whether demand 3 is about it, and whether what is told is wrong:
 -- `growth_test`. One that is breaks a part of the demand.
-use Prim.Native.Nat.{ℕ, ◌-◌}
+use Prim.Native.Nat.{ℕ}
 use mathlib.Core.Path.{◌≡◌, refl, sym, ap, ap₂, ◌∙◌}
 use mathlib.Core.Bool.{Bool, true, false, cond, not, ◌&&◌, ◌||◌, false≢true}
 use mathlib.Core.List.{List, [], ◌∷◌, ◌++◌, append-nil, append_assoc}

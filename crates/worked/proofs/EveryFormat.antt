@@ -6,7 +6,7 @@ use mathlib.Core.Option.{Option, none, some}
 use mathlib.Core.Path.{◌≡◌, refl, sym, ap, ◌∙◌, subst}
 use native.Mathlib.Nat.{mul-pos}
 use lib.ListN.{length}
-use borrow.Author.Tests.{le-ltb, lt-leb, eq-eqb, eqb-true, not-true}
+use borrow.Author.Tests.{le-ltb, lt-leb, eq-eqb, not-true}
 use Rattle.base.specs.Refusals.{refusal}
 use Rattle.base.proofs.Booleans.{and_left, and_right}
 use Rattle.layout.specs.Limits.{most_disks, most_rows}

@@ -6,8 +6,6 @@ use mathlib.Core.List.{List, [], ◌∷◌}
 use mathlib.Core.Logic.{inl}
 use native.Mathlib.Omega.{arith}
 use lib.ListN.{length, length-replicate}
-use borrow.Author.Tests.{eqb-true}
-use Rattle.volume.specs.Answers.{accepted}
 use Rattle.volume.specs.States.{disks}
 use Rattle.volume.proofs.Accepted.{read_accepted}
 use Rattle.volume.proofs.Judged.{accepted_number}

@@ -3,15 +3,15 @@ use Prim.Native.Nat.{ℕ}
 use mathlib.Core.Bool.{true, false}
 use mathlib.Core.List.{List, [], ◌∷◌, ◌++◌}
 use mathlib.Core.Option.{none, some}
-use mathlib.Core.Path.{◌≡◌, refl, ap, ◌∙◌, subst}
+use mathlib.Core.Path.{◌≡◌, refl, ap, ◌∙◌}
 use native.Mathlib.Omega.{arith}
 use lib.ListN.{length, take, drop, replicate, length-replicate}
 use Rattle.layout.specs.Tally.{is_running, calls_left_of}
 use Rattle.promise.specs.Calls.{grow, copy, checkpoint, advance, write, read, restart, flushed, is_advance, same_record, record_old, record_new, Fed, ended, cut_in}
-use Rattle.promise.specs.Lists.{call_outcome, after, after_all, IsUp, outcome, Lawful, fed_all, last_reported}
+use Rattle.promise.specs.Lists.{call_outcome, after, after_all, IsUp, outcome, Lawful, fed_all}
 use Rattle.promise.specs.Model.{Model}
 use Rattle.promise.specs.Promise.{begin, system_after}
-use Rattle.promise.specs.WithoutCache.{DirectEvent, ends, flushed_after, from_format, system_without, model_without, DirectFurther, no_call, an_advance, a_write, a_read, advances_told, DirectFinishing, DirectKept}
+use Rattle.promise.specs.WithoutCache.{DirectEvent, ends, flushed_after, from_format, system_without, model_without, DirectFurther, no_call, an_advance, a_write, a_read, advances_told, DirectFinishing}
 use Rattle.promise.proofs.Theorem.{lawful_before}
 use Rattle.promise.proofs.WithoutCache.{promise_without_cache}
 use Rattle.worked.specs.Worked.{block_of, worked_start}
