@@ -52,14 +52,19 @@ unfolding number made_number
 number_made (Ok t) = refl
 number_made (Err r) = refl
 
-pub spans_made : (words : List ℕ) (t : Spans) → table_of words ≡ Some t → (m : Result Spans Refusal) → m ≡ made (record { zero = t.zero; one = t.one })
-    → (k : ℕ) (after : List ℕ) → k ≡ number m → after ≡ words_of_spans (result_unwrap_or m no_spans)
-    → (k ≡ (spans_left words).number) × (after ≡ (spans_left words).words)
-unfolding spans_left looked_up given
-spans_made words t h m f k after g e =
-    let there = table_there words t h in
-    let same : m ≡ made (spans_from words) = f ∙ ap made there.1 in
-    rw there.0 (g ∙ number_made m ∙ ap made_number same, e ∙ ap (λ (m : Result Spans Refusal). words_of_spans (result_unwrap_or m no_spans)) same)
+-- a table of the right length
+module _ (words : List ℕ) (t : Spans) (h : table_of words ≡ Some t) (m : Result Spans Refusal) (f : m ≡ made (record { zero = t.zero; one = t.one })) where
+  made_there : m ≡ made (spans_from words)
+  made_there = f ∙ ap made (table_there words t h).1
+
+  pub number_told : (k : ℕ) → k ≡ number m → k ≡ (spans_left words).number
+  unfolding spans_left looked_up
+  number_told k g = rw (table_there words t h).0 (g ∙ number_made m ∙ ap made_number made_there)
+
+  pub spans_put : (after : List ℕ) → after ≡ words_of_spans (result_unwrap_or m no_spans) → after ≡ (spans_left words).words
+  unfolding spans_left looked_up given
+  spans_put after e =
+      rw (table_there words t h).0 (e ∙ ap (λ (m : Result Spans Refusal). words_of_spans (result_unwrap_or m no_spans)) made_there)
 
 -- ---- a client's read and write
 

@@ -102,7 +102,10 @@ pub fn address_figures(answer: Result<Address, Refusal>) -> [usize; 6]
 pub fn block_told(answer: Result<Block, Refusal>) -> usize
     ensures { result ≡ block_told answer }
 {
-    answer.map_or(0, |x| x.0)
+    match answer {
+        Ok(x) => x.0,
+        Err(_) => 0,
+    }
 }
 
 // The figures of view.
