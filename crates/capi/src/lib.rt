@@ -18,6 +18,7 @@ mod tables;
 mod words;
 
 // The number where the lent words are no state's or the lent figures have the wrong length.
+// Kept: a number, and no refusal of an enum, as all that the exported functions return: the C interface has it.
 const WRONG_LENGTH: usize = 100;
 
 // The words of a state, and the figures of the calls that report.

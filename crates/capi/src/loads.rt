@@ -17,7 +17,7 @@ fn state_or_zeros(words: &[usize]) -> Volume
     state_of(words).unwrap_or(Volume::zeros())
 }
 
-// The number of a load.
+// The number of a load. Kept: beside `figures::number`, since the refusals of a load are of a type of their own.
 #[tactic(auto, unfolding(scene_load::specs::Loads::load_number))]
 fn load_number(load: &Result<[usize; 16], LoadRefusal>) -> usize
     ensures { result ≡ load_number load.now }
