@@ -3,7 +3,7 @@
 
 ghost use Rattle.std.specs.Prelude.{◌≡◌, not, ◌&&◌};
 ghost use Rattle.layout.specs.History.{history};
-ghost use Rattle.marks.specs.Marks.{within, at_rest, in_growth};
+ghost use Rattle.marks.specs.Marks.{within, moving_marks, at_rest, in_growth};
 ghost use Rattle.marks.specs.Words.{marks_of};
 
 use super::Stage;
@@ -19,13 +19,16 @@ impl Stage {
         self.window == 0 && is_within(self.recorded, 0) && is_within(self.copied, 0)
     }
 
-    // Do the marks fit a window whose moving blocks have these marks, one of them not recorded?
-    fn marks_fit(self, moving: usize) -> bool
-        ensures { result ≡ (within (marks_of self.recorded) (marks_of self.copied) && (within (marks_of self.copied) (marks_of moving) && not (within (marks_of moving) (marks_of self.recorded)))) }
+    // Do the marks fit this window, with one of its moving blocks not recorded? The marks of the moving blocks are put
+    // together only where every recorded block is copied.
+    fn marks_fit(self, window: Window) -> bool
+        ensures { let moving = moving_marks window.growth.old window.growth.added window.rows window.number in result ≡ (within (marks_of self.recorded) (marks_of self.copied) && (within (marks_of self.copied) moving && not (within moving (marks_of self.recorded)))) }
     {
-        is_within(self.recorded, self.copied)
-            && is_within(self.copied, moving)
-            && !is_within(moving, self.recorded)
+        if !is_within(self.recorded, self.copied) {
+            return false;
+        }
+        let moving = moving_marks(window);
+        is_within(self.copied, moving) && !is_within(moving, self.recorded)
     }
 
     // Growing: a window, and marks that fit it.
@@ -39,11 +42,10 @@ impl Stage {
         if window::window_count(growth, h.rows) <= self.window {
             return false;
         }
-        let moving = moving_marks(Window {
+        self.marks_fit(Window {
             growth,
             rows: h.rows,
             number: self.window,
-        });
-        self.marks_fit(moving)
+        })
     }
 }

@@ -1,4 +1,4 @@
-// Windows and marks of the newest growth, asked of the layout behind run-time tests, so that no caller needs a `requires`.
+// Windows and marks of the newest growth, asked of the layout behind run-time tests: `grown` and `window_of` make them.
 ghost use Rattle.std.specs.Prelude.{◌<◌, IfSome};
 ghost use Rattle.layout.specs.History.{history, old_count, added_count};
 ghost use Rattle.layout.specs.Windows.{windows};

@@ -1,4 +1,4 @@
-// Lent buffers and the digits of a number, for the programs. What is printed is tested, not proved; the functions here
+// Lent buffers and the digits of a number, for the program `script`. What is printed is tested, not proved; the functions here
 // are proved safe.
 #![tactic(auto)]
 

@@ -1,5 +1,5 @@
 // The blocks of one scene, on plain numbers.
-ghost use Rattle.std.specs.Prelude.{◌≡◌, true};
+ghost use Rattle.std.specs.Prelude.{◌≡◌, true, Ok, Err, IfOk, IfErr};
 ghost use Rattle.volume.specs.Sound.{sound};
 ghost use Rattle.scene_load.specs.Loads.{is_refused, AllOpen};
 ghost use Rattle.scene_load.specs.Steps.{empty_load, with_blocks, with_scene, Usable, NoneWraps};
@@ -20,18 +20,17 @@ fn is_refused(blocks: usize, place: usize, first: usize, count: usize) -> bool
     count != 0 && blocks - count < first
 }
 
-// The numbers with the blocks of a scene added.
-fn with_blocks(v: Volume, mut served: [usize; 16], first: usize, count: usize) -> [usize; 16]
-    requires sound_state { sound v ≡ true }
-    requires all_open { AllOpen v (record { first = first; count = count }) }
-    requires none_wraps { NoneWraps served count }
-    ensures { result ≡ with_blocks v served (record { first = first; count = count }) }
+// Adds the blocks of a scene to the numbers.
+fn with_blocks(v: &Volume, served: &mut [usize; 16], first: usize, count: usize)
+    requires sound_state { sound v.now ≡ true }
+    requires all_open { AllOpen v.now (record { first = first; count = count }) }
+    requires none_wraps { NoneWraps served.old count }
+    ensures { served.new ≡ with_blocks v.now served.old (record { first = first; count = count }) }
 {
     for j in 0..count {
         let spot = v.live_spot(Block(first + j));
         served[spot.disk] += 1;
     }
-    served
 }
 
 // The load of no scenes.
@@ -44,19 +43,21 @@ pub(crate) fn empty_load(v: Volume) -> Result<[usize; 16], LoadRefusal>
     Ok([0; 16])
 }
 
-// The load with one scene more, at this place of the list.
+// Adds one scene more, at this place of the list, to the numbers. Where it is refused they stay as they were.
 pub(crate) fn with_scene(
-    v: Volume,
-    served: [usize; 16],
+    v: &Volume,
+    served: &mut [usize; 16],
     place: usize,
     first: usize,
     count: usize,
-) -> Result<[usize; 16], LoadRefusal>
-    requires { Usable v served place }
-    ensures { result ≡ with_scene v served place (record { first = first; count = count }) }
+) -> Result<(), LoadRefusal>
+    requires { Usable v.now served.old place }
+    ensures refused { IfErr result (λ r. (with_scene v.now served.old place (record { first = first; count = count }) ≡ Err r) × (served.new ≡ served.old)) }
+    ensures counted { IfOk result (λ _. with_scene v.now served.old place (record { first = first; count = count }) ≡ Ok served.new) }
 {
     if is_refused(v.open_blocks(), place, first, count) {
         return Err(LoadRefusal::NoSuchScene(place));
     }
-    Ok(with_blocks(v, served, first, count))
+    with_blocks(v, served, first, count);
+    Ok(())
 }

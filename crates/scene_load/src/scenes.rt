@@ -12,7 +12,7 @@ pub fn load_of(v: Volume, scenes: &[Scene]) -> Result<[usize; 16], LoadRefusal>
 {
     let mut served = empty_load(v)?;
     for (place, scene) in scenes.iter().enumerate() {
-        served = with_scene(v, served, place, scene.first, scene.count)?;
+        with_scene(&v, &mut served, place, scene.first, scene.count)?;
     }
     Ok(served)
 }

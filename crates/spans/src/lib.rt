@@ -2,8 +2,8 @@
 // is made that could wrap.
 #![tactic(auto)]
 
-ghost use Rattle.std.specs.Prelude.{◌≤◌, ◌≡◌};
-ghost use Rattle.spans.specs.Spans.{short, in_span, spans_hold, owned_by, allowed, made};
+ghost use Rattle.std.specs.Prelude.{◌≤◌, ◌≡◌, ◌&&◌, eqb, length};
+ghost use Rattle.spans.specs.Spans.{short, in_span, spans_hold, owned_by, allowed, made, span_words, spans_from};
 
 use base::Refusal;
 
@@ -98,6 +98,25 @@ impl Spans {
     {
         self.owns(client, x) && self.hold()
     }
+}
+
+// May this client read and write block x, by the table of these words? Not where they are not as many as a table's.
+#[tactic(auto, unfolding(crate::specs::Spans::spans_from))]
+pub fn allows_words(words: &[usize], client: usize, x: usize) -> bool
+    ensures { result ≡ (eqb (length words.now) span_words && allowed (spans_from words.now) client x) }
+{
+    if words.len() != SPAN_WORDS {
+        return false;
+    }
+    let zero = Span {
+        first: words[0],
+        count: words[1],
+    };
+    let one = Span {
+        first: words[2],
+        count: words[3],
+    };
+    Spans { zero, one }.allows(client, x)
 }
 
 // Makes a table, or refuses with 21.

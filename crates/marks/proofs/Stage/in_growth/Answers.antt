@@ -20,11 +20,12 @@ module _ {s t : ℕ} {l : List ℕ} {g : GrowthDisks} (r : ReadGrowth s t l g) (
   unfolding in_growth
   no_window h = simp (lt-ltb _ _ r.grown, le-ltb _ _ (rw count_read at h))
 
-  by_marks : (moving : List Bool) (b : Bool) → w < q → moving ≡ moving_marks g.old g.added s w
-      → b ≡ (within recorded copied && (within copied moving && not (within moving recorded))) → b ≡ in_growth t s (history t l) w recorded copied
+  by_marks : (b : Bool) → w < q
+      → (let moving = moving_marks g.old g.added s w in b ≡ (within recorded copied && (within copied moving && not (within moving recorded))))
+      → b ≡ in_growth t s (history t l) w recorded copied
   unfolding in_growth
-  by_marks moving b h f k =
-      k ∙ rw (f, r.old_read, r.added_read) (simp (lt-ltb _ _ r.grown, lt-ltb _ _ (rw count_read at h)))
+  by_marks b h k =
+      k ∙ rw (r.old_read, r.added_read) (simp (lt-ltb _ _ r.grown, lt-ltb _ _ (rw count_read at h)))
 
   one_window : w < q → w < windows (old_count (history t l)) (added_count (history t l)) s
   one_window h = rw count_read at h
@@ -42,9 +43,9 @@ pub returns-then-window_count-self : goal.returns-then-window_count-self
 returns-then-window_count-self c =
     no_window (read (goal.at.returns-then-window_count-self c).After-window_count) _ _ c.window_count.ensures _ _ c.if-window_count-self.true
 
-pub invariant_of-moving_marks : goal.invariant_of-moving_marks
-invariant_of-moving_marks c =
-    let r = read (goal.at.invariant_of-moving_marks c).After-window_count in
+pub invariant_of-marks_fit : goal.invariant_of-marks_fit
+invariant_of-marks_fit c =
+    let r = read (goal.at.invariant_of-marks_fit c).After-window_count in
     let a = c.args.h.within_limits in
     record {
       number_most = window_most _ _ _ a (some_old r) (one_window r _ _ c.window_count.ensures [] [] c.if-window_count-self.false);
@@ -52,5 +53,5 @@ invariant_of-moving_marks c =
 
 pub returns : goal.returns
 returns c =
-    by_marks (read (goal.at.returns c).After-window_count) _ _ c.window_count.ensures _ _ _ _ c.if-window_count-self.false c.moving_marks-moving.ensures
+    by_marks (read (goal.at.returns c).After-window_count) _ _ c.window_count.ensures _ _ _ c.if-window_count-self.false
     c.marks_fit.ensures

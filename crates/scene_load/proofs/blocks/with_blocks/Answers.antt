@@ -34,7 +34,7 @@ bounds-served-spot c = small (goal.at.bounds-served-spot c).After-live_spot-spot
 pub overflow_add-served : goal.overflow_add-served
 overflow_add-served c =
     let l = c.loop-j in
-    let most = rw (← l.invariant) at (number_most c.args.v c.args.served c.args.first l.j c.live_spot-spot.result.disk (small (goal.at.overflow_add-served c).After-live_spot-spot)) in
+    let most = rw (← l.invariant) at (number_most c.args.v.now c.args.served.now c.args.first l.j c.live_spot-spot.result.disk (small (goal.at.overflow_add-served c).After-live_spot-spot)) in
     omega (arith, most, c.requires.none_wraps c.live_spot-spot.result.disk (small (goal.at.overflow_add-served c).After-live_spot-spot), c.loop-j-test.true)
 
 pub bounds-served-spot-in-loop-j : goal.bounds-served-spot-in-loop-j
@@ -45,7 +45,7 @@ loop-j-preserved c =
     let l = c.loop-j in
     let block = c.requires.all_open l.j c.loop-j-test.true in
     let disk = ap (λ (p : Spot). p.disk) c.live_spot-spot.ensures in
-    rw (← l.invariant) at (block_added c.args.v c.args.served c.args.first c.requires.sound_state l.j _ block disk (small (goal.at.loop-j-preserved c).After-live_spot-spot))
+    rw (← l.invariant) at (block_added c.args.v.now c.args.served.now c.args.first c.requires.sound_state l.j _ block disk (small (goal.at.loop-j-preserved c).After-live_spot-spot))
 
 pub returns : goal.returns
 returns c =

@@ -1,6 +1,7 @@
 -- `with_scene` meets its contract.
-use mathlib.Core.Path.{◌≡◌, sym, ◌∙◌}
+use mathlib.Core.Path.{◌≡◌, refl, sym, ◌∙◌}
 use mathlib.Core.Bool.{false}
+use borrow.Author.Rules.{rules}
 use Rattle.layout.specs.Tally.{open_blocks}
 use Rattle.volume.specs.States.{tally_of}
 use Rattle.scene_load.specs.Loads.{is_refused}
@@ -15,10 +16,12 @@ open_blocks-requires c = c.requires.is_sound
 
 pub returns-then-is_refused : goal.returns-then-is_refused
 unfolding with_scene
-returns-then-is_refused c = rw (rw c.open_blocks.ensures at (sym c.is_refused.ensures ∙ c.if-is_refused.true))
+returns-then-is_refused c =
+    let e = rw c.open_blocks.ensures at (sym c.is_refused.ensures ∙ c.if-is_refused.true) in
+    record { refused = (rw e refl, refl); counted = search rules }
 
 -- the scene is not refused
-allowed : (c : Else-is_refused) → let a = c.args in is_refused (open_blocks (tally_of a.v)) a.place (record { first = a.first; count = a.count }) ≡ false
+allowed : (c : Else-is_refused) → let a = c.args in is_refused (open_blocks (tally_of a.v.now)) a.place (record { first = a.first; count = a.count }) ≡ false
 allowed c = rw c.open_blocks.ensures at (sym c.is_refused.ensures ∙ c.if-is_refused.false)
 
 pub with_blocks-requires : goal.with_blocks-requires
@@ -32,4 +35,5 @@ with_blocks-requires c =
 
 pub returns : goal.returns
 unfolding with_scene
-returns c = rw (allowed (goal.at.returns c).Else-is_refused, c.with_blocks.ensures)
+returns c =
+    record { refused = search rules; counted = rw (allowed (goal.at.returns c).Else-is_refused, c.with_blocks.ensures) refl }

@@ -1,5 +1,5 @@
 -- `load_of` meets its contract. All that it knows of `empty_load` and `with_scene` is that each meets its contract.
-use mathlib.Core.Path.{◌≡◌, ◌∙◌}
+use mathlib.Core.Path.{◌≡◌, sym, ◌∙◌}
 use native.Mathlib.Omega.{arith}
 use lib.ListN.{length}
 use Rattle.std.proofs.lemmas.Result.{err_from_is_err_and}
@@ -19,14 +19,14 @@ loop-place-init c = c.in_ok-served.ensures ∙ none_taken _ _
 pub with_scene-requires : goal.with_scene-requires
 with_scene-requires c = load_usable _ _ _ _ c.loop-place.invariant
 
-pub returns-in_err-served-2 : goal.returns-in_err-served-2
+pub returns-in_err-with_scene : goal.returns-in_err-with_scene
 unfolding load_of
-returns-in_err-served-2 c =
-    let p = err_from_is_err_and c.from_residual-in_err-served-2.result c.from_residual-in_err-served-2.ensures.1 in
-    rw (p.1, p.2) (stays_refused _ _ _ _ _ (omega arith) (c.in_err-served-2.ensures ∙ next_load _ _ _ _ c.loop-place.invariant))
+returns-in_err-with_scene c =
+    let p = err_from_is_err_and c.from_residual-in_err-with_scene.result c.from_residual-in_err-with_scene.ensures.1 in
+    rw (p.1, p.2) (stays_refused _ _ _ _ _ (omega arith) (sym c.in_err-with_scene.ensures.refused.0 ∙ next_load _ _ _ _ c.loop-place.invariant))
 
 pub loop-place-preserved : goal.loop-place-preserved
-loop-place-preserved c = c.in_ok-served-2.ensures ∙ next_load _ _ _ _ c.loop-place.invariant
+loop-place-preserved c = sym c.in_ok-with_scene.ensures.counted ∙ next_load _ _ _ _ c.loop-place.invariant
 
 pub returns : goal.returns
 unfolding load_of
