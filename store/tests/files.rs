@@ -2,11 +2,12 @@
 
 mod common;
 
+use std::ffi::CString;
 use std::fs::{self, File, TryLockError};
 use std::io::{self, ErrorKind};
+use std::os::unix::ffi::OsStrExt;
 use std::os::unix::fs::{symlink, FileExt};
 use std::path::{Path, PathBuf};
-use std::process::Command;
 use std::sync::atomic::{AtomicBool, Ordering};
 use std::sync::Arc;
 
@@ -213,11 +214,19 @@ fn nothing_to_open() {
     }
 }
 
+/// Makes a pipe without another process: that one would have the locks of the volumes that other tests have open, until it
+/// runs its own program, and keep them from being opened anew.
+fn make_pipe(path: &Path) {
+    let path = CString::new(path.as_os_str().as_bytes()).unwrap();
+    // SAFETY: the path is a C string, and there for the call.
+    assert_eq!(unsafe { libc::mkfifo(path.as_ptr(), 0o600) }, 0);
+}
+
 /// Opening a pipe would wait for a writer.
 #[test]
 fn a_pipe_is_no_volume() {
     let site = Site::new();
-    assert!(Command::new("mkfifo").arg(site.volume()).status().unwrap().success());
+    make_pipe(&site.volume());
     assert_file(&site.fails_to_open(), &site.volume(), ErrorKind::Other);
     assert_file(&Look::at(&site.volume()).unwrap_err(), &site.volume(), ErrorKind::Other);
     let overwrite = forced(plan(Form::Image, SIZE, ROWS, 2));
